@@ -1,0 +1,25 @@
+use native.Mathlib.Omega.{arith}
+use borrow.Author.Tests.{lt-ltb, lt-leb, le-ltb, le-leb, eq-eqb, ne-eqb, not-true, not-false}
+use Rattle.codes.proofs.direction_of.Statement.{statement}
+use Rattle.codes.proofs.direction_of.Tie as tie
+use Rattle.codes.proofs.direction_of.Reads as reads
+use Rattle.codes.proofs.direction_of.Lts as lts
+
+-- src/lib.rt:124:1
+returns : tie.Need-returns
+returns c =
+    rw (c .match .keys1)
+
+-- src/lib.rt:124:1
+returns-2 : tie.Need-returns-2
+returns-2 c =
+    rw (c .match .keys2)
+
+-- src/lib.rt:124:1
+returns-3 : tie.Need-returns-3
+returns-3 c =
+    rw (ne-eqb _ _ (c .match .rest .0 .1))
+    (rw (ne-eqb _ _ (c .match .rest .1)))
+
+pub direction-of-spec : {M : Type 1} → statement M
+direction-of-spec = tie.close (tie.spec returns returns-2 returns-3)

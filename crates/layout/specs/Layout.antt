@@ -1,0 +1,132 @@
+-- The table image, from document 01: "A 64-byte general block, nine tables of 32-byte records, and a 28-byte trailer at the end that
+-- points back." Offsets and sizes stand here alone.
+use Prim.Native.Nat.{ℕ, zero, suc, _+_, _*_, _-_}
+use mathlib.Core.List.{List}
+use mathlib.Core.Path.{_≡_, refl}
+use native.Mathlib.Numerals.{add-one}
+use lib.ListN.{length}
+use Rattle.layout.specs.Bytes.{byteAt, u16At, u32At, u64At}
+use Rattle.layout.specs.declared.Record.{Record}
+use Rattle.layout.specs.declared.General.{General}
+
+abbrev pub generalSize : ℕ
+generalSize = 64
+
+abbrev pub recordSize : ℕ
+recordSize = 32
+
+abbrev pub trailerSize : ℕ
+trailerSize = 28
+
+abbrev pub tables : ℕ
+tables = 9
+
+-- the tables, in their order
+abbrev pub bands : ℕ
+bands = 0
+
+abbrev pub segments : ℕ
+segments = 1
+
+abbrev pub channels : ℕ
+channels = 2
+
+abbrev pub privileges : ℕ
+privileges = 3
+
+abbrev pub automatic : ℕ
+automatic = 4
+
+abbrev pub excluded : ℕ
+excluded = 5
+
+abbrev pub power : ℕ
+power = 6
+
+abbrev pub planData : ℕ
+planData = 7
+
+abbrev pub planAvoid : ℕ
+planAvoid = 8
+
+-- "Record: 0 low, 8 high, 16 figure (f64); bytes 24 band, 25 class, 26 emission bits, 27 flags; u16 at 28 rule, 30 second rule."
+abbrev pub recordAt : List ℕ → ℕ → Record
+recordAt l at =
+    record {
+      low = u64At l at;
+      high = u64At l (at + 8);
+      figure = u64At l (at + 16);
+      band = byteAt l (at + 24);
+      class = byteAt l (at + 25);
+      emissions = byteAt l (at + 26);
+      flags = byteAt l (at + 27);
+      rule = u16At l (at + 28);
+      «second_rule» = u16At l (at + 30);
+    }
+
+-- "General: 0 data limit, 8 elsewhere limit, 16 channel width, 24 carrier offset, 32 carrier tolerance (f64 each); bytes 40 region,
+-- 41 reading, 42 flags, 43 channel band, 44 sideband, 45 emission bits; u16 rules at 46 data, 48 elsewhere, 50 automatic segments,
+-- 52 channels, 54 emissions, 56 privileges." The six bytes from 58 are unused.
+abbrev pub generalOf : List ℕ → General
+generalOf l =
+    record {
+      «data_limit» = u64At l 0;
+      «elsewhere_limit» = u64At l 8;
+      «channel_width» = u64At l 16;
+      «carrier_offset» = u64At l 24;
+      «carrier_tolerance» = u64At l 32;
+      region = byteAt l 40;
+      reading = byteAt l 41;
+      flags = byteAt l 42;
+      «channel_band» = byteAt l 43;
+      sideband = byteAt l 44;
+      emissions = byteAt l 45;
+      «data_rule» = u16At l 46;
+      «elsewhere_rule» = u16At l 48;
+      «automatic_rule» = u16At l 50;
+      «channels_rule» = u16At l 52;
+      «emissions_rule» = u16At l 54;
+      «privileges_rule» = u16At l 56;
+      unused = u16At l 58;
+      «unused_rest» = u32At l 60;
+    }
+
+-- where the trailer begins
+abbrev pub trailerOf : List ℕ → ℕ
+trailerOf l = length l - trailerSize
+
+-- "nine u16 counts"
+abbrev pub countOf : List ℕ → ℕ → ℕ
+countOf l t = u16At l (trailerOf l + 2 * t)
+
+-- "a u32 distance from the trailer's start back to the first byte"
+abbrev pub distanceOf : List ℕ → ℕ
+distanceOf l = u32At l (trailerOf l + 18)
+
+-- "u16 edition 1"
+abbrev pub editionOf : List ℕ → ℕ
+editionOf l = u16At l (trailerOf l + 22)
+
+-- "and the ASCII letters EDGE"
+abbrev pub lettersOf : List ℕ → ℕ
+lettersOf l = trailerOf l + 24
+
+-- the records of the first t tables
+unfoldable pub recordsBefore : List ℕ → ℕ → ℕ
+recordsBefore l zero = 0
+recordsBefore l (suc t) = recordsBefore l t + countOf l t
+
+pub records-more : (l : List ℕ) (t : ℕ) → recordsBefore l (t + 1) ≡ recordsBefore l t + countOf l t
+unfolding recordsBefore
+records-more l t = rw add-one
+
+-- where table t begins, and record i of it
+abbrev pub startOf : List ℕ → ℕ → ℕ
+startOf l t = generalSize + recordSize * recordsBefore l t
+
+abbrev pub placeOf : List ℕ → ℕ → ℕ → ℕ
+placeOf l t i = startOf l t + recordSize * i
+
+-- record i of table t
+abbrev pub recordOf : List ℕ → ℕ → ℕ → Record
+recordOf l t i = recordAt l (placeOf l t i)
