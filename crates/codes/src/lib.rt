@@ -162,15 +162,46 @@ pub fn kind_code(kind: EmissionKind) -> u8
     }
 }
 
+// The bits of a byte, one function each.
+pub fn bit0(bits: u8) -> bool
+    ensures { λ r. ⌜ r ≡ bitOf bits 0 ⌝ }
+{
+    bits / 1 % 2 == 1
+}
+
+pub fn bit1(bits: u8) -> bool
+    ensures { λ r. ⌜ r ≡ bitOf bits 1 ⌝ }
+{
+    bits / 2 % 2 == 1
+}
+
+pub fn bit2(bits: u8) -> bool
+    ensures { λ r. ⌜ r ≡ bitOf bits 2 ⌝ }
+{
+    bits / 4 % 2 == 1
+}
+
+pub fn bit3(bits: u8) -> bool
+    ensures { λ r. ⌜ r ≡ bitOf bits 3 ⌝ }
+{
+    bits / 8 % 2 == 1
+}
+
+pub fn bit4(bits: u8) -> bool
+    ensures { λ r. ⌜ r ≡ bitOf bits 4 ⌝ }
+{
+    bits / 16 % 2 == 1
+}
+
 // Whether a set of emissions, by its bits, has a kind.
 pub fn has_kind(bits: u8, kind: EmissionKind) -> bool
     ensures { λ r. ⌜ r ≡ bitOf bits (kindCode kind) ⌝ }
 {
     match kind {
-        EmissionKind::Data => bits / 1 % 2 == 1,
-        EmissionKind::Cw => bits / 2 % 2 == 1,
-        EmissionKind::Test => bits / 4 % 2 == 1,
-        EmissionKind::Nothing => bits / 8 % 2 == 1,
+        EmissionKind::Data => bit0(bits),
+        EmissionKind::Cw => bit1(bits),
+        EmissionKind::Test => bit2(bits),
+        EmissionKind::Nothing => bit3(bits),
     }
 }
 
@@ -179,10 +210,10 @@ pub fn has_class(bits: u8, class: LicenseClass) -> bool
     ensures { λ r. ⌜ r ≡ bitOf bits (classCode class) ⌝ }
 {
     match class {
-        LicenseClass::Novice => bits / 1 % 2 == 1,
-        LicenseClass::Technician => bits / 2 % 2 == 1,
-        LicenseClass::General => bits / 4 % 2 == 1,
-        LicenseClass::Advanced => bits / 8 % 2 == 1,
-        LicenseClass::Extra => bits / 16 % 2 == 1,
+        LicenseClass::Novice => bit0(bits),
+        LicenseClass::Technician => bit1(bits),
+        LicenseClass::General => bit2(bits),
+        LicenseClass::Advanced => bit3(bits),
+        LicenseClass::Extra => bit4(bits),
     }
 }
