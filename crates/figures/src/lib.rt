@@ -3,6 +3,9 @@
 ghost use mathlib.Core.Path.{_≡_};
 ghost use Rattle.figures.specs.Figure.{minOf, maxOf, absOf, midpointOf, totalLess, inSize, readHz, figureOf};
 
+// Document 01's limit on the size of a figure, 2^40.
+pub const LIMIT: f64 = 1099511627776.0;
+
 // Rust's f64::min.
 pub fn min(x: f64, y: f64) -> f64
     ensures { λ r. ⌜ r ≡ minOf x y ⌝ }

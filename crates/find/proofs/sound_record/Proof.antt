@@ -1,0 +1,54 @@
+use native.Mathlib.Omega.{arith}
+use borrow.Author.Tests.{lt-ltb, lt-leb, le-ltb, le-leb, eq-eqb, ne-eqb, not-true, not-false}
+use borrow.Author.Needs.{needs}
+use Rattle.find.proofs.sound_record.Statement.{statement}
+use Rattle.find.proofs.sound_record.Tie as tie
+use Rattle.find.proofs.sound_record.Reads as reads
+use Rattle.find.proofs.sound_record.Lts as lts
+use Rattle.find.proofs.sound_bits.Reads as sound-bits-reads
+
+-- src/lib.rt:46:5
+sound-bits-requires : tie.Need-sound-bits-requires
+sound-bits-requires c κs = search needs
+
+-- src/lib.rt:46:27
+sound-bits-requires-2 : tie.Need-sound-bits-requires-2
+sound-bits-requires-2 c κs = search needs
+
+-- src/lib.rt:46:49
+sound-bits-requires-3 : tie.Need-sound-bits-requires-3
+sound-bits-requires-3 c κs = search needs
+
+-- src/lib.rt:43:1
+returns : tie.Need-returns
+returns c =
+    rw (← c .before .before .before .before .sound-bits .ensures)
+    (rw (c .before .before .before .if1 .taken)
+    (rw (← c .before .before .sound-bits2 .ensures)
+    (rw (c .before .if2 .taken)
+    (rw (c .sound-bits3 .ensures)))))
+
+-- src/lib.rt:43:1
+returns-2 : tie.Need-returns-2
+returns-2 c =
+    rw (← c .before .before .before .sound-bits .ensures)
+    (rw (c .before .before .if1 .taken)
+    (rw (← c .before .sound-bits2 .ensures)
+    (rw (c .if2 .left))))
+
+-- src/lib.rt:43:1
+returns-3 : tie.Need-returns-3
+returns-3 c =
+    rw (← c .before .sound-bits .ensures)
+    (rw (c .if1 .left))
+
+pub sound-record-spec : {M : Type 1} → statement M
+sound-record-spec =
+    tie.close
+    (tie.spec
+    sound-bits-requires
+    sound-bits-requires-2
+    sound-bits-requires-3
+    returns
+    returns-2
+    returns-3)

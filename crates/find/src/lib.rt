@@ -1,0 +1,91 @@
+// One scan for every table: the first record that a question fits. The question is a value, so that the loop is proved
+// once. It uses figures, profile, layout, coded, table and scan.
+use layout::Record;
+use profile::{OwnLimit, Range};
+use scan::Found;
+ghost use mathlib.Core.Path.{_≡_};
+ghost use Prim.Native.Nat.{_+_, _*_, _≤_, _<_};
+ghost use lib.ListN.{length};
+ghost use Rattle.scan.specs.First.{first, some};
+ghost use Rattle.layout.specs.Form.{Whole};
+ghost use Rattle.find.specs.Question.{soundBits, soundRecord, noLimit, asks, asksAt, firstIn, someIn};
+
+// What is asked of a record.
+pub enum Question {
+    // A byte outside its values or not zero where unused, in a record of a table (5).
+    Miscoded(usize),
+    // A figure not finite, above 2^40 in size, or negative zero (6).
+    Unsound,
+    // A range with low not below high (7 to 10).
+    NotLengthy,
+    // An own limit that is not positive (13).
+    NoLimit,
+    // Its range holds this one, touches it, or shares a stretch of positive length with it.
+    Holds(Range),
+    Overlaps(Range),
+    Shares(Range),
+    // It has this band's number.
+    OfBand(u8),
+    BandHolds(u8, Range),
+    // It has this class's number.
+    ClassHolds(u8, Range),
+    ClassShares(u8, Range),
+    // The channel of this width about its centre touches this range.
+    ChannelOverlaps(f64, Range),
+}
+
+pub fn sound_bits(bits: u64) -> bool
+    ensures { λ r. ⌜ r ≡ soundBits bits ⌝ }
+{
+    figures::in_size(figures::LIMIT, figures::figure(bits)) && bits != 0x8000_0000_0000_0000
+}
+
+fn sound_record(r: Record) -> bool
+    ensures { λ x. ⌜ x ≡ soundRecord r ⌝ }
+{
+    sound_bits(r.low) && (sound_bits(r.high) && sound_bits(r.figure))
+}
+
+fn no_limit(own: OwnLimit) -> bool
+    ensures { λ x. ⌜ x ≡ noLimit own ⌝ }
+{
+    match own {
+        OwnLimit::Own(max) => max <= 0.0,
+        OwnLimit::General => false,
+    }
+}
+
+// Whether a question fits a record.
+pub fn answers(q: Question, r: Record) -> bool
+    ensures { λ x. ⌜ x ≡ asks q r ⌝ }
+{
+    match q {
+        Question::Miscoded(t) => !coded::coded_record(t, r),
+        Question::Unsound => !sound_record(r),
+        Question::NotLengthy => !table::span_of(r).is_lengthy(),
+        Question::NoLimit => no_limit(table::own_limit(r)),
+        Question::Holds(a) => table::span_of(r).holds(a),
+        Question::Overlaps(a) => table::span_of(r).overlaps(a),
+        Question::Shares(a) => profile::share(table::span_of(r), a),
+        Question::OfBand(n) => r.band == n,
+        Question::BandHolds(n, a) => r.band == n && table::span_of(r).holds(a),
+        Question::ClassHolds(n, a) => r.class == n && table::span_of(r).holds(a),
+        Question::ClassShares(n, a) => r.class == n && profile::share(table::span_of(r), a),
+        Question::ChannelOverlaps(width, a) => profile::channel_range(width, table::centre_of(r)).overlaps(a),
+    }
+}
+
+// The first of the count records from a place on that a question fits.
+pub fn find_from(s: &[u8], start: usize, count: usize, q: Question) -> Found
+    requires { ⌜ start + 32 * count ≤ length (now s) ⌝ }
+    ensures { λ r. ⌜ r ≡ first (asksAt (now (s .entry)) start q) count ⌝ }
+{
+    let mut i: usize = 0;
+    while i < count {
+        if answers(q, layout::record_at(s, start + layout::RECORD_SIZE * i)) {
+            return Found::At(i);
+        }
+        i += 1;
+    }
+    Found::Nothing
+}
