@@ -66,7 +66,7 @@ abbrev pub codedPlan : Record → Bool
 codedPlan r = blank (r .figure) && (blank (r .band) && (noLists r && blank (r .«second_rule»)))
 
 -- a record of table t
-abbrev pub codedOf : ℕ → Record → Bool
+unfoldable pub codedOf : ℕ → Record → Bool
 codedOf t r =
     cond (eqb t bands) (codedBand r)
     (cond (eqb t segments) (codedSegment r)
@@ -101,7 +101,7 @@ abbrev pub codedPlans : General → ℕ → ℕ → Bool
 codedPlans g areas avoid = bitOf (g .flags) 4 || (blank areas && blank avoid)
 
 -- the general block, with the counts of the channels' and the two plan tables
-abbrev pub codedGeneral : General → ℕ → ℕ → ℕ → Bool
+unfoldable pub codedGeneral : General → ℕ → ℕ → ℕ → Bool
 codedGeneral g count areas avoid =
     leb (g .reading) 2 && (leb (g .flags) 31 && (blank (g .unused) && (blank (g .«unused_rest») && (codedElsewhere g
     && (codedChannels g count && (codedSixty g && codedPlans g areas avoid))))))

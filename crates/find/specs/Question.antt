@@ -1,6 +1,6 @@
 -- What can be asked of one record. A scan of a table asks one question of each record in turn.
 use Prim.Native.Nat.{ℕ, _+_, _*_, _^_}
-use mathlib.Core.Bool.{Bool, true, false, not, _&&_}
+use mathlib.Core.Bool.{Bool, true, false, not, cond, _&&_}
 use mathlib.Core.List.{List}
 use lib.Dec.{eqb}
 use lib.Ieee.{Float, le}
@@ -9,7 +9,7 @@ use Rattle.profile.specs.Range.{holdsOf, overlapsOf, lengthy, shareOf, channelR
 use Rattle.profile.specs.declared.Range.{Range}
 use Rattle.profile.specs.declared.OwnLimit.{OwnLimit}
 use Rattle.profile.specs.declared.OwnLimit.the-variants.{Own, General}
-use Rattle.layout.specs.Layout.{recordSize, recordAt, recordOf, countOf}
+use Rattle.layout.specs.Layout.{recordSize, bands, segments, recordAt, recordOf, countOf}
 use Rattle.layout.specs.declared.Record.{Record}
 use Rattle.coded.specs.Coded.{codedOf}
 use Rattle.table.specs.Parts.{spanOf, ownLimitOf, centreOf}
@@ -19,10 +19,10 @@ use Rattle.find.specs.declared.Question.{Question}
 use Rattle.find.specs.declared.Question.the-variants.{Miscoded, Unsound, NotLengthy, NoLimit, Holds, Overlaps, Shares, OfBand, BandHolds, ClassHolds, ClassShares, ChannelOverlaps}
 
 -- "a figure not finite, above 2^40 in size, or negative zero", by its bits
-abbrev pub soundBits : ℕ → Bool
+unfoldable pub soundBits : ℕ → Bool
 soundBits b = inSize limit40 (figureOf b) && not (eqb b 0x8000_0000_0000_0000)
 
-abbrev pub soundRecord : Record → Bool
+unfoldable pub soundRecord : Record → Bool
 soundRecord r = soundBits (r .low) && (soundBits (r .high) && soundBits (r .figure))
 
 -- "own limit ≤ 0"
@@ -30,7 +30,7 @@ abbrev pub noLimit : OwnLimit → Bool
 noLimit (Own max) = le max zeroHz
 noLimit General = false
 
-abbrev pub asks : Question → Record → Bool
+unfoldable pub asks : Question → Record → Bool
 asks (Miscoded t) r = not (codedOf t r)
 asks Unsound r = not (soundRecord r)
 asks NotLengthy r = not (lengthy (spanOf r))
@@ -54,3 +54,14 @@ firstIn l t q = first (λ i. asks q (recordOf l t i)) (countOf l t)
 
 abbrev pub someIn : List ℕ → ℕ → Question → Bool
 someIn l t q = some (λ i. asks q (recordOf l t i)) (countOf l t)
+
+-- which bands a segment asks for: those that hold it, of whatever number or of its own
+abbrev pub homeQuestion : Bool → Record → Question
+homeQuestion own r = cond own (BandHolds (r .band) (spanOf r)) (Holds (spanOf r))
+
+abbrev pub homelessAt : List ℕ → Bool → ℕ → Bool
+homelessAt l own i = not (someIn l bands (homeQuestion own (recordOf l segments i)))
+
+-- "a segment in no band", of whatever number or of its own
+abbrev pub homelessOf : List ℕ → Bool → Bool
+homelessOf l own = some (homelessAt l own) (countOf l segments)

@@ -8,7 +8,7 @@ ghost use Prim.Native.Nat.{_+_, _*_, _≤_, _<_};
 ghost use lib.ListN.{length};
 ghost use Rattle.scan.specs.First.{first, some};
 ghost use Rattle.layout.specs.Form.{Whole};
-ghost use Rattle.find.specs.Question.{soundBits, soundRecord, noLimit, asks, asksAt, firstIn, someIn};
+ghost use Rattle.find.specs.Question.{soundBits, soundRecord, noLimit, asks, asksAt, firstIn, someIn, homeQuestion, homelessOf};
 
 // What is asked of a record.
 pub enum Question {
@@ -88,4 +88,54 @@ pub fn find_from(s: &[u8], start: usize, count: usize, q: Question) -> Found
         i += 1;
     }
     Found::Nothing
+}
+
+// The first record of table t that a question fits.
+pub fn find_in(s: &[u8], t: usize, q: Question) -> Found
+    requires { ⌜ (Whole (now s)) × (t < 9) ⌝ }
+    ensures { λ r. ⌜ r ≡ firstIn (now (s .entry)) t q ⌝ }
+{
+    let start = layout::start_of(s, t);
+    let count = layout::count_of(s, t) as usize;
+    find_from(s, start, count, q)
+}
+
+// Whether a question fits a record of table t.
+pub fn some_in(s: &[u8], t: usize, q: Question) -> bool
+    requires { ⌜ (Whole (now s)) × (t < 9) ⌝ }
+    ensures { λ r. ⌜ r ≡ someIn (now (s .entry)) t q ⌝ }
+{
+    match find_in(s, t, q) {
+        Found::At(_) => true,
+        Found::Nothing => false,
+    }
+}
+
+// Which bands a segment asks for: those that hold it, of whatever number or of its own.
+fn home_question(own: bool, r: Record) -> Question
+    ensures { λ x. ⌜ x ≡ homeQuestion own r ⌝ }
+{
+    if own {
+        Question::BandHolds(r.band, table::span_of(r))
+    } else {
+        Question::Holds(table::span_of(r))
+    }
+}
+
+// Whether a data segment lies in no band, of whatever number or of its own.
+pub fn homeless(s: &[u8], own: bool) -> bool
+    requires { ⌜ Whole (now s) ⌝ }
+    ensures { λ r. ⌜ r ≡ homelessOf (now (s .entry)) own ⌝ }
+{
+    let start = layout::start_of(s, layout::SEGMENTS);
+    let count = layout::count_of(s, layout::SEGMENTS) as usize;
+    let mut i: usize = 0;
+    while i < count {
+        let r = layout::record_at(s, start + layout::RECORD_SIZE * i);
+        if !some_in(s, layout::BANDS, home_question(own, r)) {
+            return true;
+        }
+        i += 1;
+    }
+    false
 }

@@ -50,7 +50,7 @@ abbrev pub planAvoid : ℕ
 planAvoid = 8
 
 -- "Record: 0 low, 8 high, 16 figure (f64); bytes 24 band, 25 class, 26 emission bits, 27 flags; u16 at 28 rule, 30 second rule."
-abbrev pub recordAt : List ℕ → ℕ → Record
+unfoldable pub recordAt : List ℕ → ℕ → Record
 recordAt l at =
     record {
       low = u64At l at;
@@ -67,7 +67,7 @@ recordAt l at =
 -- "General: 0 data limit, 8 elsewhere limit, 16 channel width, 24 carrier offset, 32 carrier tolerance (f64 each); bytes 40 region,
 -- 41 reading, 42 flags, 43 channel band, 44 sideband, 45 emission bits; u16 rules at 46 data, 48 elsewhere, 50 automatic segments,
 -- 52 channels, 54 emissions, 56 privileges." The six bytes from 58 are unused.
-abbrev pub generalOf : List ℕ → General
+unfoldable pub generalOf : List ℕ → General
 generalOf l =
     record {
       «data_limit» = u64At l 0;

@@ -1,3 +1,4 @@
+use Rattle.coded.specs.Coded.{codedGeneral}
 use native.Mathlib.Omega.{arith}
 use borrow.Author.Tests.{lt-ltb, lt-leb, le-ltb, le-leb, eq-eqb, ne-eqb, not-true, not-false}
 use borrow.Author.Needs.{needs}
@@ -28,6 +29,7 @@ coded-plans-requires c κs = search needs
 
 -- src/lib.rt:149:1
 returns : tie.Need-returns
+unfolding codedGeneral
 returns c =
     rw (le-leb _ _ (c .before .before .before .before .before .before .before .before .before .before .before .before .before .if1 .taken))
     (rw (le-leb _ _ (c .before .before .before .before .before .before .before .before .before .before .before .if2 .taken))
@@ -43,6 +45,7 @@ returns c =
 
 -- src/lib.rt:149:1
 returns-2 : tie.Need-returns-2
+unfolding codedGeneral
 returns-2 c =
     rw (le-leb _ _ (c .before .before .before .before .before .before .before .before .before .before .before .before .if1 .taken))
     (rw (le-leb _ _ (c .before .before .before .before .before .before .before .before .before .before .if2 .taken))
@@ -57,6 +60,7 @@ returns-2 c =
 
 -- src/lib.rt:149:1
 returns-3 : tie.Need-returns-3
+unfolding codedGeneral
 returns-3 c =
     rw (le-leb _ _ (c .before .before .before .before .before .before .before .before .before .before .if1 .taken))
     (rw (le-leb _ _ (c .before .before .before .before .before .before .before .before .if2 .taken))
@@ -69,6 +73,7 @@ returns-3 c =
 
 -- src/lib.rt:149:1
 returns-4 : tie.Need-returns-4
+unfolding codedGeneral
 returns-4 c =
     rw (le-leb _ _ (c .before .before .before .before .before .before .before .before .if1 .taken))
     (rw (le-leb _ _ (c .before .before .before .before .before .before .if2 .taken))
@@ -79,6 +84,7 @@ returns-4 c =
 
 -- src/lib.rt:149:1
 returns-5 : tie.Need-returns-5
+unfolding codedGeneral
 returns-5 c =
     rw (le-leb _ _ (c .before .before .before .before .before .before .if1 .taken))
     (rw (le-leb _ _ (c .before .before .before .before .if2 .taken))
@@ -87,6 +93,7 @@ returns-5 c =
 
 -- src/lib.rt:149:1
 returns-6 : tie.Need-returns-6
+unfolding codedGeneral
 returns-6 c =
     rw (le-leb _ _ (c .before .before .before .before .if1 .taken))
     (rw (le-leb _ _ (c .before .before .if2 .taken))
@@ -94,12 +101,14 @@ returns-6 c =
 
 -- src/lib.rt:149:1
 returns-7 : tie.Need-returns-7
+unfolding codedGeneral
 returns-7 c =
     rw (le-leb _ _ (c .before .before .if1 .taken))
     (rw (lt-leb _ _ (c .if2 .left)))
 
 -- src/lib.rt:149:1
 returns-8 : tie.Need-returns-8
+unfolding codedGeneral
 returns-8 c =
     rw (lt-leb _ _ (c .if1 .left))
 

@@ -1,3 +1,4 @@
+use Rattle.coded.specs.Coded.{codedOf}
 use native.Mathlib.Omega.{arith}
 use borrow.Author.Tests.{lt-ltb, lt-leb, le-ltb, le-leb, eq-eqb, ne-eqb, not-true, not-false}
 use borrow.Author.Needs.{needs}
@@ -48,48 +49,56 @@ coded-plan-requires c κs = search needs
 
 -- src/lib.rt:92:1
 returns : tie.Need-returns
+unfolding codedOf
 returns c =
     rw (c .before .match .keys1)
     (rw (c .coded-band .ensures))
 
 -- src/lib.rt:92:1
 returns-2 : tie.Need-returns-2
+unfolding codedOf
 returns-2 c =
     rw (c .before .match .keys2)
     (rw (c .coded-segment .ensures))
 
 -- src/lib.rt:92:1
 returns-3 : tie.Need-returns-3
+unfolding codedOf
 returns-3 c =
     rw (c .before .match .keys3)
     (rw (c .coded-channel .ensures))
 
 -- src/lib.rt:92:1
 returns-4 : tie.Need-returns-4
+unfolding codedOf
 returns-4 c =
     rw (c .before .match .keys4)
     (rw (c .coded-privilege .ensures))
 
 -- src/lib.rt:92:1
 returns-5 : tie.Need-returns-5
+unfolding codedOf
 returns-5 c =
     rw (c .before .match .keys5)
     (rw (c .coded-automatic .ensures))
 
 -- src/lib.rt:92:1
 returns-6 : tie.Need-returns-6
+unfolding codedOf
 returns-6 c =
     rw (c .before .match .keys6)
     (rw (c .coded-excluded .ensures))
 
 -- src/lib.rt:92:1
 returns-7 : tie.Need-returns-7
+unfolding codedOf
 returns-7 c =
     rw (c .before .match .keys7)
     (rw (c .coded-power .ensures))
 
 -- src/lib.rt:92:1
 returns-8 : tie.Need-returns-8
+unfolding codedOf
 returns-8 c =
     rw (ne-eqb _ _ (c .before .match .rest .0 .0 .0 .0 .0 .0 .1))
     (rw (ne-eqb _ _ (c .before .match .rest .0 .0 .0 .0 .0 .1))

@@ -1,3 +1,4 @@
+use Rattle.find.specs.Question.{asks}
 use native.Mathlib.Omega.{arith}
 use borrow.Author.Tests.{lt-ltb, lt-leb, le-ltb, le-leb, eq-eqb, ne-eqb, not-true, not-false}
 use borrow.Author.Needs.{needs}
@@ -151,18 +152,21 @@ overlaps-requires-2 c κs = search needs
 
 -- src/lib.rt:59:1
 returns : tie.Need-returns
+unfolding asks
 returns c =
     rw (c .before .before .q .given .1)
     (rw (c .coded-record .ensures))
 
 -- src/lib.rt:59:1
 returns-2 : tie.Need-returns-2
+unfolding asks
 returns-2 c =
     rw (c .before .enum-told .given .1)
     (rw (c .sound-record .ensures))
 
 -- src/lib.rt:59:1
 returns-3 : tie.Need-returns-3
+unfolding asks
 returns-3 c =
     rw (c .before .before .enum-told2 .given .1)
     (rw (c .is-lengthy .ensures)
@@ -170,6 +174,7 @@ returns-3 c =
 
 -- src/lib.rt:59:1
 returns-4 : tie.Need-returns-4
+unfolding asks
 returns-4 c =
     rw (c .before .before .enum-told3 .given .1)
     (rw (← c .before .own-limit .ensures)
@@ -177,6 +182,7 @@ returns-4 c =
 
 -- src/lib.rt:59:1
 returns-5 : tie.Need-returns-5
+unfolding asks
 returns-5 c =
     rw (c .before .before .before .q2 .given .1)
     (rw (c .holds .ensures)
@@ -184,6 +190,7 @@ returns-5 c =
 
 -- src/lib.rt:59:1
 returns-6 : tie.Need-returns-6
+unfolding asks
 returns-6 c =
     rw (c .before .before .before .q3 .given .1)
     (rw (c .overlaps .ensures)
@@ -191,6 +198,7 @@ returns-6 c =
 
 -- src/lib.rt:59:1
 returns-7 : tie.Need-returns-7
+unfolding asks
 returns-7 c =
     rw (c .before .before .before .q4 .given .1)
     (rw (c .share .ensures)
@@ -198,11 +206,13 @@ returns-7 c =
 
 -- src/lib.rt:59:1
 returns-8 : tie.Need-returns-8
+unfolding asks
 returns-8 c =
     rw (c .before .before .q5 .given .1)
 
 -- src/lib.rt:59:1
 returns-9 : tie.Need-returns-9
+unfolding asks
 returns-9 c =
     rw (c .before .before .before .before .before .q6 .given .1)
     (rw (eq-eqb _ _ (c .before .before .if1 .taken))
@@ -211,12 +221,14 @@ returns-9 c =
 
 -- src/lib.rt:59:1
 returns-10 : tie.Need-returns-10
+unfolding asks
 returns-10 c =
     rw (c .before .before .before .q6 .given .1)
     (rw (ne-eqb _ _ (c .if1 .left)))
 
 -- src/lib.rt:59:1
 returns-11 : tie.Need-returns-11
+unfolding asks
 returns-11 c =
     rw (c .before .before .before .before .before .q7 .given .1)
     (rw (eq-eqb _ _ (c .before .before .if2 .taken))
@@ -225,12 +237,14 @@ returns-11 c =
 
 -- src/lib.rt:59:1
 returns-12 : tie.Need-returns-12
+unfolding asks
 returns-12 c =
     rw (c .before .before .before .q7 .given .1)
     (rw (ne-eqb _ _ (c .if2 .left)))
 
 -- src/lib.rt:59:1
 returns-13 : tie.Need-returns-13
+unfolding asks
 returns-13 c =
     rw (c .before .before .before .before .before .q8 .given .1)
     (rw (eq-eqb _ _ (c .before .before .if3 .taken))
@@ -239,12 +253,14 @@ returns-13 c =
 
 -- src/lib.rt:59:1
 returns-14 : tie.Need-returns-14
+unfolding asks
 returns-14 c =
     rw (c .before .before .before .q8 .given .1)
     (rw (ne-eqb _ _ (c .if3 .left)))
 
 -- src/lib.rt:59:1
 returns-15 : tie.Need-returns-15
+unfolding asks
 returns-15 c =
     rw (c .before .before .before .before .q9 .given .1)
     (rw (c .overlaps2 .ensures)

@@ -1,3 +1,4 @@
+use Rattle.find.specs.Question.{soundBits}
 use native.Mathlib.Omega.{arith}
 use borrow.Author.Tests.{lt-ltb, lt-leb, le-ltb, le-leb, eq-eqb, ne-eqb, not-true, not-false}
 use borrow.Author.Needs.{needs}
@@ -18,6 +19,7 @@ in-size-requires c κs = search needs
 
 -- src/lib.rt:37:1
 returns : tie.Need-returns
+unfolding soundBits
 returns c =
     rw (← c .before .before .figure .ensures)
     (rw (← c .before .in-size .ensures)
@@ -25,6 +27,7 @@ returns c =
 
 -- src/lib.rt:37:1
 returns-2 : tie.Need-returns-2
+unfolding soundBits
 returns-2 c =
     rw (← c .before .before .figure .ensures)
     (rw (← c .before .in-size .ensures)

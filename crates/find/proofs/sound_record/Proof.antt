@@ -1,3 +1,4 @@
+use Rattle.find.specs.Question.{soundRecord}
 use native.Mathlib.Omega.{arith}
 use borrow.Author.Tests.{lt-ltb, lt-leb, le-ltb, le-leb, eq-eqb, ne-eqb, not-true, not-false}
 use borrow.Author.Needs.{needs}
@@ -21,6 +22,7 @@ sound-bits-requires-3 c κs = search needs
 
 -- src/lib.rt:43:1
 returns : tie.Need-returns
+unfolding soundRecord
 returns c =
     rw (← c .before .before .before .before .sound-bits .ensures)
     (rw (c .before .before .before .if1 .taken)
@@ -30,6 +32,7 @@ returns c =
 
 -- src/lib.rt:43:1
 returns-2 : tie.Need-returns-2
+unfolding soundRecord
 returns-2 c =
     rw (← c .before .before .before .sound-bits .ensures)
     (rw (c .before .before .if1 .taken)
@@ -38,6 +41,7 @@ returns-2 c =
 
 -- src/lib.rt:43:1
 returns-3 : tie.Need-returns-3
+unfolding soundRecord
 returns-3 c =
     rw (← c .before .sound-bits .ensures)
     (rw (c .if1 .left))

@@ -1,3 +1,4 @@
+use Rattle.layout.specs.Layout.{generalOf}
 use native.Mathlib.Omega.{arith}
 use borrow.Author.Tests.{lt-ltb, lt-leb, le-ltb, le-leb, eq-eqb, ne-eqb, not-true, not-false}
 use borrow.Author.Needs.{needs}
@@ -88,6 +89,7 @@ u32-at-requires c κs = search needs
 
 -- src/lib.rt:111:1
 returns : tie.Need-returns
+unfolding generalOf
 returns c =
     rw (← c .before .before .before .before .before .before .before .before .before .before .before .before .before .before .before .before .before .before .u64-at .ensures)
     (rw (← c .before .before .before .before .before .before .before .before .before .before .before .before .before .before .before .before .before .u64-at2 .ensures)

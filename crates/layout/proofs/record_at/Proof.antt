@@ -1,3 +1,4 @@
+use Rattle.layout.specs.Layout.{recordAt}
 use native.Mathlib.Omega.{arith}
 use borrow.Author.Tests.{lt-ltb, lt-leb, le-ltb, le-leb, eq-eqb, ne-eqb, not-true, not-false}
 use borrow.Author.Needs.{needs}
@@ -79,6 +80,7 @@ u16-at-requires-2 c κs = search needs
 
 -- src/lib.rt:94:1
 returns : tie.Need-returns
+unfolding recordAt
 returns c =
     rw (← c .before .before .before .before .before .before .before .before .u64-at .ensures)
     (rw (← c .before .before .before .before .before .before .before .u64-at2 .ensures)

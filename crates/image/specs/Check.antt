@@ -1,0 +1,60 @@
+-- Refusals 1 to 14 of an image, in their order: each is tested over the whole image before the next.
+use Prim.Native.Nat.{ℕ}
+use mathlib.Core.Bool.{Bool, true, false, not, _&&_, _||_}
+use mathlib.Core.List.{List, [], _∷_, _++_}
+use mathlib.Core.Path.{_≡_, _∙_}
+use lib.Ieee.{le}
+use Rattle.figures.specs.Figure.{zeroHz, figureOf}
+use Rattle.codes.specs.Refusal.{Test, test, refusalOf}
+use Rattle.codes.specs.declared.Checked.{Checked}
+use Rattle.codes.specs.declared.Checked.the-variants.{Accepted}
+use Rattle.scan.specs.First.{some}
+use Rattle.layout.specs.Layout.{generalSize, tables, bands, segments, channels, privileges, automatic, planData, planAvoid, generalOf, countOf, recordsBefore}
+use Rattle.layout.specs.Form.{formTests}
+use Rattle.layout.specs.declared.General.{General}
+use Rattle.coded.specs.Coded.{blank, codedGeneral}
+use Rattle.find.specs.Question.{soundBits, asksAt, someIn, homelessOf}
+use Rattle.find.specs.declared.Question.{Question}
+use Rattle.find.specs.declared.Question.the-variants.{Miscoded, Unsound, NotLengthy, NoLimit}
+
+-- 5 "a coded byte outside its values, an unused one not zero, or a table of an absent part not empty"
+unfoldable pub codedBlock : List ℕ → Bool
+codedBlock l = codedGeneral (generalOf l) (countOf l channels) (countOf l planData) (countOf l planAvoid)
+
+abbrev pub miscodedIn : List ℕ → ℕ → Bool
+miscodedIn l t = someIn l t (Miscoded t)
+
+unfoldable pub miscoded : List ℕ → Bool
+miscoded l = not (codedBlock l) || some (miscodedIn l) tables
+
+-- 6 "a figure not finite, above 2^40 in size, or negative zero": the five of the general block, then those of every record
+unfoldable pub soundBlock : General → Bool
+soundBlock g =
+    soundBits (g .«data_limit») && (soundBits (g .«elsewhere_limit») && (soundBits (g .«channel_width»)
+    && (soundBits (g .«carrier_offset») && soundBits (g .«carrier_tolerance»))))
+
+unfoldable pub unsound : List ℕ → Bool
+unsound l = not (soundBlock (generalOf l)) || some (asksAt l generalSize Unsound) (recordsBefore l tables)
+
+-- 11 "no bands or no segments"
+unfoldable pub bare : List ℕ → Bool
+bare l = blank (countOf l bands) || blank (countOf l segments)
+
+-- 14 "general limit ≤ 0"
+unfoldable pub unlimited : General → Bool
+unlimited g = le (figureOf (g .«data_limit»)) zeroHz
+
+-- 5 to 14: "7 band, 8 segment, 9 automatic, 10 privilege range with low ≥ high; 11 no bands or no segments; 12 a segment in no band;
+-- 13 own limit ≤ 0; 14 general limit ≤ 0"
+abbrev pub contentTests : List ℕ → List Test
+contentTests l =
+    test 5 (miscoded l) ∷ test 6 (unsound l) ∷ test 7 (someIn l bands NotLengthy) ∷ test 8 (someIn l segments NotLengthy)
+    ∷ test 9 (someIn l automatic NotLengthy) ∷ test 10 (someIn l privileges NotLengthy) ∷ test 11 (bare l)
+    ∷ test 12 (homelessOf l false) ∷ test 13 (someIn l segments NoLimit) ∷ test 14 (unlimited (generalOf l)) ∷ []
+
+abbrev pub checkTests : List ℕ → List Test
+checkTests l = formTests l ++ contentTests l
+
+-- the check's answer
+abbrev pub checkOf : List ℕ → Checked
+checkOf l = refusalOf (checkTests l)
