@@ -60,3 +60,15 @@ none-fails (t ∷ ts) e = go (t .fails) (none-fails ts) e
       → (f ≡ false) × NoneFails ts
     go true next q = absurd (refused-not q)
     go false next q = (refl, next q)
+
+-- Accepted by two lists of tests in a row: accepted by each.
+pub refusal-both : (a b : List Test) → refusalOf (a ++ b) ≡ Accepted → (refusalOf a ≡ Accepted) × (refusalOf b ≡ Accepted)
+refusal-both [] b e = (refl, e)
+refusal-both (t ∷ ts) b e = go (t .fails) (refusal-both ts b) e
+  where
+    go :
+      (f : Bool) → (refusalOf (ts ++ b) ≡ Accepted → (refusalOf ts ≡ Accepted) × (refusalOf b ≡ Accepted))
+      → cond f (Refused (t .number)) (refusalOf (ts ++ b)) ≡ Accepted
+      → (cond f (Refused (t .number)) (refusalOf ts) ≡ Accepted) × (refusalOf b ≡ Accepted)
+    go true next q = absurd (refused-not q)
+    go false next q = next q

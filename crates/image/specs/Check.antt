@@ -5,12 +5,12 @@ use mathlib.Core.List.{List, [], _∷_, _++_}
 use mathlib.Core.Path.{_≡_, _∙_}
 use lib.Ieee.{le}
 use Rattle.figures.specs.Figure.{zeroHz, figureOf}
-use Rattle.codes.specs.Refusal.{Test, test, refusalOf}
+use Rattle.codes.specs.Refusal.{Test, test, refusalOf, refusal-both}
 use Rattle.codes.specs.declared.Checked.{Checked}
 use Rattle.codes.specs.declared.Checked.the-variants.{Accepted}
 use Rattle.scan.specs.First.{some}
 use Rattle.layout.specs.Layout.{generalSize, tables, bands, segments, channels, privileges, automatic, planData, planAvoid, generalOf, countOf, recordsBefore}
-use Rattle.layout.specs.Form.{formTests}
+use Rattle.layout.specs.Form.{formTests, Whole, whole-of}
 use Rattle.layout.specs.declared.General.{General}
 use Rattle.coded.specs.Coded.{blank, codedGeneral}
 use Rattle.find.specs.Question.{soundBits, asksAt, someIn, homelessOf}
@@ -56,5 +56,10 @@ abbrev pub checkTests : List ℕ → List Test
 checkTests l = formTests l ++ contentTests l
 
 -- the check's answer
-abbrev pub checkOf : List ℕ → Checked
+unfoldable pub checkOf : List ℕ → Checked
 checkOf l = refusalOf (checkTests l)
+
+-- An accepted image is whole.
+pub accepted-whole : (l : List ℕ) → checkOf l ≡ Accepted → Whole l
+unfolding checkOf
+accepted-whole l e = whole-of l (refusal-both (formTests l) (contentTests l) e .0)

@@ -1,7 +1,7 @@
 use mathlib.Core.Path.{sym, _∙_}
 use Rattle.codes.specs.Refusal.{refusal-next, refusal-stays}
 use Rattle.layout.specs.Form.{formTests, whole-of}
-use Rattle.image.specs.Check.{contentTests}
+use Rattle.image.specs.Check.{contentTests, checkOf}
 use borrow.Author.Needs.{needs}
 use Rattle.image.proofs.check.Statement.{statement}
 use Rattle.image.proofs.check.Tie as tie
@@ -28,12 +28,14 @@ content-requires c κs = whole-of _ (sym (c .before .before .form .ensures) ∙ 
 
 -- src/lib.rt:122:1
 returns : tie.Need-returns
+unfolding checkOf
 returns c =
     let l = c .before .before .before .before .before .args .s .now in
     sym (refusal-stays (formTests l) (contentTests l) _ (sym (c .before .before .before .form .ensures) ∙ c .before .n .given .1))
 
 -- src/lib.rt:122:1
 returns-2 : tie.Need-returns-2
+unfolding checkOf
 returns-2 c =
     let l = c .before .before .before .before .before .args .s .now in
     c .content .ensures

@@ -1,0 +1,127 @@
+use Prim.Native.Nat.{_+_, _*_, _-_, _≤_}
+use mathlib.Core.Path.{_≡_, ap}
+use lib.ListN.{length}
+use borrow.Author.Needs.{needs}
+use Rattle.layout.specs.Layout.{recordSize, trailerSize, countOf, startOf}
+use Rattle.layout.specs.Form.{table-within}
+use Rattle.scan.specs.First.{Passed, isAt, passed-none, passed-step, some-here, some-none}
+use Rattle.tidy.specs.Tidy.{twoShare, sharesEarlier}
+use native.Mathlib.Omega.{arith}
+use borrow.Author.Tests.{lt-ltb, lt-leb, le-ltb, le-leb, eq-eqb, ne-eqb, not-true, not-false}
+use Rattle.tidy.proofs.two_share.Statement.{statement}
+use Rattle.tidy.proofs.two_share.Tie as tie
+use Rattle.tidy.proofs.two_share.Reads as reads
+use Rattle.tidy.proofs.two_share.Lts as lts
+use Rattle.find.proofs.find_from.Reads as find-from-reads
+use Rattle.layout.proofs.count_of.Reads as count-of-reads
+use Rattle.layout.proofs.record_at.Reads as record-at-reads
+use Rattle.layout.proofs.start_of.Reads as start-of-reads
+use Rattle.tidy.proofs.pair_question.Reads as pair-question-reads
+
+abbrev Inv-loop : tie.InvT-loop
+Inv-loop s t classes start count j₀ j = Passed (sharesEarlier s t classes) count j
+
+abbrev μ-loop : tie.MeasureT-loop
+μ-loop s t classes start count j₀ j = count - j
+
+within : (c : tie.Start Inv-loop μ-loop) → startOf (c .args .s .now) (c .args .t) + recordSize * countOf (c .args .s .now) (c .args .t) + trailerSize ≤ length (c .args .s .now)
+within c = table-within (c .args .s .now) (c .pre .0) (c .args .t) (c .pre .1)
+
+-- what a turn asked of the records before record j
+asked : (c : tie.After-find-from Inv-loop μ-loop) → isAt (c .find-from .result) ≡ sharesEarlier (c .before .before .before .before .before .before .before .before .args .s .now) (c .before .before .before .before .before .before .before .before .args .t) (c .before .before .before .before .before .before .before .before .args .classes) (c .before .before .before .before .loop .j)
+asked c =
+    rw (c .find-from .ensures)
+    (rw (c .before .pair-question .ensures)
+    (rw (c .before .before .record-at .ensures)
+    (rw (c .before .before .before .before .before .before .start-of .ensures))))
+
+-- src/lib.rt:33:9
+start-of-requires : tie.Need-start-of-requires Inv-loop μ-loop
+start-of-requires c κs = omega (arith, c .before .pre .0 .sized)
+
+-- src/lib.rt:34:17
+count-of-requires : tie.Need-count-of-requires Inv-loop μ-loop
+count-of-requires c κs = omega (arith, c .before .before .pre .0 .sized)
+
+-- src/lib.rt:34:17
+cast-count : tie.Need-cast-count Inv-loop μ-loop
+cast-count c = omega arith
+
+-- src/lib.rt:36:5
+loop-holds : tie.Need-loop-holds Inv-loop μ-loop
+loop-holds c = passed-none _ _
+
+-- src/lib.rt:37:46
+mul-record-at : tie.Need-mul-record-at Inv-loop μ-loop
+mul-record-at c = omega (arith, within (c .before .before .before .before .before))
+
+-- src/lib.rt:37:38
+add-record-at : tie.Need-add-record-at Inv-loop μ-loop
+add-record-at c = omega (arith, within (c .before .before .before .before .before))
+
+-- src/lib.rt:37:13
+record-at-requires : tie.Need-record-at-requires Inv-loop μ-loop
+record-at-requires c κs = omega (arith, within (c .before .before .before .before .before))
+
+-- src/lib.rt:38:50
+pair-question-requires : tie.Need-pair-question-requires Inv-loop μ-loop
+pair-question-requires c κs = search needs
+
+-- src/lib.rt:38:13
+find-from-requires : tie.Need-find-from-requires Inv-loop μ-loop
+find-from-requires c κs = omega (arith, within (c .before .before .before .before .before .before .before))
+
+-- src/lib.rt:40:13
+enum-told : tie.Need-enum-told Inv-loop μ-loop
+enum-told c = search needs
+
+-- src/lib.rt:40:13
+returns : tie.Need-returns Inv-loop μ-loop
+unfolding twoShare
+returns c =
+    rw (← c .before .before .before .before .before .before .before .count-of .ensures)
+    (some-here _ _ _ (c .before .before .before .before .before .loop-test .taken) (c .before .before .before .before .before .before .loop .inv) (rw (← asked (c .before .before)) (ap isAt (c .enum-told .given .1))))
+
+enum-told-2 : tie.Need-enum-told-2 Inv-loop μ-loop
+enum-told-2 c = search needs
+
+-- src/lib.rt:42:9
+add-j : tie.Need-add-j Inv-loop μ-loop
+add-j c = omega arith
+
+-- src/lib.rt:36:5
+loop-less : tie.Need-loop-less Inv-loop μ-loop
+loop-less c = omega arith
+
+-- src/lib.rt:36:5
+loop-again : tie.Need-loop-again Inv-loop μ-loop
+loop-again c =
+    passed-step _ _ _ (c .before .before .before .before .before .loop-test .taken) (c .before .before .before .before .before .before .loop .inv) (rw (← asked (c .before .before)) (ap isAt (c .enum-told2 .given .1)))
+
+-- src/lib.rt:29:1
+returns-2 : tie.Need-returns-2 Inv-loop μ-loop
+unfolding twoShare
+returns-2 c = rw (← c .before .before .count-of .ensures) (some-none _ _ _ (c .loop-test .left) (c .before .loop .inv))
+
+pub two-share-spec : {M : Type 1} → statement M
+two-share-spec =
+    tie.close
+    (tie.spec
+    Inv-loop
+    μ-loop
+    start-of-requires
+    count-of-requires
+    cast-count
+    loop-holds
+    mul-record-at
+    add-record-at
+    record-at-requires
+    pair-question-requires
+    find-from-requires
+    enum-told
+    returns
+    enum-told-2
+    add-j
+    loop-less
+    loop-again
+    returns-2)
