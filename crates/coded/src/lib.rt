@@ -1,5 +1,6 @@
 // Refusal 5: the coded and the unused bytes of a record and of the general block. It uses codes and layout.
-use layout::{General, Record};
+use layout::General;
+use layout::Record;
 ghost use mathlib.Core.Path.{_≡_};
 ghost use Rattle.coded.specs.Coded.{under, bitsUnder, noLists, noRules, codedBand, codedSegment, codedChannel, codedPrivilege, codedAutomatic, codedExcluded, codedPower, codedPlan, codedOf, codedElsewhere, blankChannels, codedChannels, codedSixty, codedPlans, codedGeneral};
 
@@ -12,11 +13,7 @@ fn under(flag: bool, n: u64) -> bool
 fn bits_under(flag: bool, largest: u8, n: u8) -> bool
     ensures { λ x. ⌜ x ≡ bitsUnder flag largest n ⌝ }
 {
-    if flag {
-        n <= largest
-    } else {
-        n == 0
-    }
+    if flag { n <= largest } else { n == 0 }
 }
 
 fn no_lists(r: Record) -> bool

@@ -56,8 +56,8 @@ none-fails [] e = tt
 none-fails (t ∷ ts) e = go (t .fails) (none-fails ts) e
   where
     go :
-      (f : Bool) → (refusalOf ts ≡ Accepted → NoneFails ts) → cond f (Refused (t .number)) (refusalOf ts) ≡ Accepted
-      → (f ≡ false) × NoneFails ts
+        (f : Bool) → (refusalOf ts ≡ Accepted → NoneFails ts) → cond f (Refused (t .number)) (refusalOf ts) ≡ Accepted
+        → (f ≡ false) × NoneFails ts
     go true next q = absurd (refused-not q)
     go false next q = (refl, next q)
 
@@ -67,8 +67,8 @@ refusal-both [] b e = (refl, e)
 refusal-both (t ∷ ts) b e = go (t .fails) (refusal-both ts b) e
   where
     go :
-      (f : Bool) → (refusalOf (ts ++ b) ≡ Accepted → (refusalOf ts ≡ Accepted) × (refusalOf b ≡ Accepted))
-      → cond f (Refused (t .number)) (refusalOf (ts ++ b)) ≡ Accepted
-      → (cond f (Refused (t .number)) (refusalOf ts) ≡ Accepted) × (refusalOf b ≡ Accepted)
+        (f : Bool) → (refusalOf (ts ++ b) ≡ Accepted → (refusalOf ts ≡ Accepted) × (refusalOf b ≡ Accepted))
+        → cond f (Refused (t .number)) (refusalOf (ts ++ b)) ≡ Accepted
+        → (cond f (Refused (t .number)) (refusalOf ts) ≡ Accepted) × (refusalOf b ≡ Accepted)
     go true next q = absurd (refused-not q)
     go false next q = next q

@@ -1,7 +1,8 @@
 // One scan for every table: the first record that a question fits. The question is a value, so that the loop is proved
 // once. It uses figures, profile, layout, coded, table and scan.
 use layout::Record;
-use profile::{OwnLimit, Range};
+use profile::OwnLimit;
+use profile::Range;
 use scan::Found;
 ghost use mathlib.Core.Path.{_≡_};
 ghost use Prim.Native.Nat.{_+_, _*_, _≤_, _<_};
@@ -71,7 +72,10 @@ pub fn answers(q: Question, r: Record) -> bool
         Question::BandHolds(n, a) => r.band == n && table::span_of(r).holds(a),
         Question::ClassHolds(n, a) => r.class == n && table::span_of(r).holds(a),
         Question::ClassShares(n, a) => r.class == n && profile::share(table::span_of(r), a),
-        Question::ChannelOverlaps(width, a) => profile::channel_range(width, table::centre_of(r)).overlaps(a),
+        Question::ChannelOverlaps(width, a) => profile::channel_range(
+            width,
+            table::centre_of(r),
+        ).overlaps(a),
     }
 }
 

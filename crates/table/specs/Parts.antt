@@ -64,7 +64,7 @@ segmentOf r =
       band = r .band;
       rule = r .rule;
       own = ownLimitOf r;
-      second = namedOf (r .flags) (r .«second_rule»)
+      second = namedOf (r .flags) (r .«second_rule»);
     }
 
 -- "channels (low is the centre)"
@@ -78,7 +78,7 @@ privilegeOf r =
       range = spanOf r;
       class = r .class;
       emissions = listedOf (r .flags) (r .emissions);
-      rule = namedOf (r .flags) (r .rule)
+      rule = namedOf (r .flags) (r .rule);
     }
 
 -- "excluded (band, rule)"
@@ -92,7 +92,7 @@ powerOf r =
       range = spanOf r;
       «max_w» = figureOf (r .figure);
       classes = listedOf (r .flags) (r .class);
-      rule = r .rule
+      rule = r .rule;
     }
 
 -- "plan data and plan avoid (range, label number in rule)"
@@ -116,7 +116,7 @@ elsewhereOf g =
     (record {
       «max_bandwidth_hz» = figureOf (g .«elsewhere_limit»);
       «requires_response» = bitOf (g .flags) 1;
-      rule = g .«elsewhere_rule»
+      rule = g .«elsewhere_rule»;
     }))
     Nowhere
 
@@ -134,7 +134,7 @@ channelsOf g =
       «width_hz» = figureOf (g .«channel_width»);
       «carrier_offset_hz» = figureOf (g .«carrier_offset»);
       «carrier_tolerance_hz» = figureOf (g .«carrier_tolerance»);
-      sideband = channelSidebandOf g
+      sideband = channelSidebandOf g;
     }))
     NoChannels
 

@@ -1,9 +1,14 @@
 // What an accepted image says: one function for each part, from its record or the general block. It uses figures, codes,
 // profile, occupancy and layout.
 use codes::Sideband;
-use layout::{General, Record};
+use layout::General;
+use layout::Record;
 use occupancy::Reading;
-use profile::{DataLimit, Listed, OwnLimit, Range, RuleName};
+use profile::DataLimit;
+use profile::Listed;
+use profile::OwnLimit;
+use profile::Range;
+use profile::RuleName;
 ghost use mathlib.Core.Path.{_≡_};
 ghost use Prim.Native.Nat.{_+_, _*_, _≤_, _<_};
 ghost use lib.ListN.{length};
