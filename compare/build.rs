@@ -1,0 +1,67 @@
+//! Puts the Rust, unchanged, where it can be built, and says where the library is.
+//!
+//! - `PAMUKLID_RUST_SRC`: the folder that holds `core/aetherd/src/regulatory/{mod,profile,
+//!   occupancy}.rs`; by default `../shared/docs/src` from the repository's root. The three files
+//!   are copied into cargo's own output folder, beside stand-ins for the two data files that they
+//!   include and that aren't to be had. Nothing of the Rust is kept in the repository.
+//! - `PAMUKLID_LIB_DIR`: the folder of `libpamuklid.a`; by default `target/staticlib` in the
+//!   repository. Not used with the feature `stub`.
+//! - `PAMUKLID_STUB_SRC`, `PAMUKLID_STUB_EXPECT` (feature `stub` only): the Rust and the
+//!   `expect.rs` that the stub answers from, where they are to differ from the driver's own.
+
+use std::env;
+use std::fs;
+use std::path::{Path, PathBuf};
+
+fn folder(name: &str, default: PathBuf) -> PathBuf {
+    println!("cargo::rerun-if-env-changed={name}");
+    env::var_os(name).map_or(default, PathBuf::from)
+}
+
+fn copy(from: &Path, to: &Path) {
+    println!("cargo::rerun-if-changed={}", from.display());
+    let bytes = fs::read(from).unwrap_or_else(|e| panic!("{}: {e}", from.display()));
+    fs::write(to, bytes).unwrap_or_else(|e| panic!("{}: {e}", to.display()));
+}
+
+/// The module at `src`, as `OUT_DIR/name.rs` to be included.
+fn place(src: &Path, out: &Path, name: &str) {
+    let home = out.join(name);
+    let module = home.join("src/regulatory");
+    fs::create_dir_all(&module).unwrap();
+    for file in ["mod.rs", "profile.rs", "occupancy.rs"] {
+        copy(
+            &src.join("core/aetherd/src/regulatory").join(file),
+            &module.join(file),
+        );
+    }
+    fs::create_dir_all(home.join("data/regulatory")).unwrap();
+    fs::write(home.join("data/occupancy.json"), "{\"airs\":{}}").unwrap();
+    fs::write(home.join("data/regulatory/us-fcc-part97.json"), "{}").unwrap();
+    include(&module.join("mod.rs"), "regulatory", &out.join(format!("{name}.rs")));
+}
+
+fn include(file: &Path, module: &str, into: &Path) {
+    let text = format!("#[allow(dead_code, unused_imports)]\n#[path = {file:?}]\npub mod {module};\n");
+    fs::write(into, text).unwrap();
+}
+
+fn main() {
+    println!("cargo::rerun-if-changed=build.rs");
+    let here = PathBuf::from(env::var_os("CARGO_MANIFEST_DIR").unwrap());
+    let root = here.parent().unwrap().to_path_buf();
+    let out = PathBuf::from(env::var_os("OUT_DIR").unwrap());
+    let rust = folder("PAMUKLID_RUST_SRC", root.join("../shared/docs/src"));
+    place(&rust, &out, "oracle");
+    if env::var_os("CARGO_FEATURE_STUB").is_some() {
+        place(&folder("PAMUKLID_STUB_SRC", rust), &out, "original");
+        let expect = folder("PAMUKLID_STUB_EXPECT", here.join("src/expect.rs"));
+        copy(&expect, &out.join("stub_expect.rs"));
+        include(&out.join("stub_expect.rs"), "expect", &out.join("expect_include.rs"));
+    } else {
+        let lib = folder("PAMUKLID_LIB_DIR", root.join("target/staticlib"));
+        println!("cargo::rerun-if-changed={}", lib.join("libpamuklid.a").display());
+        println!("cargo::rustc-link-search=native={}", lib.display());
+        println!("cargo::rustc-link-lib=static=pamuklid");
+    }
+}

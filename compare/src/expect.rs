@@ -1,0 +1,351 @@
+//! What document 01 says and the Rust doesn't: refusals 1 to 6, 15, 16 and 20 to 23, the tidy
+//! question, the fresh record, and the parts of an answer that the Rust has only as text. Written
+//! from document 01 (quoted) and READINGS.md, not from the Rust and not from the Rattle code.
+
+use crate::ffi::{Edges, Station};
+use crate::image::{Record, Table, f64_at, u16_at, u32_at};
+use crate::image::{AUTOMATIC, BANDS, CHANNELS, EXCLUDED, PLAN_AVOID, PLAN_DATA, POWER, PRIVILEGES, SEGMENTS};
+
+/// "not finite or above 2^40 in size"
+pub fn out_of_size(x: f64) -> bool {
+    !x.is_finite() || x.abs() > 1_099_511_627_776.0
+}
+
+/// "Negative zero in edges or station reads as zero."
+pub fn read(x: f64) -> f64 {
+    if x == 0.0 { 0.0 } else { x }
+}
+
+// ------------------------------------------------------------------------------ the image
+
+/// Refusals 1 to 6, in their order, each over the whole image; 0 if none is met.
+pub fn image_1_to_6(image: &[u8]) -> u8 {
+    let n = image.len();
+    // "1 image under 92 or over 65,536 bytes"
+    if n < 92 || n > 65_536 {
+        return 1;
+    }
+    // "Trailer: nine u16 counts, a u32 distance from the trailer's start back to the first byte,
+    // u16 edition 1, and the ASCII letters EDGE."
+    let end = n - 28;
+    if image[end + 24..] != *b"EDGE" {
+        return 2;
+    }
+    if u16_at(image, end + 22) != 1 {
+        return 3;
+    }
+    // "4 a count over 256, or a length or distance that disagrees"
+    let counts: Vec<usize> = (0..9).map(|t| u16_at(image, end + 2 * t) as usize).collect();
+    if counts.iter().any(|&count| count > 256) {
+        return 4;
+    }
+    let front = 64 + 32 * counts.iter().sum::<usize>();
+    if end != front {
+        return 4;
+    }
+    if u32_at(image, end + 18) as usize != front {
+        return 4;
+    }
+    // "5 a coded byte outside its values, an unused one not zero, or a table of an absent part
+    // not empty"
+    let block = &image[0..64];
+    if !block_is_right(block) {
+        return 5;
+    }
+    if block[42] & 4 == 0 && counts[CHANNELS] != 0 {
+        return 5;
+    }
+    if block[42] & 16 == 0 && counts[PLAN_DATA] + counts[PLAN_AVOID] != 0 {
+        return 5;
+    }
+    let mut places = Vec::new();
+    for (table, &count) in counts.iter().enumerate() {
+        places.extend(std::iter::repeat_n(table, count));
+    }
+    for (i, &table) in places.iter().enumerate() {
+        if !record_is_right(table, &image[64 + 32 * i..96 + 32 * i]) {
+            return 5;
+        }
+    }
+    // "6 a figure not finite, above 2^40 in size, or negative zero"
+    let bad = |at: usize| {
+        let x = f64_at(image, at);
+        out_of_size(x) || x.to_bits() == 1 << 63
+    };
+    if (0..5).any(|i| bad(8 * i)) {
+        return 6;
+    }
+    if (0..places.len()).any(|i| (0..3).any(|k| bad(64 + 32 * i + 8 * k))) {
+        return 6;
+    }
+    0
+}
+
+/// "Unused bytes and fields of absent parts are zero".
+fn zero(bytes: &[u8]) -> bool {
+    bytes.iter().all(|&b| b == 0)
+}
+
+/// "General: 0 data limit, 8 elsewhere limit, 16 channel width, 24 carrier offset, 32 carrier
+/// tolerance (f64 each); bytes 40 region, 41 reading (0 power, 1 spectral, 2 wider), 42 flags
+/// (bit 0 elsewhere, 1 response required, a field of elsewhere, 2 channels, 3 60 m emissions,
+/// 4 plan), 43 channel band, 44 sideband (0 upper, 1 lower), 45 emission bits; u16 rules at 46
+/// data, 48 elsewhere, 50 automatic segments, 52 channels, 54 emissions, 56 privileges."
+fn block_is_right(b: &[u8]) -> bool {
+    let flags = b[42];
+    let elsewhere = flags & 1 != 0;
+    let response = flags & 2 != 0;
+    let channels = flags & 4 != 0;
+    let emissions = flags & 8 != 0;
+    b[41] <= 2
+        && flags < 32
+        && b[44] <= 1
+        && b[45] < 16
+        && zero(&b[58..64])
+        && (elsewhere || (!response && zero(&b[8..16]) && zero(&b[48..50])))
+        && (channels || (zero(&b[16..40]) && zero(&b[43..45]) && zero(&b[52..54])))
+        && (emissions || (b[45] == 0 && zero(&b[54..56])))
+}
+
+/// "Record: 0 low, 8 high, 16 figure (f64); bytes 24 band, 25 class, 26 emission bits, 27 flags;
+/// u16 at 28 rule, 30 second rule. Tables: bands (low, high, band); data segments (plus figure
+/// under flag bit 0, rule, second rule under bit 1); channels (low is the centre); privileges
+/// (range, class number, emission bits under flag bit 0, rule under bit 1); automatic segments
+/// (range); excluded (band, rule); power (range, figure in watts, class bits under flag bit 0,
+/// rule); plan data and plan avoid (range, label number in rule)."
+fn record_is_right(table: usize, r: &[u8]) -> bool {
+    let (figure, band, class, emissions, flags) = (&r[16..24], r[24], r[25], r[26], r[27]);
+    let (rule, second) = (&r[28..30], &r[30..32]);
+    match table {
+        BANDS => zero(figure) && class == 0 && emissions == 0 && flags == 0 && zero(&r[28..32]),
+        SEGMENTS => {
+            flags < 4
+                && (flags & 1 != 0 || zero(figure))
+                && (class == 0 && emissions == 0)
+                && (flags & 2 != 0 || zero(second))
+        }
+        CHANNELS => zero(&r[8..32]),
+        PRIVILEGES => {
+            (zero(figure) && band == 0)
+                && (class <= 4 && flags < 4 && emissions < 16)
+                && (flags & 1 != 0 || emissions == 0)
+                && (flags & 2 != 0 || zero(rule))
+                && zero(&r[30..32])
+        }
+        AUTOMATIC => zero(&r[16..32]),
+        EXCLUDED => zero(&r[0..24]) && class == 0 && zero(&r[26..28]) && zero(&r[30..]),
+        POWER => {
+            (band == 0 && emissions == 0)
+                && (class < 32 && flags < 2)
+                && (flags == 1 || class == 0)
+                && zero(&r[30..=31])
+        }
+        PLAN_DATA | PLAN_AVOID => zero(&r[16..28]) && zero(&r[30..][..2]),
+        _ => unreachable!(),
+    }
+}
+
+/// "share a stretch of positive length"
+fn two_share(records: &[Record]) -> bool {
+    records.iter().enumerate().any(|(i, a)| {
+        records[..i]
+            .iter()
+            .any(|b| a.low.max(b.low) < a.high.min(b.high))
+    })
+}
+
+/// "A table is *tidy* if each data segment lies in a band of its number, and no two bands, no two
+/// segments, and no two privileges of one class share a stretch of positive length."
+pub fn tidy(table: &Table) -> bool {
+    let at_home = table.tables[SEGMENTS].iter().all(|s| {
+        table.tables[BANDS]
+            .iter()
+            .any(|b| b.band == s.band && s.low >= b.low && s.high <= b.high)
+    });
+    let class_shares = |class: u8| {
+        let of: Vec<Record> = table.tables[PRIVILEGES]
+            .iter()
+            .filter(|p| p.class == class)
+            .copied()
+            .collect();
+        two_share(&of)
+    };
+    at_home
+        && !two_share(&table.tables[BANDS])
+        && !two_share(&table.tables[SEGMENTS])
+        && !(0..5).any(class_shares)
+}
+
+// ----------------------------------------------------------------------- station and signal
+
+/// "Station codes: policy 0 unset, 1 none, 2 rules, 3 broken; control 0 local, 1 remote,
+/// 2 automatic; sideband 0 upper, 1 lower; direction 0 originate, 1 respond, 2 operator; kinds as
+/// emission bits; 255 for an absent control, licence or sideband. The plan mark is 0 or 1. Dial and
+/// power have a presence byte 0 or 1; at 0 the figure isn't looked at."
+pub fn station_refusal(s: &Station, direction: u8, kind: u8) -> u8 {
+    let codes_right = s.policy <= 3
+        && (s.control <= 2 || s.control == 255)
+        && (s.license <= 4 || s.license == 255)
+        && (s.sideband <= 1 || s.sideband == 255)
+        && s.band_plan <= 1
+        && s.dial_known <= 1
+        && s.power_known <= 1
+        && direction <= 2
+        && kind <= 3;
+    if !codes_right {
+        return 20;
+    }
+    if out_of_size(s.margin_hz) {
+        return 21;
+    }
+    if s.dial_known == 1 && out_of_size(s.dial_hz) {
+        return 21;
+    }
+    if s.power_known == 1 && out_of_size(s.power_w) {
+        return 21;
+    }
+    0
+}
+
+/// "22 Rules in force and an image of length 0"; "Images are read only under Rules."
+/// `refused` is what the image check says, 1 to 14 or 0.
+pub fn image_refusal(s: &Station, length: usize, refused: u8) -> u8 {
+    if s.policy != 2 {
+        return 0;
+    }
+    if length == 0 {
+        return 22;
+    }
+    refused
+}
+
+/// "15 an edge not finite or above 2^40 in size"
+pub fn edges_refused(e: &Edges) -> bool {
+    e.figures().into_iter().any(out_of_size)
+}
+
+/// "16 rungs not in fours, over 256, or floor bytes not one each of 0 or 1"
+pub fn rungs_refused(rungs: &[f64], floors: &[u8]) -> bool {
+    let count = rungs.len() / 4;
+    rungs.len() % 4 != 0
+        || count > 256
+        || floors.len() != count
+        || floors.iter().any(|&f| f > 1)
+}
+
+/// "A fresh station record follows `Situation`'s `Default`: region 0, margin 0, plan off, the rest
+/// absent."
+pub const FRESH: Station = Station {
+    margin_hz: 0.0,
+    dial_hz: 0.0,
+    power_w: 0.0,
+    policy: 0,
+    control: 255,
+    license: 255,
+    sideband: 255,
+    itu_region: 0,
+    band_plan: 0,
+    dial_known: 0,
+    power_known: 0,
+};
+
+// ------------------------------------------------------- parts that the Rust has only as text
+
+/// "`holds` and `overlaps` include both ends."
+fn overlaps(r: &Record, low: f64, high: f64) -> bool {
+    r.low <= high && low <= r.high
+}
+
+/// For code 10 the band given is the first that the guarded range touches, if any.
+pub fn touching(table: &Table, (lo, hi): (f64, f64), margin: f64) -> Option<usize> {
+    let (glo, ghi) = (lo - margin, hi + margin);
+    table.tables[BANDS].iter().position(|b| overlaps(b, glo, ghi))
+}
+
+/// Code 13's overshoot: which segment, and the answer.
+#[derive(Clone, Copy, Debug, PartialEq)]
+pub struct Overshoot {
+    pub segment: usize,
+    /// Above 0: beyond the edge by that; 0: merely too close.
+    pub by: f64,
+    pub upper: bool,
+}
+
+/// "Outside every segment: among segments overlapping the guarded range take the least overshoot
+/// (unguarded), first at a tie. The answer is either beyond an edge by a distance or merely too
+/// close to an edge. Above ≥ below names the upper edge." The nearest goes by the sum of both
+/// sides, the distance is the greater side.
+pub fn overshoot(table: &Table, (lo, hi): (f64, f64), margin: f64) -> Option<Overshoot> {
+    let (glo, ghi) = (lo - margin, hi + margin);
+    let side = |x: f64| if x > 0.0 { x } else { 0.0 };
+    let mut best: Option<(f64, Overshoot)> = None;
+    for (segment, r) in table.tables[SEGMENTS].iter().enumerate() {
+        if !overlaps(r, glo, ghi) {
+            continue;
+        }
+        let (below, above) = (side(r.low - lo), side(hi - r.high));
+        let sum = below + above;
+        if best.is_none_or(|(least, _)| sum < least) {
+            let upper = above >= below;
+            let by = if upper { above } else { below };
+            best = Some((sum, Overshoot { segment, by, upper }));
+        }
+    }
+    best.map(|b| b.1)
+}
+
+#[derive(Clone, Copy, Debug, PartialEq)]
+pub enum Guidance {
+    None,
+    Avoid(usize),
+    Inside(usize),
+    Outside,
+}
+
+/// "`advise` gets the unguarded range, except in automatic judging, where the margin is taken off
+/// and put back in floats." Taken off the guarded range, that is: (lo − m) + m and (hi + m) − m.
+pub fn advised_range(automatic: bool, (lo, hi): (f64, f64), margin: f64) -> (f64, f64) {
+    if automatic {
+        ((lo - margin) + margin, (hi + margin) - margin)
+    } else {
+        (lo, hi)
+    }
+}
+
+/// The power records whose note is given: those that touch the range, are meant for the class, and
+/// whose watts are strictly below the station's.
+pub fn power_notes(table: &Table, (lo, hi): (f64, f64), license: u8, watts: Option<f64>) -> Vec<usize> {
+    let Some(watts) = watts else {
+        return Vec::new();
+    };
+    let given = |r: &Record| {
+        let meant = r.flags & 1 == 0 || r.class >> license & 1 == 1;
+        meant && overlaps(r, lo, hi) && watts > r.figure
+    };
+    let records = table.tables[POWER].iter().enumerate();
+    records.filter(|(_, r)| given(r)).map(|(i, _)| i).collect()
+}
+
+/// Guidance: the first area to avoid that the range touches; else the first data area that holds
+/// it; else outside. None where the station doesn't ask or the table has no plan.
+pub fn guidance(table: &Table, (lo, hi): (f64, f64), asked: bool) -> Guidance {
+    if !asked || table.flags & 16 == 0 {
+        return Guidance::None;
+    }
+    let avoid = &table.tables[PLAN_AVOID];
+    if let Some(i) = avoid.iter().position(|r| overlaps(r, lo, hi)) {
+        return Guidance::Avoid(i);
+    }
+    let data = &table.tables[PLAN_DATA];
+    let inside = |r: &Record| lo >= r.low && hi <= r.high;
+    data.iter().position(inside).map_or(Guidance::Outside, Guidance::Inside)
+}
+
+/// "Warnings are strictly above 100 W and 9.15 W."
+pub fn above_channel_watts(watts: Option<f64>) -> bool {
+    watts.is_some_and(|w| w > 100.0)
+}
+
+pub fn above_segment_watts(watts: Option<f64>) -> bool {
+    watts.is_some_and(|w| w > 9.15)
+}

@@ -1,0 +1,157 @@
+//! The table image: put together from a table, and read byte by byte.
+
+/// Document 01's nine tables, in its order.
+pub const BANDS: usize = 0;
+pub const SEGMENTS: usize = 1;
+pub const CHANNELS: usize = 2;
+pub const PRIVILEGES: usize = 3;
+pub const AUTOMATIC: usize = 4;
+pub const EXCLUDED: usize = 5;
+pub const POWER: usize = 6;
+pub const PLAN_DATA: usize = 7;
+pub const PLAN_AVOID: usize = 8;
+
+/// Flags of the general block.
+pub const ELSEWHERE: u8 = 1;
+pub const RESPONSE: u8 = 2;
+pub const HAS_CHANNELS: u8 = 4;
+pub const HAS_EMISSIONS: u8 = 8;
+pub const HAS_PLAN: u8 = 16;
+
+#[derive(Clone, Copy, Default, Debug)]
+pub struct Record {
+    pub low: f64,
+    pub high: f64,
+    pub figure: f64,
+    pub band: u8,
+    pub class: u8,
+    pub emissions: u8,
+    pub flags: u8,
+    pub rule: u16,
+    pub second: u16,
+}
+
+#[derive(Clone, Default, Debug)]
+pub struct Table {
+    pub data_limit: f64,
+    pub elsewhere_limit: f64,
+    pub width: f64,
+    pub offset: f64,
+    pub tolerance: f64,
+    pub region: u8,
+    pub reading: u8,
+    pub flags: u8,
+    pub channel_band: u8,
+    pub sideband: u8,
+    pub emissions: u8,
+    /// data, elsewhere, automatic segments, channels, emissions, privileges
+    pub rules: [u16; 6],
+    pub tables: [Vec<Record>; 9],
+}
+
+impl Table {
+    /// The image's bytes, as it is: nothing is checked or put right.
+    pub fn encode(&self) -> Vec<u8> {
+        let mut out = Vec::new();
+        for x in [
+            self.data_limit,
+            self.elsewhere_limit,
+            self.width,
+            self.offset,
+            self.tolerance,
+        ] {
+            out.extend(x.to_bits().to_le_bytes());
+        }
+        out.extend([
+            self.region,
+            self.reading,
+            self.flags,
+            self.channel_band,
+            self.sideband,
+            self.emissions,
+        ]);
+        for rule in self.rules {
+            out.extend(rule.to_le_bytes());
+        }
+        out.extend([0; 6]);
+        for r in self.tables.iter().flatten() {
+            out.extend(r.encode());
+        }
+        let front = out.len() as u32;
+        for t in &self.tables {
+            out.extend((t.len() as u16).to_le_bytes());
+        }
+        out.extend(front.to_le_bytes());
+        out.extend(1u16.to_le_bytes());
+        out.extend(b"EDGE");
+        out
+    }
+
+    pub fn has(&self, flag: u8) -> bool {
+        self.flags & flag != 0
+    }
+}
+
+impl Record {
+    pub fn encode(&self) -> [u8; 32] {
+        let mut out = [0; 32];
+        out[0..8].copy_from_slice(&self.low.to_bits().to_le_bytes());
+        out[8..16].copy_from_slice(&self.high.to_bits().to_le_bytes());
+        out[16..24].copy_from_slice(&self.figure.to_bits().to_le_bytes());
+        out[24..28].copy_from_slice(&[self.band, self.class, self.emissions, self.flags]);
+        out[28..30].copy_from_slice(&self.rule.to_le_bytes());
+        out[30..32].copy_from_slice(&self.second.to_le_bytes());
+        out
+    }
+}
+
+pub fn u16_at(b: &[u8], at: usize) -> u16 {
+    u16::from_le_bytes([b[at], b[at + 1]])
+}
+
+pub fn u32_at(b: &[u8], at: usize) -> u32 {
+    u32::from_le_bytes(b[at..at + 4].try_into().unwrap())
+}
+
+pub fn f64_at(b: &[u8], at: usize) -> f64 {
+    f64::from_bits(u64::from_le_bytes(b[at..at + 8].try_into().unwrap()))
+}
+
+/// The table of an image that refusals 1 to 4 let pass.
+pub fn decode(image: &[u8]) -> Table {
+    let end = image.len() - 28;
+    let mut table = Table {
+        data_limit: f64_at(image, 0),
+        elsewhere_limit: f64_at(image, 8),
+        width: f64_at(image, 16),
+        offset: f64_at(image, 24),
+        tolerance: f64_at(image, 32),
+        region: image[40],
+        reading: image[41],
+        flags: image[42],
+        channel_band: image[43],
+        sideband: image[44],
+        emissions: image[45],
+        rules: [46, 48, 50, 52, 54, 56].map(|at| u16_at(image, at)),
+        tables: Default::default(),
+    };
+    let mut at = 64;
+    for t in 0..9 {
+        for _ in 0..u16_at(image, end + 2 * t) {
+            let r = &image[at..at + 32];
+            table.tables[t].push(Record {
+                low: f64_at(r, 0),
+                high: f64_at(r, 8),
+                figure: f64_at(r, 16),
+                band: r[24],
+                class: r[25],
+                emissions: r[26],
+                flags: r[27],
+                rule: u16_at(r, 28),
+                second: u16_at(r, 30),
+            });
+            at += 32;
+        }
+    }
+    table
+}
