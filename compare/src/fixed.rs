@@ -1,0 +1,2 @@
+use crate::Run;
+pub fn run(_run: &mut Run) {}

@@ -1,0 +1,6 @@
+//! The Rust that is compared with, unchanged (build.rs puts it there), and its answers.
+
+use crate::expect;
+include!(concat!(env!("OUT_DIR"), "/oracle.rs"));
+#[path = "adapter.rs"]
+pub mod adapter;

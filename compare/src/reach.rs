@@ -1,0 +1,195 @@
+//! What a run reached. A count of 0 for anything that can be reached fails the run.
+
+use std::collections::BTreeMap;
+
+use crate::ffi::Decision;
+
+pub type Key = (&'static str, u16, u16);
+
+#[derive(Default)]
+pub struct Reach {
+    counts: BTreeMap<Key, u64>,
+}
+
+const CALLS: [(&str, &[u16]); 6] = [
+    ("check refused", &[1, 2, 3, 4, 5, 6, 7, 8, 9, 10, 11, 12, 13, 14]),
+    ("tidy refused", &[1, 2, 3, 4, 5, 6, 7, 8, 9, 10, 11, 12, 13, 14]),
+    ("verdict refused", &[1, 2, 3, 4, 5, 6, 7, 8, 9, 10, 11, 12, 13, 14, 15, 20, 21, 22]),
+    ("unmeasured refused", &[1, 2, 3, 4, 5, 6, 7, 8, 9, 10, 11, 12, 13, 14, 20, 21, 22]),
+    ("ceiling refused", &[1, 2, 3, 4, 5, 6, 7, 8, 9, 10, 11, 12, 13, 14, 15, 16, 20, 21, 22]),
+    ("dial list refused", &[1, 2, 3, 4, 5, 6, 7, 8, 9, 10, 11, 12, 13, 14, 15, 20, 21, 22, 23]),
+];
+
+/// Every code in every verdict that it can have: 0 legal, 1 warning, 2 blocked.
+const VERDICTS: [(u16, &[u16]); 25] = [
+    (1, &[2]),
+    (2, &[2]),
+    (3, &[0]),
+    (4, &[2]),
+    (5, &[2]),
+    (6, &[2]),
+    (7, &[2]),
+    (8, &[2]),
+    (9, &[2]),
+    (10, &[2]),
+    (11, &[2]),
+    (12, &[2]),
+    (13, &[2]),
+    (14, &[2]),
+    (15, &[2]),
+    (16, &[0, 1]),
+    (17, &[0, 1]),
+    (18, &[2]),
+    (19, &[2]),
+    (20, &[2]),
+    (21, &[0, 1]),
+    (22, &[2]),
+    (23, &[2]),
+    (24, &[0, 1, 2]),
+    (25, &[0, 1]),
+];
+
+/// Codes that the limit of a ceiling can have: the blocked ones for data, 4 apart.
+const LIMITS: [u16; 19] = [
+    1, 2, 5, 6, 7, 8, 9, 10, 11, 12, 13, 14, 15, 18, 19, 20, 22, 23, 24,
+];
+
+pub const OTHER: [Key; 42] = [
+    // 1 beyond, 2 too close; edge 0 lower, 1 upper. "Too close" never names the lower edge.
+    ("overshoot, edge", 1, 0),
+    ("overshoot, edge", 1, 1),
+    ("overshoot, edge", 2, 1),
+    // code 10: a band touched or none
+    ("touching band", 0, 0),
+    ("touching band", 1, 0),
+    // guidance (none, avoid, inside, outside) for the three codes that can have it
+    ("code, guidance", 16, 0),
+    ("code, guidance", 16, 1),
+    ("code, guidance", 16, 2),
+    ("code, guidance", 16, 3),
+    ("code, guidance", 17, 0),
+    ("code, guidance", 17, 1),
+    ("code, guidance", 17, 2),
+    ("code, guidance", 17, 3),
+    ("code, guidance", 21, 0),
+    ("code, guidance", 21, 1),
+    ("code, guidance", 21, 2),
+    ("code, guidance", 21, 3),
+    // power notes for the three codes
+    ("power note", 16, 0),
+    ("power note", 17, 0),
+    ("power note", 21, 0),
+    // 60 m notes
+    ("mark channel power", 0, 0),
+    ("mark shared", 0, 0),
+    ("mark segment power", 0, 0),
+    // code 15 with rule 1, rule 6, and the general block's
+    ("code 15 by rule", 1, 0),
+    ("code 15 by rule", 6, 0),
+    ("code 15 by rule", 7, 0),
+    // kinds of code 16
+    ("code 16 by kind", 0, 0),
+    ("code 16 by kind", 1, 0),
+    ("code 16 by kind", 2, 0),
+    ("code 16 by kind", 3, 0),
+    // code 12 off 60 m (no segment) and on it (segment)
+    ("code 12, segment", 0, 0),
+    ("code 12, segment", 1, 0),
+    // ceilings: rung known, limit known
+    ("ceiling rung, limit", 0, 0),
+    ("ceiling rung, limit", 0, 1),
+    ("ceiling rung, limit", 1, 0),
+    ("ceiling rung, limit", 1, 1),
+    // dial lists: rows none, one, several, more than 16 bits count
+    ("dial list rows", 0, 0),
+    ("dial list rows", 1, 0),
+    ("dial list rows", 2, 0),
+    ("dial list rows", 3, 0),
+    // tidy or not
+    ("tidy", 0, 0),
+    ("tidy", 1, 0),
+];
+
+impl Reach {
+    pub fn count(&mut self, what: &'static str, a: u16, b: u16) {
+        *self.counts.entry((what, a, b)).or_default() += 1;
+    }
+
+    pub fn decision(&mut self, d: &Decision, kind: u8) {
+        let code = u16::from(d.code);
+        self.count("code, verdict", code, u16::from(d.verdict));
+        match d.code {
+            10 => self.count("touching band", u16::from(d.band_known), 0),
+            12 => self.count("code 12, segment", u16::from(d.segment_known), 0),
+            13 => self.count("overshoot, edge", u16::from(d.overshoot), u16::from(d.edge)),
+            15 => self.count("code 15 by rule", d.rule.min(7), 0),
+            _ => {}
+        }
+        if d.code == 16 {
+            self.count("code 16 by kind", u16::from(kind), 0);
+        }
+        if kind == 0 && matches!(d.code, 16 | 17 | 21) {
+            self.count("code, guidance", code, u16::from(d.guidance));
+            if d.guidance == 1 || d.guidance == 2 {
+                self.count("guidance, index", u16::from(d.guidance), d.guidance_index);
+            }
+            for i in (0..256).filter(|&i| d.notes[i] != 0) {
+                self.count("note at", i as u16, 0);
+                self.count("power note", code, 0);
+            }
+        }
+        if d.note_channel_power != 0 {
+            self.count("mark channel power", 0, 0);
+        }
+        if d.note_shared != 0 {
+            self.count("mark shared", 0, 0);
+        }
+        if d.note_segment_power != 0 {
+            self.count("mark segment power", 0, 0);
+        }
+    }
+
+    fn required() -> Vec<Key> {
+        let mut out = OTHER.to_vec();
+        for (call, numbers) in CALLS {
+            out.extend(numbers.iter().map(|&n| (call, n, 0)));
+        }
+        for (code, verdicts) in VERDICTS {
+            out.extend(verdicts.iter().map(|&v| ("code, verdict", code, v)));
+        }
+        out.extend(LIMITS.map(|code| ("ceiling limit", code, 0)));
+        out.extend((0..256).map(|i| ("note at", i, 0)));
+        for guidance in [1, 2] {
+            out.extend((0..256).map(|i| ("guidance, index", guidance, i)));
+        }
+        out
+    }
+
+    pub fn missing(&self) -> Vec<Key> {
+        Self::required()
+            .into_iter()
+            .filter(|k| !self.counts.contains_key(k))
+            .collect()
+    }
+
+    /// Every count, except the long runs of notes and indices, of which the least is given.
+    pub fn print(&self) {
+        let mut long: BTreeMap<(&str, u16), (u64, u64)> = BTreeMap::new();
+        for (&(what, a, b), &n) in &self.counts {
+            match what {
+                "note at" => {
+                    let e = long.entry((what, 0)).or_insert((0, u64::MAX));
+                    *e = (e.0 + 1, e.1.min(n));
+                }
+                "guidance, index" => {
+                    let e = long.entry((what, a)).or_insert((0, u64::MAX));
+                    *e = (e.0 + 1, e.1.min(n));
+                }
+                _ => println!("  {what} {a} {b}: {n}"),
+            }
+        }
+        for ((what, a), (places, least)) in long {
+            println!("  {what} ({a}): {places} places, the least reached {least} times");
+        }
+    }
+}
