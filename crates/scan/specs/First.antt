@@ -143,3 +143,8 @@ some-false test n e = go (first test n) refl e
     go : (f : Found) → first test n ≡ f → isAt f ≡ false → (k : ℕ) → k < n → test k ≡ false
     go (At i) p q = absurd (true≢false q)
     go Nothing p q = first-nothing test n p
+
+-- by what a scan found: one thing at an index, another where there is nothing
+abbrev pub onFound : {A : Type 0} → Found → (ℕ → A) → A → A
+onFound (At i) f a = f i
+onFound Nothing f a = a
