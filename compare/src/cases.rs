@@ -302,6 +302,18 @@ fn small_table(rng: &mut Rng, scale: Scale, base: Option<Signal>, class: u8) -> 
         }
         tables[PRIVILEGES].push(r);
     }
+    if rng.chance(55) {
+        // a friendly table: one band, one privilege, perhaps one segment over everything
+        let (low, high) = whole(&pool);
+        (tables[BANDS][0].low, tables[BANDS][0].high) = (low, high);
+        let at = rng.below(tables[PRIVILEGES].len() + 1);
+        tables[PRIVILEGES].insert(at, Record { low, high, class, ..Record::default() });
+        if rng.chance(50) {
+            let at = rng.below(tables[SEGMENTS].len() + 1);
+            let band = tables[BANDS][0].band;
+            tables[SEGMENTS].insert(at, Record { low, high, band, rule: rule(rng), ..Record::default() });
+        }
+    }
     for _ in 0..rng.below(4) {
         let (low, high) = if rng.chance(20) { whole(&pool) } else { range_of(rng, &pool) };
         tables[AUTOMATIC].push(Record { low, high, ..Record::default() });
@@ -625,6 +637,41 @@ pub fn long_list(rng: &mut Rng) -> World {
     settle(t, Scale::Eighths, None, 4)
 }
 
+/// A world with 256 power records and 256 of each plan table, small ones side by side, so that every
+/// mark and every index is met.
+pub fn marks(rng: &mut Rng) -> World {
+    let class = rng.below(5) as u8;
+    let span = |low: f64, high: f64| Record { low, high, ..Record::default() };
+    let mut t = Table {
+        data_limit: 40.0,
+        elsewhere_limit: 20.0,
+        region: 2,
+        reading: rng.below(3) as u8,
+        flags: ELSEWHERE | HAS_PLAN,
+        rules: [7, 8, 9, 0, 0, 12],
+        ..Table::default()
+    };
+    t.tables[BANDS].push(Record { band: 20, ..span(-100.0, 9000.0) });
+    t.tables[SEGMENTS].push(Record { band: 20, rule: 13, ..span(-50.0, 8000.0) });
+    t.tables[PRIVILEGES].push(Record { class, ..span(-50.0, 8500.0) });
+    t.tables[AUTOMATIC].push(span(0.0, 4000.0));
+    for i in 0..256 {
+        let low = 30.0 * i as f64;
+        let mut r = Record { figure: watts(rng), rule: rule(rng), ..span(low, low + 12.0) };
+        if rng.chance(20) {
+            (r.flags, r.class) = (1, rng.below(32) as u8 | 1 << class);
+        }
+        t.tables[POWER].push(r);
+        t.tables[PLAN_DATA].push(Record { rule: rule(rng), ..span(low, low + 15.0) });
+        t.tables[PLAN_AVOID].push(Record { rule: rule(rng), ..span(low + 20.0, low + 22.0) });
+    }
+    for table in [POWER, PLAN_DATA, PLAN_AVOID] {
+        let by = rng.below(256);
+        t.tables[table].rotate_left(by);
+    }
+    settle(t, Scale::Eighths, None, class)
+}
+
 pub fn settle(table: Table, scale: Scale, base: Option<Signal>, class: u8) -> World {
     let mut targets = Vec::new();
     let mut widths = vec![table.data_limit];
@@ -665,21 +712,32 @@ impl World {
         nudge(rng, self.scale, x, 25)
     }
 
+    /// A target among the next ones to a figure.
+    fn target_near(&self, rng: &mut Rng, x: f64) -> f64 {
+        let n = self.targets.len();
+        let at = self.targets.partition_point(|t| *t < x) + rng.below(6);
+        let y = self.targets[at.saturating_sub(3).min(n - 1)];
+        nudge(rng, self.scale, y, 25)
+    }
+
     /// A width worth trying.
     fn width(&self, rng: &mut Rng) -> f64 {
         let x = match rng.below(5) {
             0..=2 => rng.pick(&self.widths),
-            3 => (rng.pick(&self.targets) - rng.pick(&self.targets)).abs(),
+            3 => {
+                let x = rng.pick(&self.targets);
+                (x - self.target_near(rng, x)).abs()
+            }
             _ => unit(rng, self.scale) * rng.below(40) as f64,
         };
         let x = if x >= BIG { unit(rng, self.scale) * rng.below(40) as f64 } else { x };
         nudge(rng, self.scale, x, 20)
     }
 
-    /// Audio edges for a given dial: both ends on targets, or one end and a width.
+    /// Audio edges for a given dial: both ends on targets near it, or one end and a width.
     fn audio(&self, rng: &mut Rng, dial: f64, margin: f64, sideband: u8) -> (f64, f64) {
         let m = if rng.chance(75) { margin } else { 0.0 };
-        let (mut x, mut y) = (self.target(rng), self.target(rng));
+        let (mut x, mut y) = (self.target_near(rng, dial), self.target_near(rng, dial));
         if x > y && rng.chance(90) {
             (x, y) = (y, x);
         }
@@ -708,21 +766,35 @@ impl World {
         }
         let margin = some_margin(rng, self.scale);
         let sideband = rng.below(2) as u8;
-        let low = some_audio(rng, self.scale);
+        // the guarded range on the targets, or the range itself
         let m = if rng.chance(75) { margin } else { 0.0 };
-        let x = self.target(rng);
-        let dial = match rng.below(5) {
-            // the lower end on a target; the upper on the lower sideband
-            0..=2 if sideband == 0 => x - low + m,
-            0..=2 => x + low - m,
-            // the carrier, or the dial alone
-            _ => x,
-        };
-        let (low, high) = if rng.chance(30) {
-            (low, low + self.width(rng))
-        } else {
-            let (a, b) = self.audio(rng, dial, margin, sideband);
-            if rng.chance(60) { (low, b) } else { (a, b) }
+        let near = some_audio(rng, self.scale);
+        let mut x = self.target(rng);
+        let mut y = if rng.chance(70) { self.target_near(rng, x) } else { self.target(rng) };
+        if x > y && rng.chance(90) {
+            (x, y) = (y, x);
+        }
+        let width = self.width(rng);
+        // `near` is the audio edge next to the dial: the low one, so the air's low end on upper
+        // sideband and its high end on lower
+        let (dial, low, high) = match rng.below(10) {
+            0..=3 if sideband == 0 => {
+                let dial = x - near + m;
+                (dial, near, y - dial - m)
+            }
+            0..=3 => {
+                let dial = y + near - m;
+                (dial, near, dial - x - m)
+            }
+            4 | 5 if sideband == 0 => (x - near + m, near, near + width),
+            4 | 5 => (y + near - m, near, near + width),
+            6 | 7 if sideband == 0 => (y - near - width - m, near, near + width),
+            6 | 7 => (x + near + width + m, near, near + width),
+            8 => (x, near, near + width),
+            _ => {
+                let (low, high) = self.audio(rng, x, margin, sideband);
+                (x, low, high)
+            }
         };
         let mut s = Signal { dial, low, high, margin, sideband };
         if rng.chance(20) {
@@ -862,16 +934,18 @@ pub struct Ladder {
 }
 
 pub fn ladder(rng: &mut Rng, w: &World, s: &Signal) -> Ladder {
-    let narrow = |rng: &mut Rng| {
-        // mostly inside the signal, so that the rungs decide
+    // mostly inside the signal, so that a ladder climbs some way before it is stopped
+    let inside = |rng: &mut Rng, odd: usize| {
         let u = unit(rng, w.scale);
         let (mut low, mut high) = (s.low + u * rng.below(8) as f64, s.high - u * rng.below(8) as f64);
-        match rng.below(8) {
-            0 => (low, high) = w.audio(rng, s.dial, s.margin, s.sideband),
-            1 => low = nudge(rng, w.scale, s.low, 50),
-            2 => high = nudge(rng, w.scale, s.high, 50),
-            3 => (low, high) = (high, low),
-            _ => {}
+        if rng.chance(odd) {
+            match rng.below(5) {
+                0 => (low, high) = w.audio(rng, s.dial, s.margin, s.sideband),
+                1 => low = nudge(rng, w.scale, s.low, 80),
+                2 => high = nudge(rng, w.scale, s.high, 80),
+                3 => (low, high) = (high, low),
+                _ => (low, high) = (s.low - u * rng.below(8) as f64, s.high + u * rng.below(8) as f64),
+            }
         }
         w.edges(rng, low, high)
     };
@@ -881,22 +955,10 @@ pub fn ladder(rng: &mut Rng, w: &World, s: &Signal) -> Ladder {
         2 if rng.chance(10) => 256,
         _ => 1 + rng.below(7),
     };
-    let (ordinary, floor) = (narrow(rng), narrow(rng));
+    let (ordinary, floor) = (inside(rng, 15), inside(rng, 15));
     let (mut rungs, mut floors) = (Vec::new(), Vec::new());
     for _ in 0..count {
-        let e = match rng.below(10) {
-            0..=1 => {
-                let (low, high) = w.audio(rng, s.dial, s.margin, s.sideband);
-                w.edges(rng, low, high)
-            }
-            2..=3 => {
-                let low = nudge(rng, w.scale, s.low, 40);
-                let high = nudge(rng, w.scale, s.high, 40);
-                w.edges(rng, low, high)
-            }
-            _ => narrow(rng),
-        };
-        rungs.extend(e.figures());
+        rungs.extend(inside(rng, 25).figures());
         floors.push(rng.below(2) as u8);
     }
     Ladder { ordinary, floor, rungs, floors }
@@ -1057,7 +1119,7 @@ fn spoil_bytes(rng: &mut Rng, image: &mut Vec<u8>) {
         }
         1 => {
             if rng.chance(15) {
-                let more = 65_536 - n + rng.pick(&[0, 1, 2, 32, 1000]);
+                let more = 65_536usize.saturating_sub(n) + rng.pick(&[0, 1, 2, 32, 1000]);
                 let at = end;
                 image.splice(at..at, std::iter::repeat_n(0, more));
             } else {
@@ -1081,7 +1143,7 @@ fn spoil_bytes(rng: &mut Rng, image: &mut Vec<u8>) {
         }
         5 => {
             let far = u32_at(image, end + 18);
-            let to = rng.pick(&[far + 1, far.wrapping_sub(1), far + 32, far + 65_536, far | 1 << 31, 0, far + 28]);
+            let to = rng.pick(&[far.wrapping_add(1), far.wrapping_sub(1), far.wrapping_add(32), far ^ 65_536, far ^ 1 << 31, 0, far.wrapping_add(28)]);
             image[end + 18..end + 22].copy_from_slice(&to.to_le_bytes());
         }
         6 => {
@@ -1107,7 +1169,7 @@ fn spoil_bytes(rng: &mut Rng, image: &mut Vec<u8>) {
             if u16_at(image, a) > 0 {
                 let to = u16_at(image, a) - 1;
                 image[a..a + 2].copy_from_slice(&to.to_le_bytes());
-                let to = u16_at(image, b) + 1;
+                let to = u16_at(image, b).wrapping_add(1);
                 image[b..b + 2].copy_from_slice(&to.to_le_bytes());
             }
         }

@@ -1,2 +1,309 @@
+//! Cases with answers that the papers state: document 01's practice table, and the examples of
+//! READINGS.md. Both sides are run on them as on every other case, and the code, the verdict and
+//! what else is stated must be the papers'.
+
+use std::process::exit;
+
 use crate::Run;
-pub fn run(_run: &mut Run) {}
+use crate::cases::{self, Ladder, Rng};
+use crate::expect;
+use crate::ffi::{Decision, Edges, Station};
+use crate::image::*;
+
+fn span(low: f64, high: f64) -> Record {
+    Record { low, high, ..Record::default() }
+}
+
+fn centre(low: f64) -> Record {
+    Record { low, ..Record::default() }
+}
+
+/// "Region 2, Wider, general limit 2,800. Band 20: 14,000,000–14,350,000; segment 14,000,000–
+/// 14,150,000; General 14,025,000–14,150,000, all emissions; automatic 14,095,000–14,099,500 and
+/// 14,100,500–14,112,000; elsewhere 500, response required. Band 60, its General privilege alike:
+/// 5,330,000–5,407,000; segment 5,351,500–5,366,500; channel centre 5,332,000, width 2,800, offset
+/// 1,500, tolerance 50, upper; emissions data, cw. No power or plan records."
+pub fn practice() -> Table {
+    let mut t = Table {
+        data_limit: 2800.0,
+        elsewhere_limit: 500.0,
+        width: 2800.0,
+        offset: 1500.0,
+        tolerance: 50.0,
+        region: 2,
+        reading: 2,
+        flags: ELSEWHERE | RESPONSE | HAS_CHANNELS | HAS_EMISSIONS,
+        channel_band: 60,
+        emissions: 3,
+        rules: [7, 8, 9, 10, 11, 12],
+        ..Table::default()
+    };
+    t.tables[BANDS].push(Record { band: 20, ..span(14_000_000.0, 14_350_000.0) });
+    t.tables[BANDS].push(Record { band: 60, ..span(5_330_000.0, 5_407_000.0) });
+    t.tables[SEGMENTS].push(Record { band: 20, rule: 13, ..span(14_000_000.0, 14_150_000.0) });
+    t.tables[SEGMENTS].push(Record { band: 60, rule: 14, ..span(5_351_500.0, 5_366_500.0) });
+    t.tables[CHANNELS].push(centre(5_332_000.0));
+    t.tables[PRIVILEGES].push(Record { class: 2, ..span(14_025_000.0, 14_150_000.0) });
+    t.tables[PRIVILEGES].push(Record { class: 2, ..span(5_330_000.0, 5_407_000.0) });
+    t.tables[AUTOMATIC].push(span(14_095_000.0, 14_099_500.0));
+    t.tables[AUTOMATIC].push(span(14_100_500.0, 14_112_000.0));
+    t
+}
+
+/// READINGS.md: "band 1 is 0–100, its segment 20–80, an Extra's privilege 0–100, general limit 10".
+fn small() -> Table {
+    let mut t = Table { data_limit: 10.0, reading: 2, rules: [7, 0, 9, 0, 0, 12], ..Table::default() };
+    t.tables[BANDS].push(Record { band: 1, ..span(0.0, 100.0) });
+    t.tables[SEGMENTS].push(Record { band: 1, rule: 13, ..span(20.0, 80.0) });
+    t.tables[PRIVILEGES].push(Record { class: 4, ..span(0.0, 100.0) });
+    t
+}
+
+/// ""Sixty" is the same with band 1 as the channel band: a channel at 90, width 10, offset 2,
+/// tolerance 1."
+fn sixty() -> Table {
+    let mut t = small();
+    t.flags = HAS_CHANNELS;
+    (t.channel_band, t.width, t.offset, t.tolerance, t.rules[3]) = (1, 10.0, 2.0, 1.0, 10);
+    t.tables[CHANNELS].push(centre(90.0));
+    t
+}
+
+/// What is asked of one table.
+struct Asked<'a> {
+    run: &'a mut Run,
+    table: Table,
+    s: Station,
+    kind: u8,
+    direction: u8,
+    edges: (f64, f64),
+}
+
+impl Asked<'_> {
+    fn edges(&self) -> Edges {
+        let (low, high) = self.edges;
+        Edges::of([low, high, low, high])
+    }
+
+    fn verdict(&mut self, dial: f64) -> Decision {
+        let image = self.table.encode();
+        let p = self.run.image(&image);
+        self.s.dial_hz = dial;
+        let e = self.edges();
+        self.run.verdict(&image, &p, &self.s, self.kind, self.direction, &e)
+    }
+
+    /// The verdict's number (0 legal, 1 warning, 2 blocked) and the code.
+    fn gives(&mut self, what: &str, dial: f64, verdict: u8, code: u8) -> Decision {
+        let d = self.verdict(dial);
+        if (d.verdict, d.code) != (verdict, code) {
+            wrong(what, &format!("{} {}", d.verdict, d.code));
+        }
+        d
+    }
+
+    /// The listed dial ranges.
+    fn list(&mut self) -> Vec<(f64, f64)> {
+        let image = self.table.encode();
+        let p = self.run.image(&image);
+        let e = self.edges();
+        let rng = &mut Rng::new(self.run.seed, 0);
+        let found = self.run.dials(rng, &image, &p, &self.s, self.direction, &e, Some(2));
+        if found.refusal != 0 {
+            wrong("a list that fits", &found.refusal.to_string());
+        }
+        found.rows.chunks(36).map(|r| (f64_at(r, 16), f64_at(r, 24))).collect()
+    }
+
+    fn lists(&mut self, what: &str, want: &[(f64, f64)]) {
+        let rows = self.list();
+        if rows != want {
+            wrong(what, &format!("{rows:?}"));
+        }
+    }
+}
+
+fn wrong(what: &str, got: &str) -> ! {
+    println!("DIFFERENCE: the papers say {what:?}; the answer is {got}");
+    exit(1)
+}
+
+fn asked(run: &mut Run, table: Table, license: u8, region: u8, margin: f64, edges: (f64, f64)) -> Asked<'_> {
+    let s = Station {
+        margin_hz: margin,
+        policy: 2,
+        control: 0,
+        license,
+        sideband: 0,
+        itu_region: region,
+        dial_known: 1,
+        ..expect::FRESH
+    };
+    Asked { run, table, s, kind: 0, direction: 0, edges }
+}
+
+pub fn run(run: &mut Run) {
+    document_01(run);
+    readings(run);
+    every_mark(run);
+}
+
+fn document_01(run: &mut Run) {
+    let mut a = asked(run, practice(), 2, 2, 50.0, (1250.0, 1750.0));
+    a.gives("14,023,800 permitted", 14_023_800.0, 0, 16);
+    a.gives("14,023,799.875 privilege", 14_023_799.875, 2, 15);
+    a.gives("14,148,200 permitted", 14_148_200.0, 0, 16);
+    let d = a.gives("14,148,200.125 too close, upper", 14_148_200.125, 2, 13);
+    if (d.overshoot, d.edge, d.beyond_hz) != (2, 1, 0.0) {
+        wrong("too close, upper", &d.text());
+    }
+    let d = a.gives("14,148,500 beyond upper by 250", 14_148_500.0, 2, 13);
+    if (d.overshoot, d.edge, d.beyond_hz) != (1, 1, 250.0) {
+        wrong("beyond upper by 250", &d.text());
+    }
+    a.gives("14,149,000 no_data_here", 14_149_000.0, 2, 14);
+    a.edges = (100.0, 2900.0);
+    a.gives("edges 100–2,900 permitted", 14_100_000.0, 0, 16);
+    a.edges = (100.0, 2900.125);
+    a.gives("100–2,900.125 too_wide", 14_100_000.0, 2, 12);
+    a.edges = (1250.0, 1750.0);
+    a.s.control = 2;
+    a.gives("14,097,700 automatic_segment", 14_097_700.0, 0, 17);
+    a.gives("originating automatic_originate", 14_098_000.0, 2, 20);
+    a.direction = 1;
+    a.gives("responding automatic_response", 14_098_000.0, 0, 21);
+    a.direction = 0;
+    let rows = [(14_093_800.0, 14_097_700.0), (14_099_300.0, 14_110_200.0)];
+    a.lists("14,093,800–14,097,700, then 14,099,300–14,110,200", &rows);
+    a.s.control = 0;
+    a.gives("5,330,550 legal 24", 5_330_550.0, 0, 24);
+    a.gives("5,330,550.125 blocked 24", 5_330_550.125, 2, 24);
+    a.kind = 2;
+    a.gives("test kind 22", 5_330_550.0, 2, 22);
+    a.kind = 0;
+    (a.s.power_known, a.s.power_w) = (1, 100.0);
+    a.gives("100 W legal", 5_330_550.0, 0, 24);
+    a.s.power_w = 100.125;
+    a.gives("100.125 W warning", 5_330_550.0, 1, 24);
+    (a.s.power_known, a.s.power_w) = (0, 0.0);
+    a.s.dial_hz = 14_100_000.0;
+    let image = a.table.encode();
+    let p = a.run.image(&image);
+    let pair = |low, high| [low, high, low, high];
+    let mut l = Ladder {
+        ordinary: Edges::of(pair(1250.0, 1750.0)),
+        floor: Edges::of(pair(1250.0, 1750.0)),
+        rungs: [pair(1250.0, 1750.0), pair(1000.0, 2000.0), pair(0.0, 2900.0)].concat(),
+        floors: vec![0, 0, 0],
+    };
+    let c = a.run.ceiling(&image, &p, &a.s, 0, &l);
+    if c.rung != Some(1) || c.limit.is_none_or(|d| d.code != 12) {
+        wrong("rung 1, limit too_wide", &format!("{:?}", c.rung));
+    }
+    (l.rungs, l.floors) = (Vec::new(), Vec::new());
+    let c = a.run.ceiling(&image, &p, &a.s, 0, &l);
+    if c.rung.is_some() || c.limit.is_some() {
+        wrong("No rungs: neither", &format!("{:?}", c.rung));
+    }
+}
+
+/// READINGS.md, "The verdict" and "Where the Rust parts from Part 97 or from itself".
+fn readings(run: &mut Run) {
+    let mut t = small();
+    t.data_limit = 1000.0;
+    t.tables[SEGMENTS] = vec![
+        Record { band: 1, rule: 13, ..span(40.0, 60.0) },
+        Record { band: 1, rule: 14, ..span(20.0, 44.0) },
+    ];
+    let mut a = asked(run, t, 4, 0, 0.0, (0.0, 37.0));
+    let d = a.gives("segments 40–60 and 20–44, signal 30–67: beyond lower by 10", 30.0, 2, 13);
+    if (d.segment_low, d.overshoot, d.edge, d.beyond_hz) != (40.0, 1, 0, 10.0) {
+        wrong("the first, beyond lower by 10", &d.text());
+    }
+    let mut a = asked(run, small(), 4, 0, 0.0, (90.0, 10.0));
+    let d = a.gives("dial 0, edges 90–10: permitted", 0.0, 0, 16);
+    if d.width != -80.0 {
+        wrong("width −80", &d.text());
+    }
+    a.lists("−70–70 is listed", &[(-70.0, 70.0)]);
+    // 1
+    let mut a = asked(run, small(), 4, 0, 2.0, (0.0, 5.0));
+    let d = a.gives("1: margin 2, dial 21, edges 0–5", 21.0, 2, 13);
+    if (d.overshoot, d.edge) != (2, 1) {
+        wrong("1: too close always names the upper edge", &d.text());
+    }
+    // 2
+    let mut a = asked(run, sixty(), 4, 0, 0.0, (0.0, 5.0));
+    a.s.control = 2;
+    a.gives("2: sixty, automatic, originating, dial 88, 0–5 is legal 24", 88.0, 0, 24);
+    a.lists("2: no row is listed", &[]);
+    // 3
+    let mut t = sixty();
+    t.sideband = 1;
+    let mut a = asked(run, t, 4, 0, 0.0, (0.0, 5.0));
+    a.gives("3: byte 44 = 1, upper: blocked 24", 88.0, 2, 24);
+    a.lists("3: lists 88–88", &[(20.0, 75.0), (88.0, 88.0)]);
+    // 4
+    let mut t = sixty();
+    t.tables[CHANNELS].push(centre(500.0));
+    t.tables[SEGMENTS][0].high = 22.0;
+    let mut a = asked(run, t, 4, 0, 0.0, (0.0, 5.0));
+    a.lists("4: a second channel at 500 lists 498–498", &[(88.0, 88.0), (498.0, 498.0)]);
+    // 5
+    let mut t = sixty();
+    t.data_limit = 1.0;
+    let mut a = asked(run, t, 4, 0, 0.0, (0.0, 5.0));
+    a.gives("5: general limit 1, dial 88, 0–5 is legal 24", 88.0, 0, 24);
+    // 6
+    let mut a = asked(run, sixty(), 4, 0, 0.0, (-10.0, 10.0));
+    a.kind = 1;
+    a.gives("6: CW, dial 90, −10–10 is legal 24", 90.0, 0, 24);
+    // 8
+    let mut t = small();
+    t.tables[PRIVILEGES][0].high = 20.0;
+    let mut a = asked(run, t, 4, 0, 0.0, (0.0, 0.0));
+    a.gives("8: privilege 0–20, dial 20, edges 0–0 is permitted", 20.0, 0, 16);
+    a.lists("8: no row", &[]);
+    // 9
+    let mut t = small();
+    t.data_limit = 1000.0;
+    let mut a = asked(run, t, 4, 0, 12.200000000000001, (0.3, 0.7));
+    let d = a.verdict(31.9);
+    if !a.list().iter().any(|r| r.0 <= 31.9 && 31.9 <= r.1) || d.verdict != 2 {
+        wrong("9: margin 12.200000000000001 lists dial 31.9, which is blocked", &d.text());
+    }
+    a.s.margin_hz = 2.4000000000000004;
+    let x = 22.099999999999998;
+    let d = a.verdict(x);
+    if a.list().iter().any(|r| r.0 <= x && x <= r.1) || d.verdict == 2 {
+        wrong("9: margin 2.4000000000000004 allows 22.099999999999998, which isn't listed", &d.text());
+    }
+}
+
+/// Each of 256 power records, plan areas and areas to avoid, once at least.
+fn every_mark(run: &mut Run) {
+    let w = cases::marks(&mut Rng::new(run.seed, 0));
+    let p = run.image(&w.image);
+    let class = w.table.tables[PRIVILEGES][0].class;
+    let mut a = asked(run, w.table.clone(), class, 2, 0.25, (1.0, 2.0));
+    a.s.band_plan = 1;
+    (a.s.power_known, a.s.power_w) = (1, 1e6);
+    let e = a.edges();
+    for (control, direction) in [(0, 0), (2, 1)] {
+        a.s.control = control;
+        for table in [POWER, PLAN_DATA, PLAN_AVOID] {
+            for i in 0..256 {
+                a.s.dial_hz = w.table.tables[table][i].low;
+                let d = a.run.verdict(&w.image, &p, &a.s, 0, direction, &e);
+                let met = match table {
+                    POWER => d.notes[i] == 1,
+                    PLAN_DATA => (d.guidance, d.guidance_index) == (2, i as u16),
+                    _ => (d.guidance, d.guidance_index) == (1, i as u16),
+                };
+                if !met {
+                    wrong("a mark for each of 256", &format!("table {table}, {i}: {}", d.text()));
+                }
+            }
+        }
+    }
+}

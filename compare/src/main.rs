@@ -87,6 +87,13 @@ impl Inputs<'_> {
     }
 }
 
+/// A dial list: the refusal, the rows' bytes (none on a refusal), and how many bytes were lent.
+pub struct Found {
+    pub refusal: u8,
+    pub rows: Vec<u8>,
+    pub lent: usize,
+}
+
 /// A run: what was compared, and where it stands in its seed.
 pub struct Run {
     pub seed: u64,
@@ -283,8 +290,18 @@ impl Run {
         want
     }
 
-    /// The dial list, into `lent` bytes for each given length of the list's own.
-    pub fn dials(&mut self, rng: &mut Rng, image: &[u8], p: &Prepared, s: &Station, direction: u8, e: &Edges) -> Vec<u8> {
+    /// The dial list, into so many rows' bytes, or into a number of bytes about the list's own.
+    #[allow(clippy::too_many_arguments)]
+    pub fn dials(
+        &mut self,
+        rng: &mut Rng,
+        image: &[u8],
+        p: &Prepared,
+        s: &Station,
+        direction: u8,
+        e: &Edges,
+        room: Option<usize>,
+    ) -> Found {
         let mut inputs = Inputs {
             call: "safe_dials",
             station: Some(s),
@@ -302,6 +319,7 @@ impl Run {
         let n = rows.len();
         // exact; a few bytes more; whole rows more; a row or a byte too short; none at all
         let lent = match rng.below(12) {
+            _ if room.is_some() => 36 * room.unwrap_or(0),
             0..=4 => n,
             5 => n + 1 + rng.below(35),
             6 => n + 36 * (1 + rng.below(4)),
@@ -353,7 +371,7 @@ impl Run {
             self.refused += 1;
             self.reach.count("dial list refused", u16::from(refusal), 0);
         }
-        rows
+        Found { refusal, rows, lent }
     }
 }
 
@@ -377,12 +395,33 @@ impl Spoil {
     }
 }
 
-fn one_verdict(run: &mut Run, rng: &mut Rng, w: &World, image: &[u8], p: &Prepared) {
-    let signal = w.signal(rng);
-    let mut s = w.station(rng, &signal);
-    let mut e = w.edges(rng, signal.low, signal.high);
-    let mut kind = rng.pick(&[0, 0, 0, 0, 1, 2, 3]);
-    let mut direction = rng.below(3) as u8;
+/// A signal and a station that sends it. Most are drawn again, up to three times, while `dull`
+/// finds nothing in them: else half of all cases would end at the first test.
+fn draw(rng: &mut Rng, w: &World, dull: impl Fn(&mut Rng, &Station, &Edges, u8, u8) -> bool) -> (cases::Signal, Station, Edges, u8, u8) {
+    let mut tries = 0;
+    loop {
+        let signal = w.signal(rng);
+        let s = w.station(rng, &signal);
+        let e = w.edges(rng, signal.low, signal.high);
+        let kind = rng.pick(&[0, 0, 0, 0, 1, 2, 3]);
+        let direction = rng.below(3) as u8;
+        tries += 1;
+        if tries == 4 || rng.chance(25) || !dull(rng, &s, &e, kind, direction) {
+            return (signal, s, e, kind, direction);
+        }
+    }
+}
+
+/// Now and then no image at all.
+fn or_none<'a>(rng: &mut Rng, image: &'a [u8], p: &'a Prepared, none: &'a Prepared) -> (&'a [u8], &'a Prepared) {
+    if rng.below(400) == 0 { (&[], none) } else { (image, p) }
+}
+
+fn one_verdict(run: &mut Run, rng: &mut Rng, w: &World, (image, p): (&[u8], &Prepared)) {
+    let early = |d: Decision| matches!(d.code, 0 | 10) || (d.code == 15 && d.rule != 6);
+    let (_, mut s, mut e, mut kind, mut direction) = draw(rng, w, |_, s, e, kind, direction| {
+        adapter::evaluate(p, s, kind, direction, e).is_ok_and(early)
+    });
     let spoil = Spoil::draw(rng);
     if spoil.station {
         cases::spoil_station(rng, &mut s);
@@ -403,11 +442,11 @@ fn one_verdict(run: &mut Run, rng: &mut Rng, w: &World, image: &[u8], p: &Prepar
     }
 }
 
-fn one_ceiling(run: &mut Run, rng: &mut Rng, w: &World, image: &[u8], p: &Prepared) {
-    let signal = w.signal(rng);
-    let mut s = w.station(rng, &signal);
+fn one_ceiling(run: &mut Run, rng: &mut Rng, w: &World, (image, p): (&[u8], &Prepared)) {
+    let (signal, mut s, _, _, mut direction) = draw(rng, w, |_, s, e, _, direction| {
+        adapter::evaluate(p, s, 0, direction, e).is_ok_and(|d| d.verdict == 2)
+    });
     let mut l = cases::ladder(rng, w, &signal);
-    let mut direction = rng.below(3) as u8;
     let spoil = Spoil::draw(rng);
     if spoil.station {
         cases::spoil_station(rng, &mut s);
@@ -423,11 +462,10 @@ fn one_ceiling(run: &mut Run, rng: &mut Rng, w: &World, image: &[u8], p: &Prepar
     run.ceiling(image, p, &s, direction, &l);
 }
 
-fn one_list(run: &mut Run, rng: &mut Rng, w: &World, image: &[u8], p: &Prepared) {
-    let signal = w.signal(rng);
-    let mut s = w.station(rng, &signal);
-    let mut e = w.edges(rng, signal.low, signal.high);
-    let mut direction = rng.below(3) as u8;
+fn one_list(run: &mut Run, rng: &mut Rng, w: &World, (image, p): (&[u8], &Prepared)) {
+    let (_, mut s, mut e, _, mut direction) = draw(rng, w, |_, s, e, _, direction| {
+        adapter::safe_dials(p, s, direction, e).is_ok_and(|(_, rows)| rows.is_empty())
+    });
     let spoil = Spoil::draw(rng);
     if spoil.station {
         cases::spoil_station(rng, &mut s);
@@ -438,7 +476,7 @@ fn one_list(run: &mut Run, rng: &mut Rng, w: &World, image: &[u8], p: &Prepared)
     if spoil.edges {
         cases::spoil_edges(rng, &mut e);
     }
-    run.dials(rng, image, p, &s, direction, &e);
+    run.dials(rng, image, p, &s, direction, &e, None);
 }
 
 struct Wanted {
@@ -456,6 +494,7 @@ fn compare(run: &mut Run, wanted: &Wanted) {
         exit(1);
     }
     fixed::run(run);
+    let none = run.image(&[]);
     // verdicts, ceilings and lists of one world, in the proportion asked for
     let worlds = (wanted.verdicts / 40).max(wanted.ceilings / 4).max(wanted.dials / 4).max(1);
     let share = |n: u64, place: u64| (n * (place + 1)).div_ceil(worlds);
@@ -466,34 +505,41 @@ fn compare(run: &mut Run, wanted: &Wanted) {
         }
         run.place += 1;
         let rng = &mut Rng::new(run.seed, run.place);
-        let long = run.place % 20_000 == 500;
-        let w = if long { cases::long_list(rng) } else { cases::world(rng) };
+        let long = run.place % 20_000 == 501;
+        let w = match run.place % 100 {
+            _ if long => cases::long_list(rng),
+            25 | 50 | 75 => cases::marks(rng),
+            _ => cases::world(rng),
+        };
         let p = run.image(&w.image);
         if long {
             let s = Station { policy: 2, control: 2, license: 4, sideband: 0, itu_region: 2, ..expect::FRESH };
             let e = Edges::of([0.25, 0.5, 0.25, 0.5]);
             for _ in 0..3 {
-                run.dials(rng, &w.image, &p, &s, 0, &e);
+                run.dials(rng, &w.image, &p, &s, 0, &e, None);
             }
             continue;
         }
         let place = run.place;
         while run.verdicts < share(wanted.verdicts, place).min(wanted.verdicts) {
-            one_verdict(run, rng, &w, &w.image, &p);
+            let given = or_none(rng, &w.image, &p, &none);
+            one_verdict(run, rng, &w, given);
         }
         while run.ceilings < share(wanted.ceilings, place).min(wanted.ceilings) {
-            one_ceiling(run, rng, &w, &w.image, &p);
+            let given = or_none(rng, &w.image, &p, &none);
+            one_ceiling(run, rng, &w, given);
         }
         while run.dials < share(wanted.dials, place).min(wanted.dials) {
-            one_list(run, rng, &w, &w.image, &p);
+            let given = or_none(rng, &w.image, &p, &none);
+            one_list(run, rng, &w, given);
         }
         for _ in 0..2 {
             let image = cases::damaged(rng, &w);
             let p = run.image(&image);
             match rng.below(6) {
-                0 => one_verdict(run, rng, &w, &image, &p),
-                1 => one_ceiling(run, rng, &w, &image, &p),
-                2 => one_list(run, rng, &w, &image, &p),
+                0 => one_verdict(run, rng, &w, (&image, &p)),
+                1 => one_ceiling(run, rng, &w, (&image, &p)),
+                2 => one_list(run, rng, &w, (&image, &p)),
                 3 => {
                     let signal = w.signal(rng);
                     let s = w.station(rng, &signal);

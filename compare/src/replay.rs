@@ -1,2 +1,310 @@
-use crate::Run;
-pub fn write(_run: &mut Run, _file: &str) { todo!() }
+//! Writes the replay list: some thousand cases with their answers, for a program of the gate that
+//! needs no Rust. Verdicts, ceilings and dial lists are the Rust's own; refusals, and the parts
+//! that the Rust has only as text, are worked out from document 01 (expect.rs). Every answer was
+//! compared with the linked library's on the way.
+//!
+//! All numbers are little-endian; f64 means its 64 bits. No padding.
+//!
+//!     u32 number of images; each: u32 length, its bytes
+//!     u32 number of image cases; each:
+//!         u16 image
+//!         u8 check (0 accepted, else 1 to 14), u8 tidy (0 untidy, 1 tidy, 100 + refusal)
+//!     u32 number of verdict cases; each:
+//!         u8 call (0 evaluate, 1 unmeasured)
+//!         u16 image, STATION, u8 kind, u8 direction, EDGES   (the last three zero for call 1)
+//!         DECISION
+//!     u32 number of ceiling cases; each:
+//!         u16 image, STATION, u8 direction, EDGES ordinary, EDGES floor
+//!         u16 number of figures, that many f64; u16 number of floor bytes, those bytes
+//!         u8 refusal, u8 rung known, u16 rung, u8 limit known; if it is known: DECISION
+//!     u32 number of dial lists; each:
+//!         u16 image, STATION, u8 direction, EDGES, u32 bytes lent for rows
+//!         u8 refusal, u32 count, count rows of 36 bytes
+//!
+//!     image     its number, counted from 0; 0xffff: the empty image
+//!     STATION   f64 margin, dial, power; u8 policy, control, license, sideband, itu_region,
+//!               band_plan, dial_known, power_known (32 bytes)
+//!     EDGES     f64 power low, power high, spectral low, spectral high (32 bytes)
+//!     DECISION  f64 segment_low, segment_high, automatic_low, automatic_high, audio_low,
+//!               audio_high, width, air_low, air_high, beyond_hz;
+//!               u16 rule, segment_rule, guidance_index;
+//!               u8 refusal, verdict, code, rule_known, band_known, band, segment_known,
+//!               automatic_known, audio_known, air_known, overshoot, edge, guidance,
+//!               note_channel_power, note_shared, note_segment_power;
+//!               u16 number of notes, then that many u8: the indices of the marks that are 1, in
+//!               ascending order (104 bytes and the notes)
+
+use std::collections::BTreeMap;
+
+use crate::cases::{self, Rng, World};
+use crate::ffi::{Decision, Edges, Station};
+use crate::oracle::adapter::Prepared;
+use crate::{Run, fixed};
+
+#[derive(Default)]
+struct Section {
+    count: u32,
+    bytes: Vec<u8>,
+}
+
+impl Section {
+    fn add(&mut self, bytes: &[u8]) {
+        self.count += 1;
+        self.bytes.extend(bytes);
+    }
+}
+
+#[derive(Default)]
+struct List {
+    images: Section,
+    checks: Section,
+    verdicts: Section,
+    ceilings: Section,
+    dials: Section,
+    /// How often each thing worth having is there.
+    have: BTreeMap<(u8, u16, u16, u16), u32>,
+}
+
+impl List {
+    /// Whether this thing is still wanted; if so it counts.
+    fn wants(&mut self, key: (u8, u16, u16, u16), most: u32) -> bool {
+        let n = self.have.entry(key).or_default();
+        if *n >= most {
+            return false;
+        }
+        *n += 1;
+        true
+    }
+}
+
+fn station(out: &mut Vec<u8>, s: &Station) {
+    for (_, x) in s.floats() {
+        out.extend(x.to_bits().to_le_bytes());
+    }
+    out.extend(s.bytes().map(|b| b.1));
+}
+
+fn edges(out: &mut Vec<u8>, e: &Edges) {
+    for x in e.figures() {
+        out.extend(x.to_bits().to_le_bytes());
+    }
+}
+
+fn decision(out: &mut Vec<u8>, d: &Decision) {
+    for (_, x) in d.floats() {
+        out.extend(x.to_bits().to_le_bytes());
+    }
+    for (_, x) in d.words() {
+        out.extend(x.to_le_bytes());
+    }
+    out.extend(d.bytes().map(|b| b.1));
+    let notes: Vec<u8> = (0..=255).filter(|&i| d.notes[usize::from(i)] == 1).collect();
+    out.extend((notes.len() as u16).to_le_bytes());
+    out.extend(notes);
+}
+
+/// One image with the cases on it; the image goes into the list only if a case does.
+struct Page<'a> {
+    image: &'a [u8],
+    p: &'a Prepared,
+    number: u16,
+    used: bool,
+}
+
+impl<'a> Page<'a> {
+    fn new(list: &List, image: &'a [u8], p: &'a Prepared) -> Self {
+        let number = if image.is_empty() { 0xffff } else { list.images.count as u16 };
+        Self { image, p, number, used: image.is_empty() }
+    }
+
+    fn take(&mut self, list: &mut List) {
+        if !self.used {
+            let mut bytes = (self.image.len() as u32).to_le_bytes().to_vec();
+            bytes.extend(self.image);
+            list.images.add(&bytes);
+            self.used = true;
+        }
+    }
+
+    fn check(&mut self, list: &mut List, most: u32) {
+        let tidy = crate::oracle::adapter::tidy(self.p);
+        if list.wants((0, u16::from(tidy), 0, 0), most) {
+            self.take(list);
+            let mut out = self.number.to_le_bytes().to_vec();
+            out.extend([self.p.refusal, tidy]);
+            list.checks.add(&out);
+        }
+    }
+
+    fn verdict(&mut self, run: &mut Run, list: &mut List, s: &Station, kind: u8, direction: u8, e: &Edges, most: u32) {
+        let d = run.verdict(self.image, self.p, s, kind, direction, e);
+        let shape = u16::from(d.overshoot * 2 + d.edge) * 4 + u16::from(d.guidance);
+        let key = match d.refusal {
+            0 => (1, u16::from(d.code) * 4 + u16::from(d.verdict), shape, u16::from(kind) * 2 + u16::from(d.notes.contains(&1))),
+            r => (2, u16::from(r), 0, 0),
+        };
+        if list.wants(key, if d.refusal == 0 { most } else { most / 2 }) {
+            self.take(list);
+            let mut out = vec![0];
+            out.extend(self.number.to_le_bytes());
+            station(&mut out, s);
+            out.extend([kind, direction]);
+            edges(&mut out, e);
+            decision(&mut out, &d);
+            list.verdicts.add(&out);
+        }
+    }
+
+    fn unmeasured(&mut self, run: &mut Run, list: &mut List, s: &Station, most: u32) {
+        let d = run.unmeasured(self.image, self.p, s);
+        if list.wants((3, u16::from(d.refusal), 0, 0), most) {
+            self.take(list);
+            let mut out = vec![1];
+            out.extend(self.number.to_le_bytes());
+            station(&mut out, s);
+            out.extend([0; 34]);
+            decision(&mut out, &d);
+            list.verdicts.add(&out);
+        }
+    }
+
+    fn ceiling(&mut self, run: &mut Run, list: &mut List, s: &Station, direction: u8, l: &cases::Ladder, most: u32) {
+        if l.rungs.len() > 48 && !list.wants((4, 0, 0, 0), 2) {
+            return;
+        }
+        let c = run.ceiling(self.image, self.p, s, direction, l);
+        let limit = c.limit.map_or(0, |d| u16::from(d.code));
+        let key = match c.refusal {
+            0 => (5, limit, u16::from(c.rung.is_some()), u16::from(l.rungs.is_empty())),
+            r => (6, u16::from(r), 0, 0),
+        };
+        if list.wants(key, most) {
+            self.take(list);
+            let mut out = self.number.to_le_bytes().to_vec();
+            station(&mut out, s);
+            out.push(direction);
+            edges(&mut out, &l.ordinary);
+            edges(&mut out, &l.floor);
+            out.extend((l.rungs.len() as u16).to_le_bytes());
+            for x in &l.rungs {
+                out.extend(x.to_bits().to_le_bytes());
+            }
+            out.extend((l.floors.len() as u16).to_le_bytes());
+            out.extend(&l.floors);
+            out.extend([c.refusal, u8::from(c.rung.is_some())]);
+            out.extend(c.rung.unwrap_or(0).to_le_bytes());
+            out.push(u8::from(c.limit.is_some()));
+            if let Some(d) = &c.limit {
+                decision(&mut out, d);
+            }
+            list.ceilings.add(&out);
+        }
+    }
+
+    fn dials(&mut self, run: &mut Run, rng: &mut Rng, list: &mut List, s: &Station, direction: u8, e: &Edges, most: u32) {
+        let found = run.dials(rng, self.image, self.p, s, direction, e, None);
+        let n = found.rows.len() / 36;
+        if n > 40 {
+            return;
+        }
+        let key = match found.refusal {
+            0 => (7, n.min(6) as u16, 0, u16::from(s.control == 2)),
+            r => (8, u16::from(r), 0, 0),
+        };
+        if list.wants(key, most) {
+            self.take(list);
+            let mut out = self.number.to_le_bytes().to_vec();
+            station(&mut out, s);
+            out.push(direction);
+            edges(&mut out, e);
+            out.extend((found.lent as u32).to_le_bytes());
+            out.push(found.refusal);
+            out.extend((n as u32).to_le_bytes());
+            out.extend(&found.rows);
+            list.dials.add(&out);
+        }
+    }
+}
+
+pub fn write(run: &mut Run, file: &str) {
+    let mut list = List::default();
+    let none = run.image(&[]);
+    // the practice table, then worlds and damaged images from the seed
+    let practice = cases::settle(fixed::practice(), cases::Scale::Hf, None, 2);
+    page(run, &mut list, &practice, &practice.image, &none, 60, 20);
+    let marks = cases::marks(&mut Rng::new(run.seed, 0));
+    page(run, &mut list, &marks, &marks.image, &none, 30, 20);
+    let mut long = practice.image.clone();
+    let end = long.len() - 28;
+    long.splice(end..end, std::iter::repeat_n(0, 65_537 - practice.image.len()));
+    page(run, &mut list, &practice, &long, &none, 1, 20);
+    for place in 1..=4000 {
+        run.place = place;
+        let rng = &mut Rng::new(run.seed, place);
+        let w = cases::world(rng);
+        if w.image.len() > 1000 {
+            continue;
+        }
+        page(run, &mut list, &w, &w.image, &none, 20, 24);
+        for _ in 0..2 {
+            let image = cases::damaged(rng, &w);
+            if image.len() <= 1000 {
+                page(run, &mut list, &w, &image, &none, 2, 8);
+            }
+        }
+    }
+    let mut out = Vec::new();
+    for s in [&list.images, &list.checks, &list.verdicts, &list.ceilings, &list.dials] {
+        out.extend(s.count.to_le_bytes());
+        out.extend(&s.bytes);
+    }
+    if let Err(e) = std::fs::write(file, &out) {
+        eprintln!("{file}: {e}");
+        std::process::exit(2);
+    }
+    println!(
+        "{file}: {} bytes; {} images, {} image cases, {} verdicts, {} ceilings, {} dial lists; seed {}",
+        out.len(),
+        list.images.count,
+        list.checks.count,
+        list.verdicts.count,
+        list.ceilings.count,
+        list.dials.count,
+        run.seed
+    );
+}
+
+/// Cases on one image: `tries` of each call, of which those are taken that are still wanted.
+fn page(run: &mut Run, list: &mut List, w: &World, image: &[u8], none: &Prepared, tries: usize, most: u32) {
+    let p = run.image(image);
+    let mut page = Page::new(list, image, &p);
+    page.check(list, most / 2);
+    let rng = &mut Rng::new(run.seed, run.place + (1 << 32));
+    for i in 0..tries {
+        let (signal, mut s, mut e, mut kind, mut direction) = crate::draw(rng, w, |_, _, _, _, _| false);
+        if rng.chance(6) {
+            match rng.below(4) {
+                0 => cases::spoil_code(rng, &mut kind),
+                1 => cases::spoil_code(rng, &mut direction),
+                2 => cases::spoil_edges(rng, &mut e),
+                _ => cases::spoil_station(rng, &mut s),
+            }
+        }
+        page.verdict(run, list, &s, kind, direction, &e, most);
+        if i % 4 == 0 {
+            page.unmeasured(run, list, &s, most / 2);
+            page.dials(run, rng, list, &s, direction, &e, most / 2);
+            let mut l = cases::ladder(rng, w, &signal);
+            if rng.chance(10) {
+                cases::spoil_ladder(rng, &mut l);
+            }
+            page.ceiling(run, list, &s, direction, &l, most / 4);
+        }
+        if rng.below(60) == 0 {
+            let mut page = Page::new(list, &[], none);
+            page.verdict(run, list, &s, kind, direction, &e, most);
+            page.unmeasured(run, list, &s, most / 2);
+            page.dials(run, rng, list, &s, direction, &e, most / 2);
+        }
+    }
+}

@@ -1,6 +1,7 @@
 // 97.221, automatically controlled digital stations, as far as verdict, ceiling and dial list share it. It uses codes and
 // table.
-use codes::{ControlMode, Direction};
+use codes::ControlMode;
+use codes::Direction;
 use table::ElsewhereRule;
 ghost use mathlib.Core.Path.{_≡_};
 ghost use Rattle.automatic_97_221.specs.Automatic.{isAutomatic, atControlPoint, responds, appliesOf, elsewhereAllows};

@@ -55,7 +55,7 @@ finishOf d verdict code rule overshoot advice =
       width = Known (d .width);
       air = d .air;
       overshoot = overshoot;
-      advice = advice
+      advice = advice;
     }
 
 -- with no overshoot and nothing to say besides
@@ -79,5 +79,5 @@ refusedOf n =
       width = Absent;
       air = NoRange;
       overshoot = NoOvershoot;
-      advice = noAdvice
+      advice = noAdvice;
     }

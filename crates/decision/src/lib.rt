@@ -1,18 +1,25 @@
 // The answer of the gate: its parts as enums and a struct by value, each part with its "absent". It uses codes, profile and
 // station.
 use codes::Checked;
-use profile::{Range, RuleName};
+use profile::Range;
+use profile::RuleName;
 use station::Figure;
 ghost use mathlib.Core.Path.{_≡_};
 ghost use Rattle.decision.specs.Decision.{finishOf, simpleOf, refusedOf, noMarks, noAdvice};
 
 // The rules that document 01 numbers.
 pub const NO_RULE: u16 = 0;
+
 pub const RULE_97_301: u16 = 1;
+
 pub const RULE_97_109: u16 = 2;
+
 pub const RULE_97_305A: u16 = 3;
+
 pub const RULE_97_305B: u16 = 4;
+
 pub const RULE_97_305C: u16 = 5;
+
 pub const RULE_97_307F9: u16 = 6;
 
 pub enum Verdict {
@@ -152,7 +159,14 @@ pub fn no_advice() -> Advice
 }
 
 // A decision from its draft.
-pub fn finish(d: Draft, verdict: Verdict, code: Code, rule: u16, overshoot: Overshoot, advice: Advice) -> Decision
+pub fn finish(
+    d: Draft,
+    verdict: Verdict,
+    code: Code,
+    rule: u16,
+    overshoot: Overshoot,
+    advice: Advice,
+) -> Decision
     ensures { λ r. ⌜ r ≡ finishOf d verdict code rule overshoot advice ⌝ }
 {
     let audio = d.audio;

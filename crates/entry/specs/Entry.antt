@@ -52,20 +52,20 @@ entry-whole r beside l e u = accepted-whole l (entry-accepted r beside l e u)
 
 -- The answer by its parts: what the station's tests say, and then, under Rules, the check.
 pub entry-stays :
-  (r : StationRecord) (beside : Bool) (l : List ℕ) (n : ℕ) → refusalOf (stationTests r beside l) ≡ Refused n → Refused n ≡ entryOf r beside l
+    (r : StationRecord) (beside : Bool) (l : List ℕ) (n : ℕ) → refusalOf (stationTests r beside l) ≡ Refused n → Refused n ≡ entryOf r beside l
 unfolding entryOf
 entry-stays r beside l n e = sym (refusal-stays (stationTests r beside l) (imageTests r l) n e)
 
 pub entry-check :
-  (r : StationRecord) (beside : Bool) (l : List ℕ) → refusalOf (stationTests r beside l) ≡ Accepted → underRules r ≡ true
-  → checkOf l ≡ entryOf r beside l
+    (r : StationRecord) (beside : Bool) (l : List ℕ) → refusalOf (stationTests r beside l) ≡ Accepted → underRules r ≡ true
+    → checkOf l ≡ entryOf r beside l
 unfolding entryOf checkOf
 entry-check r beside l e u =
     sym (refusal-next (stationTests r beside l) (imageTests r l) e ∙ ap (λ (b : Bool). refusalOf (cond b (checkTests l) [])) u)
 
 pub entry-free :
-  (r : StationRecord) (beside : Bool) (l : List ℕ) → refusalOf (stationTests r beside l) ≡ Accepted → underRules r ≡ false
-  → Accepted ≡ entryOf r beside l
+    (r : StationRecord) (beside : Bool) (l : List ℕ) → refusalOf (stationTests r beside l) ≡ Accepted → underRules r ≡ false
+    → Accepted ≡ entryOf r beside l
 unfolding entryOf
 entry-free r beside l e u =
     sym (refusal-next (stationTests r beside l) (imageTests r l) e ∙ ap (λ (b : Bool). refusalOf (cond b (checkTests l) [])) u)

@@ -13,8 +13,13 @@ use Rattle.layout.specs.Layout.{recordSize, bands, segments, recordAt, recordOf
 use Rattle.layout.specs.declared.Record.{Record}
 use Rattle.coded.specs.Coded.{codedOf}
 use Rattle.table.specs.Parts.{spanOf, ownLimitOf, centreOf}
-use Rattle.scan.specs.First.{first, some}
+use Rattle.scan.specs.First.{first, some, onFound}
 use Rattle.scan.specs.declared.Found.{Found}
+use Rattle.scan.specs.declared.Found.the-variants.{At, Nothing}
+use mathlib.Core.Path.{_≡_, refl, sym, ap, _∙_}
+use native.Mathlib.Omega.{arith}
+use Rattle.find.specs.declared.Pick.{Pick}
+use Rattle.find.specs.declared.Pick.the-variants.{Picked, Missing}
 use Rattle.find.specs.declared.Question.{Question}
 use Rattle.find.specs.declared.Question.the-variants.{Miscoded, Unsound, NotLengthy, NoLimit, Holds, Overlaps, Shares, OfBand, BandHolds, ClassHolds, ClassShares, ChannelOverlaps}
 
@@ -54,6 +59,35 @@ firstIn l t q = first (λ i. asks q (recordOf l t i)) (countOf l t)
 
 abbrev pub someIn : List ℕ → ℕ → Question → Bool
 someIn l t q = some (λ i. asks q (recordOf l t i)) (countOf l t)
+
+-- the first record that passes, with its index
+unfoldable pub pickIn : List ℕ → ℕ → Question → Pick
+pickIn l t q = onFound (firstIn l t q) (λ i. Picked i (recordOf l t i)) Missing
+
+-- What a pick says of the scan.
+module _ (l : List ℕ) (t : ℕ) (q : Question) where
+  pub record PickedAt (i : ℕ) (r : Record) : Type 0 where
+    pub found : firstIn l t q ≡ At i
+    pub here : r ≡ recordOf l t i
+
+  picked-found : (f : Found) (i : ℕ) (r : Record) → onFound f (λ k. Picked k (recordOf l t k)) Missing ≡ Picked i r → (f ≡ At i) × (r ≡ recordOf l t i)
+  picked-found (At k) i r e =
+      let k≡i : k ≡ i = cc in
+      let same : recordOf l t k ≡ r = cc in
+      (ap At k≡i, sym same ∙ ap (recordOf l t) k≡i)
+  picked-found Nothing i r e = absurd (let z : _≡_ {A = ℕ} 0 1 = cc in omega arith)
+
+  pub picked : (i : ℕ) (r : Record) → pickIn l t q ≡ Picked i r → PickedAt i r
+  unfolding pickIn
+  picked i r e = let p = picked-found (firstIn l t q) i r e in record { found = p .0; here = p .1 }
+
+  missing-found : (f : Found) → onFound f (λ k. Picked k (recordOf l t k)) Missing ≡ Missing → f ≡ Nothing
+  missing-found (At k) e = absurd (let z : _≡_ {A = ℕ} 0 1 = cc in omega arith)
+  missing-found Nothing e = refl
+
+  pub missed : pickIn l t q ≡ Missing → firstIn l t q ≡ Nothing
+  unfolding pickIn
+  missed e = missing-found (firstIn l t q) e
 
 -- which bands a segment asks for: those that hold it, of whatever number or of its own
 abbrev pub homeQuestion : Bool → Record → Question

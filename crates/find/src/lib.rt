@@ -9,7 +9,7 @@ ghost use Prim.Native.Nat.{_+_, _*_, _≤_, _<_};
 ghost use lib.ListN.{length};
 ghost use Rattle.scan.specs.First.{first, some};
 ghost use Rattle.layout.specs.Form.{Whole};
-ghost use Rattle.find.specs.Question.{soundBits, soundRecord, noLimit, asks, asksAt, firstIn, someIn, homeQuestion, homelessOf};
+ghost use Rattle.find.specs.Question.{soundBits, soundRecord, noLimit, asks, asksAt, firstIn, someIn, pickIn, homeQuestion, homelessOf};
 
 // What is asked of a record.
 pub enum Question {
@@ -33,6 +33,12 @@ pub enum Question {
     ClassShares(u8, Range),
     // The channel of this width about its centre touches this range.
     ChannelOverlaps(f64, Range),
+}
+
+// The first record of a table that a question fits, with its index.
+pub enum Pick {
+    Picked(usize, Record),
+    Missing,
 }
 
 pub fn sound_bits(bits: u64) -> bool
@@ -112,6 +118,17 @@ pub fn some_in(s: &[u8], t: usize, q: Question) -> bool
     match find_in(s, t, q) {
         Found::At(_) => true,
         Found::Nothing => false,
+    }
+}
+
+// The first record of table t that a question fits, read.
+pub fn pick_in(s: &[u8], t: usize, q: Question) -> Pick
+    requires { ⌜ (Whole (now s)) × (t < 9) ⌝ }
+    ensures { λ r. ⌜ r ≡ pickIn (now (s .entry)) t q ⌝ }
+{
+    match find_in(s, t, q) {
+        Found::At(i) => Pick::Picked(i, table::record_of(s, t, i)),
+        Found::Nothing => Pick::Missing,
     }
 }
 

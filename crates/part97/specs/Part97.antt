@@ -5,7 +5,9 @@
 -- where the test t holds, else b. A case `c` has the signal's range on the air, `c .air`, and the guarded range, `c .guarded`:
 -- that range with the margin on either side. The tests stand in the order in which they are made. The paragraphs are named as
 -- document 01 and the original's comments name them.
-use Prim.Native.Nat.{ℕ, zero, suc, _<_}
+use Prim.Native.Nat.{ℕ, zero, suc, _+_}
+use mathlib.Core.Path.{_≡_, refl}
+use native.Mathlib.Numerals.{add-one}
 use mathlib.Core.Bool.{Bool, true, false, not, cond, _&&_, _||_}
 use mathlib.Core.List.{List}
 use lib.Dec.{eqb, ltb}
@@ -69,6 +71,8 @@ use Rattle.decision.specs.declared.Draft.{Draft}
 use Rattle.decision.specs.declared.Advice.{Advice}
 use Rattle.decision.specs.declared.Decision.{Decision}
 use Rattle.part97.specs.declared.Case.{Case}
+use Rattle.part97.specs.declared.Privileged.{Privileged}
+use Rattle.part97.specs.declared.Privileged.the-variants.{Granted, Forbidden, Unheld}
 
 -- ---- what the table says, record by record
 
@@ -99,7 +103,7 @@ draftOf c band =
       air = Is (c .air);
       band = band;
       segment = NoSegment;
-      «automatic_segment» = NoRange
+      «automatic_segment» = NoRange;
     }
 
 -- judged against a segment, which has a rule
@@ -111,7 +115,7 @@ draftInside c band segment rule =
       air = Is (c .air);
       band = Band band;
       segment = Segment segment rule;
-      «automatic_segment» = NoRange
+      «automatic_segment» = NoRange;
     }
 
 -- and inside a segment for automatic control
@@ -123,22 +127,24 @@ draftAutomatic c band segment rule inside =
       air = Is (c .air);
       band = Band band;
       segment = Segment segment rule;
-      «automatic_segment» = Is inside
+      «automatic_segment» = Is inside;
     }
 
 -- ---- 97.301, 97.305(a), (b), 97.307(f)(9): the operator's privileges
 
--- what the first privilege of the operator's class that holds the guarded range says of an emission: none holds it (97.301), or
--- it allows that emission, or it forbids it (97.307(f)(9))
-abbrev pub privilegeHeld : List ℕ → Case → Found
-privilegeHeld table c = firstIn table privileges (ClassHolds (classCode (c .class)) (c .guarded))
+-- what the first privilege of the operator's class that holds the guarded range says of an emission: it allows it, or forbids it
+-- (97.307(f)(9)), or there is none (97.301); a later privilege rescues nothing
+unfoldable pub privilegedOf : List ℕ → Case → EmissionKind → Privileged
+privilegedOf table c kind =
+    onFound (firstIn table privileges (ClassHolds (classCode (c .class)) (c .guarded)))
+    (λ p. cond (allowsOf (privilegeAt table p .emissions) kind) Granted Forbidden)
+    Unheld
 
--- the emission goes on only where that privilege allows it; a later one rescues nothing
-unfoldable pub underPrivilege : List ℕ → Case → EmissionKind → Draft → Decision → Decision
-underPrivilege table c kind draft next =
-    onFound (privilegeHeld table c)
-    (λ p. cond (allowsOf (privilegeAt table p .emissions) kind) next (simpleOf draft Blocked Privilege §97-307f9))
-    (simpleOf draft Blocked Privilege §97-301)
+-- only where the privilege is granted does judging go on
+abbrev pub underPrivilege : Privileged → Draft → Decision → Decision
+underPrivilege Granted draft next = next
+underPrivilege Forbidden draft next = simpleOf draft Blocked Privilege §97-307f9
+underPrivilege Unheld draft next = simpleOf draft Blocked Privilege §97-301
 
 -- some privilege of the operator's class holds a range, whatever emissions it allows
 abbrev pub somePrivilege : List ℕ → Case → Range → Bool
@@ -151,21 +157,39 @@ abbrev pub exceeds : Figure → Float → Bool
 exceeds (Known watts) most = lt most watts
 exceeds Absent most = false
 
-unfoldable pub noteAt : List ℕ → Case → Range → ℕ → Bool
-noteAt table c r i =
-    overlapsOf (powerAt table i .range) r && (meantOf (powerAt table i .classes) (c .class) && exceeds (c .power) (powerAt table i .«max_w»))
+unfoldable pub noted : Case → Range → PowerLimit → Bool
+noted c r limit = overlapsOf (limit .range) r && (meantOf (limit .classes) (c .class) && exceeds (c .power) (limit .«max_w»))
 
--- a mark for each of the first n power records that has a note
+abbrev pub noteAt : List ℕ → Case → Range → ℕ → Bool
+noteAt table c r i = noted c r (powerAt table i)
+
+-- a mark for each of the first n power records that has a note, and whether one has
 unfoldable pub notesUpTo : (ℕ → Bool) → ℕ → List ℕ
-notesUpTo noted zero = noNotes
-notesUpTo noted (suc n) = cond (noted n) (set (notesUpTo noted n) n 1) (notesUpTo noted n)
+notesUpTo note zero = noNotes
+notesUpTo note (suc n) = cond (note n) (set (notesUpTo note n) n 1) (notesUpTo note n)
+
+unfoldable pub anyNote : (ℕ → Bool) → ℕ → Bool
+anyNote note zero = false
+anyNote note (suc n) = note n || anyNote note n
+
+pub notes-more : (note : ℕ → Bool) (n : ℕ) → notesUpTo note (n + 1) ≡ cond (note n) (set (notesUpTo note n) n 1) (notesUpTo note n)
+unfolding notesUpTo
+notes-more note n = rw add-one
+
+pub any-more : (note : ℕ → Bool) (n : ℕ) → anyNote note (n + 1) ≡ (note n || anyNote note n)
+unfolding anyNote
+any-more note n = rw add-one
 
 -- the voluntary plan: an area to stay out of that the range touches, else an area for data that holds it, else outside
+unfoldable pub planSays : List ℕ → Range → Guidance
+planSays table r = onFound (firstIn table planAvoid (Overlaps r)) Avoid (onFound (firstIn table planData (Holds r)) Inside Outside)
+
+-- it is asked where the station says so and the table has a plan
+unfoldable pub wantsPlan : List ℕ → Case → Bool
+wantsPlan table c = c .«band_plan» && hasPlan (generalOf table)
+
 unfoldable pub guidanceOf : List ℕ → Case → Range → Guidance
-guidanceOf table c r =
-    cond (c .«band_plan» && hasPlan (generalOf table))
-    (onFound (firstIn table planAvoid (Overlaps r)) Avoid (onFound (firstIn table planData (Holds r)) Inside Outside))
-    NoGuidance
+guidanceOf table c r = cond (wantsPlan table c) (planSays table r) NoGuidance
 
 -- whether the plan calls for a warning: "'inside' leaves a power warning standing"
 abbrev pub planWarns : Guidance → Bool
@@ -182,7 +206,7 @@ adviceOf table c r =
     record { guidance = guidanceOf table c r; notes = notesUpTo (noteAt table c r) (countOf table power); sixty = noMarks }
 
 unfoldable pub adviceWarns : List ℕ → Case → Range → Bool
-adviceWarns table c r = some (noteAt table c r) (countOf table power) || planWarns (guidanceOf table c r)
+adviceWarns table c r = anyNote (noteAt table c r) (countOf table power) || planWarns (guidanceOf table c r)
 
 -- lawful, with what the operator should know
 unfoldable pub advised : List ℕ → Case → Range → Draft → Code → ℕ → Decision
@@ -261,7 +285,7 @@ outsideSegments table c band =
 -- inside a data segment: the operator's privileges (97.301), then automatic control (97.221)
 unfoldable pub insideSegment : List ℕ → Case → ℕ → SegmentRecord → Decision
 insideSegment table c band s =
-    underPrivilege table c Data (draftInside c band (s .range) (s .rule))
+    underPrivilege (privilegedOf table c Data) (draftInside c band (s .range) (s .rule))
     (cond (c .automatic) (automaticData table c band (s .range) (s .rule))
     (advised table c (c .air) (draftInside c band (s .range) (s .rule)) Permitted (s .rule)))
 
@@ -288,7 +312,7 @@ otherRule NoEmission = §97-301
 -- an emission that is allowed wherever the operator's privileges allow it
 abbrev pub emitted : List ℕ → Case → ℕ → EmissionKind → Decision
 emitted table c band kind =
-    underPrivilege table c kind (draftOf c (Band band)) (simpleOf (draftOf c (Band band)) Legal Permitted (otherRule kind))
+    underPrivilege (privilegedOf table c kind) (draftOf c (Band band)) (simpleOf (draftOf c (Band band)) Legal Permitted (otherRule kind))
 
 -- keyed with no audio: some privilege holds the dial
 abbrev pub keyed : List ℕ → Case → ℕ → Decision

@@ -1,7 +1,10 @@
 // 47 CFR Part 97 as a definition: specs/Part97.antt says what the gate answers for a transmission, over what an accepted
 // table says. No code; the struct is what every judgement works from. It uses figures, codes, profile, air, table, find,
 // decision, station and automatic_97_221.
-use codes::{Direction, EmissionKind, LicenseClass, Sideband};
+use codes::Direction;
+use codes::EmissionKind;
+use codes::LicenseClass;
+use codes::Sideband;
 use profile::Range;
 use station::Figure;
 
@@ -24,4 +27,11 @@ pub struct Case {
     pub power: Figure,
     // Whether to say where the voluntary band plan differs.
     pub band_plan: bool,
+}
+
+// What the first privilege of the operator's class that holds a signal says of an emission.
+pub enum Privileged {
+    Granted,
+    Forbidden,
+    Unheld,
 }

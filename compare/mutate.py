@@ -1,0 +1,159 @@
+#!/usr/bin/env python3
+"""Plants one mistake at a time (mutations.py) in a copy of the Rust, or of the driver's own part,
+builds the driver against that copy and sees whether a run notices a difference.
+
+    python3 compare/mutate.py [--stub] [--only TEXT] [--from N] [--work DIR] [--seed S]
+                              [--verdicts N] [--ceilings N] [--dials N] [--check] [-v]
+
+Without --stub the library is linked (PAMUKLID_LIB_DIR); with --stub its place is taken by a second,
+unchanged copy of the Rust, which measures how sharp the cases are without the library. --check only
+sees that every old text occurs once. Nothing is written outside DIR (by default a folder of its own
+under /tmp, removed at the end). Exit 0: every mistake was noticed except those that change nothing.
+"""
+
+import argparse
+import os
+import shutil
+import subprocess
+import sys
+import tempfile
+import time
+
+sys.dont_write_bytecode = True
+HERE = os.path.dirname(os.path.abspath(__file__))
+sys.path.insert(0, HERE)
+
+from mutations import MUTATIONS
+
+MODULE = "core/aetherd/src/regulatory"
+
+
+def main():
+    args = argparse.ArgumentParser()
+    args.add_argument("--stub", action="store_true")
+    args.add_argument("--only", default="")
+    args.add_argument("--from", type=int, default=0, dest="start")
+    args.add_argument("--work")
+    args.add_argument("--seed", type=int, default=7)
+    args.add_argument("--verdicts", type=int, default=400000)
+    args.add_argument("--ceilings", type=int, default=40000)
+    args.add_argument("--dials", type=int, default=40000)
+    args.add_argument("--check", action="store_true")
+    args.add_argument("-v", action="store_true", dest="verbose")
+    args = args.parse_args()
+    default = os.path.join(HERE, "../../shared/docs/src")
+    rust = os.path.abspath(os.environ.get("PAMUKLID_RUST_SRC", default))
+
+    work = args.work or tempfile.mkdtemp(prefix="pamuklid-mutants-")
+    try:
+        code = plant_all(args, rust, os.path.abspath(work))
+    finally:
+        if not args.work:
+            shutil.rmtree(work)
+    sys.exit(code)
+
+
+def plant_all(args, rust, work):
+    # the two copies that the mistakes go into
+    copy = os.path.join(work, "rust")
+    driver = os.path.join(work, "compare")
+    os.makedirs(os.path.join(copy, MODULE), exist_ok=True)
+    shutil.copytree(HERE, driver, dirs_exist_ok=True, ignore=shutil.ignore_patterns("target"))
+    place, text = {}, {}
+    for name in ["mod.rs", "profile.rs", "occupancy.rs"]:
+        place[name] = os.path.join(copy, MODULE, name)
+        text[name] = open(os.path.join(rust, MODULE, name), encoding="utf-8").read()
+    place["expect.rs"] = os.path.join(driver, "src/expect.rs")
+    text["expect.rs"] = open(os.path.join(HERE, "src/expect.rs"), encoding="utf-8").read()
+    for name in place:
+        put(place[name], text[name])
+    put(os.path.join(work, "expect.rs"), text["expect.rs"])
+
+    wrong = [m for m in MUTATIONS if text[m[0]].count(m[1]) != 1 or m[1] == m[2]]
+    for name, old, _, _ in wrong:
+        print("not one place: %s: %r (%d times)" % (name, old, text[name].count(old)))
+    if wrong:
+        return 2
+    if args.check:
+        print("%d mistakes, each with one place" % len(MUTATIONS))
+        return 0
+
+    env = dict(os.environ)
+    env["PAMUKLID_RUST_SRC"] = copy
+    env["PAMUKLID_STUB_SRC"] = rust
+    env["PAMUKLID_STUB_EXPECT"] = os.path.join(work, "expect.rs")
+    env.setdefault("PAMUKLID_LIB_DIR", os.path.abspath(os.path.join(HERE, "../target/staticlib")))
+    env["CARGO_TARGET_DIR"] = os.path.join(work, "target")
+    build = ["cargo", "build", "--offline", "--quiet", "--profile", "mutant", "-j", "1"]
+    if args.stub:
+        build += ["--features", "stub"]
+    program = os.path.join(work, "target/mutant/pamuklid-compare")
+    run = [program, "--no-reach", "--seed", str(args.seed), "--verdicts", str(args.verdicts),
+           "--ceilings", str(args.ceilings), "--dials", str(args.dials)]
+
+    def attempt():
+        """(built, exit status, first line that says what)"""
+        made = subprocess.run(build, cwd=driver, env=env, capture_output=True, text=True)
+        if made.returncode != 0:
+            return False, None, made.stderr
+        try:
+            ran = subprocess.run(run, capture_output=True, text=True, timeout=900)
+        except subprocess.TimeoutExpired:
+            return True, -1, "no end in 900 s"
+        what = [line for line in ran.stdout.splitlines() if line.startswith("DIFFERENCE")]
+        return True, ran.returncode, what[0] if what else (ran.stderr.strip().splitlines() or [""])[0]
+
+    built, code, what = attempt()
+    if not built or code != 0:
+        print("without a mistake the run should be clean: exit %s\n%s" % (code, what))
+        return 2
+
+    noticed = same = 0
+    survivors, surprises, broken = [], [], []
+    begun = time.time()
+    for number, (name, old, new, why) in enumerate(MUTATIONS):
+        if number < args.start or args.only not in name + " " + old + " " + new:
+            continue
+        put(place[name], text[name].replace(old, new))
+        built, code, what = attempt()
+        put(place[name], text[name])
+        title = "%d %s: %s  ->  %s" % (number, name, short(old), short(new))
+        if not built:
+            broken.append(title + "\n" + what)
+            state = "DOESN'T BUILD"
+        elif code == 0 and why:
+            same += 1
+            state = "survives, as it should"
+        elif code == 0:
+            survivors.append(title)
+            state = "SURVIVES"
+        elif why:
+            surprises.append(title + "\n" + what)
+            state = "NOTICED, though it should change nothing"
+        else:
+            noticed += 1
+            state = "noticed"
+        if args.verbose or state not in ("noticed", "survives, as it should"):
+            print("%s: %s%s" % (state, title, "  [%s]" % what if args.verbose and what else ""),
+                  flush=True)
+    print("%d noticed, %d change nothing, %d survivors, %d surprises, %d don't build; %.0f s"
+          % (noticed, same, len(survivors), len(surprises), len(broken), time.time() - begun))
+    for title in survivors:
+        print("survivor: " + title)
+    for title in surprises + broken:
+        print("look at: " + title)
+    return 1 if survivors or surprises or broken else 0
+
+
+def put(path, text):
+    with open(path, "w", encoding="utf-8") as out:
+        out.write(text)
+
+
+def short(text):
+    text = " ".join(text.split())
+    return text if len(text) <= 110 else text[:107] + "..."
+
+
+if __name__ == "__main__":
+    main()
