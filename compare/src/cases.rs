@@ -957,8 +957,9 @@ pub fn ladder(rng: &mut Rng, w: &World, s: &Signal) -> Ladder {
     };
     let (ordinary, floor) = (inside(rng, 15), inside(rng, 15));
     let (mut rungs, mut floors) = (Vec::new(), Vec::new());
+    let odd = if count == 256 && rng.chance(50) { 0 } else { 25 };
     for _ in 0..count {
-        rungs.extend(inside(rng, 25).figures());
+        rungs.extend(inside(rng, odd).figures());
         floors.push(rng.below(2) as u8);
     }
     Ladder { ordinary, floor, rungs, floors }

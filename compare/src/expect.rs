@@ -233,6 +233,11 @@ pub fn rungs_refused(rungs: &[f64], floors: &[u8]) -> bool {
         || floors.iter().any(|&f| f > 1)
 }
 
+/// "23 the dial list longer than the whole rows lent"
+pub fn rows_refused(count: usize, rows_lent_bytes: usize) -> bool {
+    count > rows_lent_bytes / 36
+}
+
 /// "A fresh station record follows `Situation`'s `Default`: region 0, margin 0, plan off, the rest
 /// absent."
 pub const FRESH: Station = Station {

@@ -132,6 +132,10 @@ impl Run {
 
     fn agreed(&self, inputs: &Inputs, want: Result<Decision, String>, got: &Decision) -> Decision {
         let want = want.unwrap_or_else(|fault| self.differ(inputs, &fault));
+        // "With that, no answer and no row ever holds a negative zero."
+        if let Some((name, _)) = want.floats().into_iter().find(|f| f.1.to_bits() == 1 << 63) {
+            self.differ(inputs, &format!("the Rust answers a negative zero: {name}"));
+        }
         if let Some(what) = got.difference(&want) {
             println!("library:  {}", got.text());
             println!("expected: {}", want.text());
@@ -283,6 +287,9 @@ impl Run {
             if let Some(limit) = &want.limit {
                 self.reach.count("ceiling limit", u16::from(limit.code), 0);
             }
+            if want.rung == Some(255) {
+                self.reach.count("ceiling at rung 255", 0, 0);
+            }
         } else {
             self.refused += 1;
             self.reach.count("ceiling refused", u16::from(want.refusal), 0);
@@ -316,6 +323,9 @@ impl Run {
             Ok(found) => found,
             Err(fault) => self.differ(&inputs, &fault),
         };
+        if rows.chunks(36).any(|r| (0..4).any(|i| image::f64_at(r, 8 * i).to_bits() == 1 << 63)) {
+            self.differ(&inputs, "the Rust lists a negative zero");
+        }
         let n = rows.len();
         // exact; a few bytes more; whole rows more; a row or a byte too short; none at all
         let lent = match rng.below(12) {
@@ -335,8 +345,7 @@ impl Run {
         let tables = image.to_vec();
         let got = ffi::safe_dials(*s, direction, *e, &tables, &mut after);
         let refusal = match refusal {
-            // "23 the dial list longer than the whole rows lent"
-            0 if n / 36 > lent / 36 => 23,
+            0 if expect::rows_refused(n / 36, lent) => 23,
             other => other,
         };
         let (count, rows) = if refusal == 0 { (n / 36, rows) } else { (0, Vec::new()) };
@@ -512,6 +521,10 @@ fn compare(run: &mut Run, wanted: &Wanted) {
             _ => cases::world(rng),
         };
         let p = run.image(&w.image);
+        if p.refusal != 0 {
+            run.reach.count("worlds refused", u16::from(p.refusal), 0);
+            continue;
+        }
         if long {
             let s = Station { policy: 2, control: 2, license: 4, sideband: 0, itu_region: 2, ..expect::FRESH };
             let e = Edges::of([0.25, 0.5, 0.25, 0.5]);

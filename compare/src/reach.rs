@@ -54,7 +54,7 @@ const LIMITS: [u16; 19] = [
     1, 2, 5, 6, 7, 8, 9, 10, 11, 12, 13, 14, 15, 18, 19, 20, 22, 23, 24,
 ];
 
-pub const OTHER: [Key; 42] = [
+pub const OTHER: [Key; 43] = [
     // 1 beyond, 2 too close; edge 0 lower, 1 upper. "Too close" never names the lower edge.
     ("overshoot, edge", 1, 0),
     ("overshoot, edge", 1, 1),
@@ -100,6 +100,7 @@ pub const OTHER: [Key; 42] = [
     ("ceiling rung, limit", 0, 1),
     ("ceiling rung, limit", 1, 0),
     ("ceiling rung, limit", 1, 1),
+    ("ceiling at rung 255", 0, 0),
     // dial lists: rows none, one, several, more than 16 bits count
     ("dial list rows", 0, 0),
     ("dial list rows", 1, 0),

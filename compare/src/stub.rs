@@ -101,7 +101,7 @@ extern "C" fn pamuklid_safe_dials(
     let rows = unsafe { std::slice::from_raw_parts_mut(rows, rows_len) };
     let (refusal, bytes) = adapter::safe_dials(&p, &s, direction, &e).expect("the Rust's words");
     let refusal = match refusal {
-        0 if bytes.len() / 36 > rows.len() / 36 => 23,
+        0 if expect::rows_refused(bytes.len() / 36, rows.len()) => 23,
         other => other,
     };
     if refusal != 0 {

@@ -1,1 +1,2 @@
 pub mod Part97
+pub mod Laws

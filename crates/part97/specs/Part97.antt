@@ -5,9 +5,7 @@
 -- where the test t holds, else b. A case `c` has the signal's range on the air, `c .air`, and the guarded range, `c .guarded`:
 -- that range with the margin on either side. The tests stand in the order in which they are made. The paragraphs are named as
 -- document 01 and the original's comments name them.
-use Prim.Native.Nat.{ℕ, zero, suc, _+_}
-use mathlib.Core.Path.{_≡_, refl}
-use native.Mathlib.Numerals.{add-one}
+use Prim.Native.Nat.{ℕ, zero, suc}
 use mathlib.Core.Bool.{Bool, true, false, not, cond, _&&_, _||_}
 use mathlib.Core.List.{List}
 use lib.Dec.{eqb, ltb}
@@ -71,6 +69,8 @@ use Rattle.decision.specs.declared.Draft.{Draft}
 use Rattle.decision.specs.declared.Advice.{Advice}
 use Rattle.decision.specs.declared.Decision.{Decision}
 use Rattle.part97.specs.declared.Case.{Case}
+use Rattle.part97.specs.declared.Nearest.{Nearest}
+use Rattle.part97.specs.declared.Nearest.the-variants.{Near, NoneNear}
 use Rattle.part97.specs.declared.Privileged.{Privileged}
 use Rattle.part97.specs.declared.Privileged.the-variants.{Granted, Forbidden, Unheld}
 
@@ -172,14 +172,6 @@ unfoldable pub anyNote : (ℕ → Bool) → ℕ → Bool
 anyNote note zero = false
 anyNote note (suc n) = note n || anyNote note n
 
-pub notes-more : (note : ℕ → Bool) (n : ℕ) → notesUpTo note (n + 1) ≡ cond (note n) (set (notesUpTo note n) n 1) (notesUpTo note n)
-unfolding notesUpTo
-notes-more note n = rw add-one
-
-pub any-more : (note : ℕ → Bool) (n : ℕ) → anyNote note (n + 1) ≡ (note n || anyNote note n)
-unfolding anyNote
-any-more note n = rw add-one
-
 -- the voluntary plan: an area to stay out of that the range touches, else an area for data that holds it, else outside
 unfoldable pub planSays : List ℕ → Range → Guidance
 planSays table r = onFound (firstIn table planAvoid (Overlaps r)) Avoid (onFound (firstIn table planData (Holds r)) Inside Outside)
@@ -253,16 +245,22 @@ abbrev pub reach : Range → Range → Float
 reach segment air = add binary64 (below segment air) (above segment air)
 
 -- of two segments the one with the less overshoot, the earlier at a tie
-abbrev pub nearerOf : List ℕ → Case → Found → ℕ → Found
-nearerOf table c (At j) i =
-    cond (totalLess (reach (segmentAt table i .range) (c .air)) (reach (segmentAt table j .range) (c .air))) (At i) (At j)
-nearerOf table c Nothing i = At i
+abbrev pub nearerBy : Nearest → ℕ → Float → Nearest
+nearerBy (Near j least) i by = cond (totalLess by least) (Near i by) (Near j least)
+nearerBy NoneNear i by = Near i by
+
+-- segment i is in question where it overlaps the guarded range; its overshoot is the unguarded signal's
+unfoldable pub considered : Case → Nearest → ℕ → Range → Nearest
+considered c best i segment = cond (overlapsOf segment (c .guarded)) (nearerBy best i (reach segment (c .air))) best
 
 -- "among segments overlapping the guarded range take the least overshoot (unguarded), first at a tie": of the first n
-unfoldable pub nearestUpTo : List ℕ → Case → ℕ → Found
-nearestUpTo table c zero = Nothing
-nearestUpTo table c (suc n) =
-    cond (overlapsOf (segmentAt table n .range) (c .guarded)) (nearerOf table c (nearestUpTo table c n) n) (nearestUpTo table c n)
+unfoldable pub nearestUpTo : List ℕ → Case → ℕ → Nearest
+nearestUpTo table c zero = NoneNear
+nearestUpTo table c (suc n) = considered c (nearestUpTo table c n) n (segmentAt table n .range)
+
+abbrev pub onNearest : {A : Type 0} → Nearest → (ℕ → A) → A → A
+onNearest (Near i by) f a = f i
+onNearest NoneNear f a = a
 
 -- "beyond an edge by a distance or merely too close to an edge"
 abbrev pub overshootBy : Float → Edge → Overshoot
@@ -276,7 +274,7 @@ overshootOf segment air =
 -- 97.305(c): no data segment holds the guarded signal; the nearest one says how far it lies outside
 unfoldable pub outsideSegments : List ℕ → Case → ℕ → Decision
 outsideSegments table c band =
-    onFound (nearestUpTo table c (countOf table segments))
+    onNearest (nearestUpTo table c (countOf table segments))
     (λ i.
     finishOf (draftInside c band (segmentAt table i .range) (segmentAt table i .rule)) Blocked OutsideDataSegment (segmentAt table i .rule)
     (overshootOf (segmentAt table i .range) (c .air)) noAdvice)
@@ -294,11 +292,14 @@ abbrev pub limitFor : List ℕ → Found → DataLimit
 limitFor table found =
     onFound found (λ i. dataLimitOf (segmentAt table i .own) (segmentAt table i .second) (generalLimit table)) (generalLimit table)
 
+abbrev pub tooWide : Case → ℕ → DataLimit → Decision
+tooWide c band limit = simpleOf (draftOf c (Band band)) Blocked TooWide (limit .rule)
+
 -- 97.305(c), by the first data segment that holds the guarded range; too wide comes before "no segment"
 unfoldable pub judgeData : List ℕ → Case → ℕ → Found → Decision
 judgeData table c band found =
     cond (lt (limitFor table found .«max_bandwidth_hz») (c .width))
-    (simpleOf (draftOf c (Band band)) Blocked TooWide (limitFor table found .rule))
+    (tooWide c band (limitFor table found))
     (onFound found (λ i. insideSegment table c band (segmentAt table i)) (outsideSegments table c band))
 
 -- ---- 97.305(a), (b): CW, test emissions and keying alone, off 60 m

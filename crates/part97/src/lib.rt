@@ -35,3 +35,9 @@ pub enum Privileged {
     Forbidden,
     Unheld,
 }
+
+// The nearest data segment so far, with its overshoot.
+pub enum Nearest {
+    Near(usize, f64),
+    NoneNear,
+}

@@ -5,7 +5,8 @@ use lib.ListN.{length}
 use borrow.Author.Needs.{needs}
 use Rattle.layout.specs.Layout.{recordSize, trailerSize, power, countOf, startOf}
 use Rattle.layout.specs.Form.{table-within}
-use Rattle.part97.specs.Part97.{noteAt, notesUpTo, anyNote, notes-more, any-more}
+use Rattle.part97.specs.Part97.{noteAt, notesUpTo, anyNote}
+use Rattle.part97.specs.Laws.{notes-more, any-more}
 use native.Mathlib.Omega.{arith}
 use borrow.Author.Tests.{lt-ltb, lt-leb, le-ltb, le-leb, eq-eqb, ne-eqb, not-true, not-false}
 use Rattle.advice_97_313.proofs.notes_of.Statement.{statement}

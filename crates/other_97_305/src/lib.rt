@@ -1,0 +1,56 @@
+// CW, test emissions and keying with no audio, off 60 m: wherever the operator's privileges allow that emission (97.305(a),
+// (b)). It uses layout, decision, part97, drafts and privileges_97_301.
+use codes::EmissionKind;
+use decision::{BandNumber, Code, Decision, Verdict};
+use part97::{Case, Privileged};
+use profile::Range;
+ghost use mathlib.Core.Path.{_≡_};
+ghost use Rattle.layout.specs.Form.{Whole};
+ghost use Rattle.part97.specs.Part97.{otherRule, emitted, keyed};
+
+fn other_rule(kind: EmissionKind) -> u16
+    ensures { λ x. ⌜ x ≡ otherRule kind ⌝ }
+{
+    match kind {
+        EmissionKind::Data => decision::RULE_97_301,
+        EmissionKind::Cw => decision::RULE_97_305A,
+        EmissionKind::Test => decision::RULE_97_305B,
+        EmissionKind::Nothing => decision::RULE_97_301,
+    }
+}
+
+// An emission that is allowed wherever the operator's privileges allow it.
+pub fn judge_emitted(s: &[u8], c: Case, band: u8, kind: EmissionKind) -> Decision
+    requires { ⌜ Whole (now s) ⌝ }
+    ensures { λ x. ⌜ x ≡ emitted (now (s .entry)) c band kind ⌝ }
+{
+    let draft = drafts::draft_of(c, BandNumber::Band(band));
+    match privileges_97_301::privileged(s, c, kind) {
+        Privileged::Granted => {
+            decision::simple(draft, Verdict::Legal, Code::Permitted, other_rule(kind))
+        }
+        Privileged::Forbidden => {
+            decision::simple(draft, Verdict::Blocked, Code::Privilege, decision::RULE_97_307F9)
+        }
+        Privileged::Unheld => {
+            decision::simple(draft, Verdict::Blocked, Code::Privilege, decision::RULE_97_301)
+        }
+    }
+}
+
+// Keyed with no audio: some privilege holds the dial.
+pub fn judge_keyed(s: &[u8], c: Case, band: u8) -> Decision
+    requires { ⌜ Whole (now s) ⌝ }
+    ensures { λ x. ⌜ x ≡ keyed (now (s .entry)) c band ⌝ }
+{
+    let draft = drafts::draft_of(c, BandNumber::Band(band));
+    let dial = Range {
+        low_hz: c.dial_hz,
+        high_hz: c.dial_hz,
+    };
+    if privileges_97_301::some_privilege(s, c, dial) {
+        return decision::simple(draft, Verdict::Legal, Code::Permitted, decision::RULE_97_301);
+    }
+    let g = layout::general_of(s);
+    decision::simple(draft, Verdict::Blocked, Code::Privilege, g.privileges_rule)
+}

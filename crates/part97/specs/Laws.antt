@@ -1,0 +1,55 @@
+-- Laws of the definitions in Part97 that go by the first n records: one record more, and where the nearest segment stands.
+use Prim.Native.Nat.{ℕ, zero, suc, _+_, _<_}
+use mathlib.Core.Bool.{Bool, true, false, cond, _||_}
+use mathlib.Core.List.{List}
+use mathlib.Core.Path.{_≡_, refl}
+use native.Mathlib.Numerals.{add-one}
+use native.Mathlib.Omega.{arith}
+use lib.ListN.{set}
+use lib.Ieee.{Float}
+use Rattle.figures.specs.Figure.{totalLess}
+use Rattle.profile.specs.Range.{overlapsOf}
+use Rattle.profile.specs.declared.Range.{Range}
+use Rattle.part97.specs.declared.Case.{Case}
+use Rattle.part97.specs.declared.Nearest.{Nearest}
+use Rattle.part97.specs.declared.Nearest.the-variants.{Near, NoneNear}
+use Rattle.part97.specs.Part97.{segmentAt, reach, notesUpTo, anyNote, nearerBy, considered, nearestUpTo}
+
+pub notes-more : (note : ℕ → Bool) (n : ℕ) → notesUpTo note (n + 1) ≡ cond (note n) (set (notesUpTo note n) n 1) (notesUpTo note n)
+unfolding notesUpTo
+notes-more note n = rw add-one
+
+pub any-more : (note : ℕ → Bool) (n : ℕ) → anyNote note (n + 1) ≡ (note n || anyNote note n)
+unfolding anyNote
+any-more note n = rw add-one
+
+pub nearest-more : (table : List ℕ) (c : Case) (n : ℕ) → nearestUpTo table c (n + 1) ≡ considered c (nearestUpTo table c n) n (segmentAt table n .range)
+unfolding nearestUpTo
+nearest-more table c n = rw add-one
+
+-- the nearest segment is one of those in question
+near-inj : {i j : ℕ} {x y : Float} → Near i x ≡ Near j y → i ≡ j
+near-inj e = cc
+
+considered-below :
+  (c : Case) (best : Nearest) (n : ℕ) (segment : Range) → ((i : ℕ) (by : Float) → best ≡ Near i by → i < n)
+  → (i : ℕ) (by : Float) → considered c best n segment ≡ Near i by → i < suc n
+unfolding considered
+considered-below c best n segment lower i by e = go (overlapsOf segment (c .guarded)) best lower e
+  where
+    go :
+      (o : Bool) (best : Nearest) → ((i : ℕ) (by : Float) → best ≡ Near i by → i < n)
+      → cond o (nearerBy best n (reach segment (c .air))) best ≡ Near i by → i < suc n
+    go false b low q = let h = low i by q in omega arith
+    go true NoneNear low q = let h : n ≡ i = near-inj q in omega arith
+    go true (Near j least) low q = pick (totalLess (reach segment (c .air)) least) q
+      where
+        pick : (t : Bool) → cond t (Near n (reach segment (c .air))) (Near j least) ≡ Near i by → i < suc n
+        pick true q' = let h : n ≡ i = near-inj q' in omega arith
+        pick false q' = let h = low i by q' in omega arith
+
+pub nearest-below : (table : List ℕ) (c : Case) (n i : ℕ) (by : Float) → nearestUpTo table c n ≡ Near i by → i < n
+unfolding nearestUpTo
+nearest-below table c zero i by e = absurd (let z : _≡_ {A = ℕ} 0 1 = cc in omega arith)
+nearest-below table c (suc n) i by e =
+    considered-below c (nearestUpTo table c n) n (segmentAt table n .range) (nearest-below table c n) i by e
