@@ -6,8 +6,9 @@
 //!   include and that aren't to be had. Nothing of the Rust is kept in the repository.
 //! - `PAMUKLID_LIB_DIR`: the folder of `libpamuklid.a`; by default `target/staticlib` in the
 //!   repository. Not used with the feature `stub`.
-//! - `PAMUKLID_STUB_SRC`, `PAMUKLID_STUB_EXPECT` (feature `stub` only): the Rust and the
-//!   `expect.rs` that the stub answers from, where they are to differ from the driver's own.
+//! - `PAMUKLID_STUB_SRC`, `PAMUKLID_STUB_OWN` (feature `stub` only): the Rust, and the folder of the
+//!   `expect.rs` and `adapter.rs`, that the stub answers from, where they are to differ from the
+//!   driver's.
 
 use std::env;
 use std::fs;
@@ -55,9 +56,12 @@ fn main() {
     place(&rust, &out, "oracle");
     if env::var_os("CARGO_FEATURE_STUB").is_some() {
         place(&folder("PAMUKLID_STUB_SRC", rust), &out, "original");
-        let expect = folder("PAMUKLID_STUB_EXPECT", here.join("src/expect.rs"));
-        copy(&expect, &out.join("stub_expect.rs"));
-        include(&out.join("stub_expect.rs"), "expect", &out.join("expect_include.rs"));
+        let own = folder("PAMUKLID_STUB_OWN", here.join("src"));
+        for name in ["expect", "adapter"] {
+            let file = out.join(format!("stub_{name}.rs"));
+            copy(&own.join(format!("{name}.rs")), &file);
+            include(&file, name, &out.join(format!("include_{name}.rs")));
+        }
     } else {
         let lib = folder("PAMUKLID_LIB_DIR", root.join("target/staticlib"));
         println!("cargo::rerun-if-changed={}", lib.join("libpamuklid.a").display());

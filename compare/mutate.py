@@ -63,11 +63,13 @@ def plant_all(args, rust, work):
     for name in ["mod.rs", "profile.rs", "occupancy.rs"]:
         place[name] = os.path.join(copy, MODULE, name)
         text[name] = open(os.path.join(rust, MODULE, name), encoding="utf-8").read()
-    place["expect.rs"] = os.path.join(driver, "src/expect.rs")
-    text["expect.rs"] = open(os.path.join(HERE, "src/expect.rs"), encoding="utf-8").read()
+    os.makedirs(os.path.join(work, "own"), exist_ok=True)
+    for name in ["expect.rs", "adapter.rs"]:
+        place[name] = os.path.join(driver, "src", name)
+        text[name] = open(os.path.join(HERE, "src", name), encoding="utf-8").read()
+        put(os.path.join(work, "own", name), text[name])
     for name in place:
         put(place[name], text[name])
-    put(os.path.join(work, "expect.rs"), text["expect.rs"])
 
     wrong = [m for m in MUTATIONS if text[m[0]].count(m[1]) != 1 or m[1] == m[2]]
     for name, old, _, _ in wrong:
@@ -81,7 +83,7 @@ def plant_all(args, rust, work):
     env = dict(os.environ)
     env["PAMUKLID_RUST_SRC"] = copy
     env["PAMUKLID_STUB_SRC"] = rust
-    env["PAMUKLID_STUB_EXPECT"] = os.path.join(work, "expect.rs")
+    env["PAMUKLID_STUB_OWN"] = os.path.join(work, "own")
     env.setdefault("PAMUKLID_LIB_DIR", os.path.abspath(os.path.join(HERE, "../target/staticlib")))
     env["CARGO_TARGET_DIR"] = os.path.join(work, "target")
     build = ["cargo", "build", "--offline", "--quiet", "--profile", "mutant", "-j", "1"]

@@ -2,8 +2,9 @@
 file), new text. `same` says why a mistake changes no answer inside document 01's limits: such a one
 must survive, every other must be noticed.
 
-Files: profile.rs, occupancy.rs and mod.rs are the Rust; expect.rs is the driver's own part, written
-from document 01 (refusals 1 to 6, 15, 16, 20 to 23, tidy, and what the Rust says only in words).
+Files: profile.rs, occupancy.rs and mod.rs are the Rust; expect.rs and adapter.rs are the driver's
+own part, written from document 01 (refusals 1 to 6, 15, 16, 20 to 23 and their order, tidy, and what
+the Rust says only in words).
 """
 
 MUTATIONS = []
@@ -750,3 +751,38 @@ at(E, "((lo - margin) + margin, (hi + margin) - margin)", "(lo, hi)")
 at(E, "meant && overlaps(r, lo, hi) && watts > r.figure", "meant && overlaps(r, lo, hi) && watts >= r.figure")
 at(E, "watts.is_some_and(|w| w > 100.0)", "watts.is_some_and(|w| w >= 100.0)")
 at(E, "watts.is_some_and(|w| w > 9.15)", "watts.is_some_and(|w| w >= 9.15)")
+
+# ------------------------------------------------------------------------------- adapter.rs
+# The order of the refusals, for each call.
+A = "adapter.rs"
+
+STATION, IMAGE = "        expect::station_refusal(s, direction, kind),\n", "        expect::image_refusal(s, p.length, p.refusal),\n"
+EDGES = "        if expect::edges_refused(e) { 15 } else { 0 },\n"
+EVAL = STATION + IMAGE + EDGES
+at(A, EVAL, IMAGE + STATION + EDGES)
+at(A, EVAL, STATION + EDGES + IMAGE)
+at(A, EVAL, EDGES + STATION + IMAGE)
+at(A, EVAL, STATION + IMAGE)
+UNM = "        expect::station_refusal(s, 0, 0),\n"
+at(A, UNM + IMAGE, IMAGE + UNM)
+at(A, UNM + IMAGE, UNM)
+at(A, UNM + IMAGE, IMAGE)
+STATION = "        expect::station_refusal(s, direction, 0),\n"
+LIST = STATION + IMAGE + EDGES
+at(A, LIST, IMAGE + STATION + EDGES)
+at(A, LIST, STATION + EDGES + IMAGE)
+at(A, LIST, EDGES + STATION + IMAGE)
+at(A, LIST, STATION + IMAGE)
+EDGES = "        if edge_out { 15 } else { 0 },\n"
+RUNGS = "        if expect::rungs_refused(rungs, floors) { 16 } else { 0 },\n"
+CEILING = STATION + IMAGE + EDGES + RUNGS
+at(A, CEILING, IMAGE + STATION + EDGES + RUNGS)
+at(A, CEILING, STATION + EDGES + IMAGE + RUNGS)
+at(A, CEILING, STATION + IMAGE + RUNGS + EDGES)
+at(A, CEILING, STATION + RUNGS + IMAGE + EDGES)
+at(A, CEILING, EDGES + STATION + IMAGE + RUNGS)
+at(A, "let edge_out = expect::edges_refused(ordinary)\n        || ", "let edge_out = ")
+at(A, "        || expect::edges_refused(floor)\n", "")
+at(A, "        || rungs.iter().any(|&x| expect::out_of_size(x));", ";")
+at(A, "        || rungs.iter().any(|&x| expect::out_of_size(x));", "        || rungs.iter().skip(4).any(|&x| expect::out_of_size(x));")
+at(A, "        || rungs.iter().any(|&x| expect::out_of_size(x));", "        || rungs.iter().take(rungs.len().max(4) - 4).any(|&x| expect::out_of_size(x));")

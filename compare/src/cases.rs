@@ -592,6 +592,36 @@ fn crowd(rng: &mut Rng, t: &mut Table, scale: Scale) {
     }
 }
 
+/// As many records as an image can have, most of them far from everything: the others come late.
+fn vast(rng: &mut Rng, t: &mut Table) {
+    let far = |from: f64| Record { low: from - BIG, high: from + 1.0 - BIG, ..Record::default() };
+    let most = rng.pick(&[227, 227, 200, 256]);
+    let mut left = 2045 - t.tables.iter().map(Vec::len).sum::<usize>();
+    let order = rng.below(9);
+    for n in 0..9 {
+        let table = (n + order) % 9;
+        if (table == CHANNELS && !t.has(HAS_CHANNELS)) || (table >= PLAN_DATA && !t.has(HAS_PLAN)) {
+            continue;
+        }
+        let more = left.min(most - t.tables[table].len().min(most));
+        left -= more;
+        let dummy = match table {
+            BANDS => Record { band: 99, ..far(0.0) },
+            SEGMENTS => Record { band: 99, rule: 99, ..far(0.0) },
+            CHANNELS => Record { low: 5.0 - BIG, ..Record::default() },
+            PRIVILEGES => Record { class: rng.below(5) as u8, ..far(2.0) },
+            EXCLUDED => Record { band: 98, rule: 98, ..Record::default() },
+            POWER => Record { rule: 97, ..far(4.0) },
+            _ => far(4.0),
+        };
+        let at = rng.pick(&[0, 0, t.tables[table].len()]);
+        t.tables[table].splice(at..at, std::iter::repeat_n(dummy, more));
+    }
+    if t.tables[SEGMENTS].iter().any(|s| s.band == 99) && !t.tables[BANDS].iter().any(|b| b.band == 99) {
+        t.tables[SEGMENTS].retain(|s| s.band != 99);
+    }
+}
+
 pub fn world(rng: &mut Rng) -> World {
     let scale = rng.pick(&[
         Scale::Eighths,
@@ -609,12 +639,18 @@ pub fn world(rng: &mut Rng) -> World {
     let base = rng.chance(60).then(|| base_signal(rng, scale));
     let class = rng.below(5) as u8;
     if rng.chance(8) {
-        let table = hf_table(rng);
+        let mut table = hf_table(rng);
+        if rng.chance(4) {
+            vast(rng, &mut table);
+        }
         return settle(table, Scale::Hf, None, class);
     }
     let mut table = small_table(rng, scale, base, class);
     if rng.chance(4) {
         crowd(rng, &mut table, scale);
+    }
+    if rng.below(200) == 0 && scale != Scale::Huge && scale != Scale::Mixed {
+        vast(rng, &mut table);
     }
     settle(table, scale, base, class)
 }

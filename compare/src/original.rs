@@ -1,6 +1,5 @@
-//! The Rust that the stub answers from.
+//! The Rust that the stub answers from, with copies of the driver's own part and of the adapter.
 
-include!(concat!(env!("OUT_DIR"), "/expect_include.rs"));
+include!(concat!(env!("OUT_DIR"), "/include_expect.rs"));
 include!(concat!(env!("OUT_DIR"), "/original.rs"));
-#[path = "adapter.rs"]
-pub mod adapter;
+include!(concat!(env!("OUT_DIR"), "/include_adapter.rs"));

@@ -139,11 +139,13 @@ impl<'a> Page<'a> {
     fn verdict(&mut self, run: &mut Run, list: &mut List, s: &Station, kind: u8, direction: u8, e: &Edges, most: u32) {
         let d = run.verdict(self.image, self.p, s, kind, direction, e);
         let shape = u16::from(d.overshoot * 2 + d.edge) * 4 + u16::from(d.guidance);
-        let key = match d.refusal {
-            0 => (1, u16::from(d.code) * 4 + u16::from(d.verdict), shape, u16::from(kind) * 2 + u16::from(d.notes.contains(&1))),
-            r => (2, u16::from(r), 0, 0),
+        let code = u16::from(d.code) * 4 + u16::from(d.verdict);
+        let (key, most) = match (d.refusal, d.code) {
+            (0, 1..=9) => ((1, code, 0, 0), most),
+            (0, _) => ((1, code, shape, u16::from(kind) * 2 + u16::from(d.notes.contains(&1))), most * 2),
+            (r, _) => ((2, u16::from(r), 0, 0), most / 2),
         };
-        if list.wants(key, if d.refusal == 0 { most } else { most / 2 }) {
+        if list.wants(key, most) {
             self.take(list);
             let mut out = vec![0];
             out.extend(self.number.to_le_bytes());
@@ -245,7 +247,7 @@ pub fn write(run: &mut Run, file: &str) {
         if w.image.len() > 1000 {
             continue;
         }
-        page(run, &mut list, &w, &w.image, &none, 20, 24);
+        page(run, &mut list, &w, &w.image, &none, 80, 24);
         for _ in 0..2 {
             let image = cases::damaged(rng, &w);
             if image.len() <= 1000 {

@@ -1,3 +1,4 @@
+-- `drafts::draft_automatic` meets its contract: inside a segment for automatic control.
 use mathlib.Core.Path.{refl}
 use Rattle.part97.specs.Part97.{draftAutomatic}
 use Rattle.drafts.proofs.draft_automatic.Statement.{statement}

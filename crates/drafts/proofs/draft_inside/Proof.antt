@@ -1,3 +1,4 @@
+-- `drafts::draft_inside` meets its contract: judged against a segment.
 use mathlib.Core.Path.{refl}
 use Rattle.part97.specs.Part97.{draftInside}
 use Rattle.drafts.proofs.draft_inside.Statement.{statement}

@@ -1,3 +1,4 @@
+-- `drafts::draft_of` meets its contract: the signal alone, on a band or on none.
 use mathlib.Core.Path.{refl}
 use Rattle.part97.specs.Part97.{draftOf}
 use Rattle.drafts.proofs.draft_of.Statement.{statement}
