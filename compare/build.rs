@@ -31,10 +31,7 @@ fn place(src: &Path, out: &Path, name: &str) {
     let module = home.join("src/regulatory");
     fs::create_dir_all(&module).unwrap();
     for file in ["mod.rs", "profile.rs", "occupancy.rs"] {
-        copy(
-            &src.join("core/aetherd/src/regulatory").join(file),
-            &module.join(file),
-        );
+        copy(&src.join("core/aetherd/src/regulatory").join(file), &module.join(file));
     }
     fs::create_dir_all(home.join("data/regulatory")).unwrap();
     fs::write(home.join("data/occupancy.json"), "{\"airs\":{}}").unwrap();
@@ -43,7 +40,8 @@ fn place(src: &Path, out: &Path, name: &str) {
 }
 
 fn include(file: &Path, module: &str, into: &Path) {
-    let text = format!("#[allow(dead_code, unused_imports)]\n#[path = {file:?}]\npub mod {module};\n");
+    let text =
+        format!("#[allow(dead_code, unused_imports)]\n#[path = {file:?}]\npub mod {module};\n");
     fs::write(into, text).unwrap();
 }
 

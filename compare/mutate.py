@@ -90,7 +90,7 @@ def plant_all(args, rust, work):
     if args.stub:
         build += ["--features", "stub"]
     program = os.path.join(work, "target/mutant/pamuklid-compare")
-    run = [program, "--no-reach", "--seed", str(args.seed), "--verdicts", str(args.verdicts),
+    run = [program, "--brief", "--seed", str(args.seed), "--verdicts", str(args.verdicts),
            "--ceilings", str(args.ceilings), "--dials", str(args.dials)]
 
     def attempt():

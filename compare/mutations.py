@@ -752,6 +752,24 @@ at(E, "meant && overlaps(r, lo, hi) && watts > r.figure", "meant && overlaps(r, 
 at(E, "watts.is_some_and(|w| w > 100.0)", "watts.is_some_and(|w| w >= 100.0)")
 at(E, "watts.is_some_and(|w| w > 9.15)", "watts.is_some_and(|w| w >= 9.15)")
 
+# -------------------------------------------------- mod.rs again: each early return left out
+at(M, "if s.itu_region != profile.itu_region {", "if false {")
+at(M, "let Some(sideband) = s.sideband else {", "let Some(sideband) = s.sideband.or(Some(Sideband::Usb)) else {")
+at(M, "    if width > limit {", "    if false {")
+at(M, 'privilege_refusal(privileges, c.license, c.glo, c.ghi, "data", rf_text)', 'privilege_refusal(privileges, c.license, c.glo, c.ghi, "data", rf_text).filter(|_| false)')
+at(M, "privilege_refusal(privileges, c.license, c.glo, c.ghi, emission, &c.rf_text)", "privilege_refusal(privileges, c.license, c.glo, c.ghi, emission, &c.rf_text).filter(|_| false)")
+at(M, "if let Some(seg) = near {", "if let Some(seg) = near.filter(|_| false) {")
+at(M, AUTOSEG, ".find(|_| false)")
+at(M, "if elsewhere.requires_response && !responding {", "if false {")
+at(M, "    if !privileges_of(profile, c.license)\n        .iter()", "    if false && !privileges_of(profile, c.license)\n        .iter()")
+at(M, CH, ".find(|_| false)")
+at(M, SIXSEG, ".find(|_| false)")
+at(M, EXCL2, ".find(|_| false)")
+at(M, "if applies && let Some(power)", "if let Some(power)")
+at(M, "plan.avoid.iter().find(|a| a.range.overlaps(lo, hi)) {", "plan.avoid.iter().find(|_| false) {")
+at(M, "plan.data.iter().find(|a| a.range.holds(lo, hi)) {", "plan.data.iter().find(|_| false) {")
+at(M, ".filter_map(|auto| intersect(inter, *auto))", ".filter_map(|_| None)")
+
 # ------------------------------------------------------------------------------- adapter.rs
 # The order of the refusals, for each call.
 A = "adapter.rs"
@@ -763,10 +781,10 @@ at(A, EVAL, IMAGE + STATION + EDGES)
 at(A, EVAL, STATION + EDGES + IMAGE)
 at(A, EVAL, EDGES + STATION + IMAGE)
 at(A, EVAL, STATION + IMAGE)
-UNM = "        expect::station_refusal(s, 0, 0),\n"
-at(A, UNM + IMAGE, IMAGE + UNM)
-at(A, UNM + IMAGE, UNM)
-at(A, UNM + IMAGE, IMAGE)
+UNM = "first(&[expect::station_refusal(s, 0, 0), expect::image_refusal(s, p.length, p.refusal)]);"
+at(A, UNM, "first(&[expect::image_refusal(s, p.length, p.refusal), expect::station_refusal(s, 0, 0)]);")
+at(A, UNM, "first(&[expect::station_refusal(s, 0, 0)]);")
+at(A, UNM, "first(&[expect::image_refusal(s, p.length, p.refusal)]);")
 STATION = "        expect::station_refusal(s, direction, 0),\n"
 LIST = STATION + IMAGE + EDGES
 at(A, LIST, IMAGE + STATION + EDGES)
@@ -783,6 +801,7 @@ at(A, CEILING, STATION + RUNGS + IMAGE + EDGES)
 at(A, CEILING, EDGES + STATION + IMAGE + RUNGS)
 at(A, "let edge_out = expect::edges_refused(ordinary)\n        || ", "let edge_out = ")
 at(A, "        || expect::edges_refused(floor)\n", "")
-at(A, "        || rungs.iter().any(|&x| expect::out_of_size(x));", ";")
-at(A, "        || rungs.iter().any(|&x| expect::out_of_size(x));", "        || rungs.iter().skip(4).any(|&x| expect::out_of_size(x));")
-at(A, "        || rungs.iter().any(|&x| expect::out_of_size(x));", "        || rungs.iter().take(rungs.len().max(4) - 4).any(|&x| expect::out_of_size(x));")
+RUNG = "        || expect::rung_edges(rungs).iter().any(|&x| expect::out_of_size(x));"
+at(A, RUNG, ";")
+at(A, RUNG, "        || rungs.iter().skip(4).any(|&x| expect::out_of_size(x));")
+at(A, RUNG, "        || rungs.iter().take(rungs.len().max(4) - 4).any(|&x| expect::out_of_size(x));")

@@ -45,15 +45,8 @@ const CODES: [&str; 25] = [
 ];
 
 /// "Rules 0 to 6 mean empty, §97.301, §97.109, §97.305(a), §97.305(b), §97.305(c), §97.307(f)(9)".
-const RULES: [&str; 7] = [
-    "",
-    "§97.301",
-    "§97.109",
-    "§97.305(a)",
-    "§97.305(b)",
-    "§97.305(c)",
-    "§97.307(f)(9)",
-];
+const RULES: [&str; 7] =
+    ["", "§97.301", "§97.109", "§97.305(a)", "§97.305(b)", "§97.305(c)", "§97.307(f)(9)"];
 
 const CLASSES: [&str; 5] = ["novice", "technician", "general", "advanced", "extra"];
 const EMISSIONS: [&str; 4] = ["data", "cw", "test", "nothing"];
@@ -85,17 +78,11 @@ fn band_number(text: &str) -> Result<u8, String> {
 }
 
 fn names(bits: u8, of: &[&str]) -> Vec<String> {
-    (0..of.len())
-        .filter(|i| bits >> i & 1 == 1)
-        .map(|i| of[i].to_owned())
-        .collect()
+    (0..of.len()).filter(|i| bits >> i & 1 == 1).map(|i| of[i].to_owned()).collect()
 }
 
 fn range(r: &Record) -> Range {
-    Range {
-        low_hz: r.low,
-        high_hz: r.high,
-    }
+    Range { low_hz: r.low, high_hz: r.high }
 }
 
 fn label(r: &Record, kind: &str, index: usize) -> String {
@@ -121,10 +108,7 @@ fn profile_of(t: &Table) -> Profile {
         t.tables[table]
             .iter()
             .enumerate()
-            .map(|(i, r)| PlanArea {
-                range: range(r),
-                label: label(r, kind, i),
-            })
+            .map(|(i, r)| PlanArea { range: range(r), label: label(r, kind, i) })
             .collect()
     };
     Profile {
@@ -146,17 +130,11 @@ fn profile_of(t: &Table) -> Profile {
             },
             why: String::new(),
         },
-        data: DataLimit {
-            max_bandwidth_hz: t.data_limit,
-            rule: rule_text(t.rules[0]),
-        },
+        data: DataLimit { max_bandwidth_hz: t.data_limit, rule: rule_text(t.rules[0]) },
         cw_id: None,
         bands: t.tables[image::BANDS]
             .iter()
-            .map(|b| Band {
-                name: band_text(b.band),
-                range: range(b),
-            })
+            .map(|b| Band { name: band_text(b.band), range: range(b) })
             .collect(),
         data_segments: t.tables[image::SEGMENTS]
             .iter()
@@ -175,10 +153,7 @@ fn profile_of(t: &Table) -> Profile {
             carrier_offset_hz: t.offset,
             carrier_tolerance_hz: t.tolerance,
             sideband: if t.sideband == 0 { "usb" } else { "lsb" }.to_owned(),
-            list: t.tables[image::CHANNELS]
-                .iter()
-                .map(|c| Channel { center_hz: c.low })
-                .collect(),
+            list: t.tables[image::CHANNELS].iter().map(|c| Channel { center_hz: c.low }).collect(),
             why: String::new(),
         }),
         sixty_meter_emissions: has(image::HAS_EMISSIONS).then(|| SixtyEmissions {
@@ -332,10 +307,7 @@ fn situation(s: &Station) -> rust::Situation {
 
 fn edges(e: &Edges) -> rust::Edges {
     let f = e.figures().map(expect::read);
-    rust::Edges {
-        power: [f[0], f[1]],
-        spectral: [f[2], f[3]],
-    }
+    rust::Edges { power: [f[0], f[1]], spectral: [f[2], f[3]] }
 }
 
 fn kind_of(kind: u8) -> rust::EmissionKind {
@@ -475,11 +447,7 @@ fn read(p: &Prepared, s: &Station, kind: u8, d: &rust::Decision) -> Result<Decis
                 notes.push(format!(
                     "At {:.0} W: {} is limited to {} W measure#{i} here ({}).",
                     watts.unwrap_or_default(),
-                    if r.flags & 1 != 0 {
-                        "a Novice or Technician"
-                    } else {
-                        "a station"
-                    },
+                    if r.flags & 1 != 0 { "a Novice or Technician" } else { "a station" },
                     r.figure,
                     rule_text(r.rule)
                 ));
@@ -510,7 +478,8 @@ fn read(p: &Prepared, s: &Station, kind: u8, d: &rust::Decision) -> Result<Decis
                         .to_owned(),
                 ),
             };
-            let warns = !notes.is_empty() || matches!(found, Guidance::Avoid(_) | Guidance::Outside);
+            let warns =
+                !notes.is_empty() || matches!(found, Guidance::Avoid(_) | Guidance::Outside);
             if out.verdict != u8::from(warns) {
                 return Err(wrong("verdict", &format!("{:?}", d.verdict), "the other"));
             }
@@ -544,18 +513,10 @@ fn read(p: &Prepared, s: &Station, kind: u8, d: &rust::Decision) -> Result<Decis
         _ => {}
     }
     if d.notes != notes {
-        return Err(wrong(
-            "notes",
-            &format!("{:?}", d.notes),
-            &format!("{notes:?}"),
-        ));
+        return Err(wrong("notes", &format!("{:?}", d.notes), &format!("{notes:?}")));
     }
     if d.guidance != guidance {
-        return Err(wrong(
-            "guidance",
-            &format!("{:?}", d.guidance),
-            &format!("{guidance:?}"),
-        ));
+        return Err(wrong("guidance", &format!("{:?}", d.guidance), &format!("{guidance:?}")));
     }
     Ok(out)
 }
@@ -587,10 +548,8 @@ pub fn evaluate(
 
 /// `unmeasured`, refusals included.
 pub fn unmeasured(p: &Prepared, s: &Station) -> Result<Decision, String> {
-    let refusal = first(&[
-        expect::station_refusal(s, 0, 0),
-        expect::image_refusal(s, p.length, p.refusal),
-    ]);
+    let refusal =
+        first(&[expect::station_refusal(s, 0, 0), expect::image_refusal(s, p.length, p.refusal)]);
     if refusal != 0 {
         return Ok(ffi::refused(refusal));
     }
@@ -617,7 +576,7 @@ pub fn ceiling(
 ) -> Result<Ceiling, String> {
     let edge_out = expect::edges_refused(ordinary)
         || expect::edges_refused(floor)
-        || rungs.iter().any(|&x| expect::out_of_size(x));
+        || expect::rung_edges(rungs).iter().any(|&x| expect::out_of_size(x));
     let refusal = first(&[
         expect::station_refusal(s, direction, 0),
         expect::image_refusal(s, p.length, p.refusal),
@@ -625,11 +584,7 @@ pub fn ceiling(
         if expect::rungs_refused(rungs, floors) { 16 } else { 0 },
     ]);
     if refusal != 0 {
-        return Ok(Ceiling {
-            refusal,
-            rung: None,
-            limit: None,
-        });
+        return Ok(Ceiling { refusal, rung: None, limit: None });
     }
     let air = AirOccupancy {
         bandwidth_hz: 0,
@@ -645,9 +600,8 @@ pub fn ceiling(
         control_ordinary: edges(ordinary),
         control_floor: edges(floor),
     };
-    let found = policy(p, s).ceiling(&situation(s), &air, direction_of(direction), &|i| {
-        floors[i] == 1
-    });
+    let found =
+        policy(p, s).ceiling(&situation(s), &air, direction_of(direction), &|i| floors[i] == 1);
     Ok(Ceiling {
         refusal: 0,
         rung: found.rung.map(|r| r as u16),
@@ -656,7 +610,12 @@ pub fn ceiling(
 }
 
 /// `safe_dials`: the refusal (23 apart, which hangs on the rows lent) and the rows' bytes.
-pub fn safe_dials(p: &Prepared, s: &Station, direction: u8, e: &Edges) -> Result<(u8, Vec<u8>), String> {
+pub fn safe_dials(
+    p: &Prepared,
+    s: &Station,
+    direction: u8,
+    e: &Edges,
+) -> Result<(u8, Vec<u8>), String> {
     let refusal = first(&[
         expect::station_refusal(s, direction, 0),
         expect::image_refusal(s, p.length, p.refusal),
@@ -670,12 +629,7 @@ pub fn safe_dials(p: &Prepared, s: &Station, direction: u8, e: &Edges) -> Result
     // "A dial row is 36 bytes: segment low, high, dial low, high (f64), band byte, zero byte, u16
     // rule."
     for row in list {
-        for x in [
-            row.segment.low_hz,
-            row.segment.high_hz,
-            row.dial_low_hz,
-            row.dial_high_hz,
-        ] {
+        for x in [row.segment.low_hz, row.segment.high_hz, row.dial_low_hz, row.dial_high_hz] {
             rows.extend(x.to_bits().to_le_bytes());
         }
         rows.extend([band_number(&row.band)?, 0]);

@@ -3,8 +3,10 @@
 //! from document 01 (quoted) and READINGS.md, not from the Rust and not from the Rattle code.
 
 use crate::ffi::{Edges, Station};
+use crate::image::{
+    AUTOMATIC, BANDS, CHANNELS, EXCLUDED, PLAN_AVOID, PLAN_DATA, POWER, PRIVILEGES, SEGMENTS,
+};
 use crate::image::{Record, Table, f64_at, u16_at, u32_at};
-use crate::image::{AUTOMATIC, BANDS, CHANNELS, EXCLUDED, PLAN_AVOID, PLAN_DATA, POWER, PRIVILEGES, SEGMENTS};
 
 /// "not finite or above 2^40 in size"
 pub fn out_of_size(x: f64) -> bool {
@@ -147,27 +149,21 @@ fn record_is_right(table: usize, r: &[u8]) -> bool {
 
 /// "share a stretch of positive length"
 fn two_share(records: &[Record]) -> bool {
-    records.iter().enumerate().any(|(i, a)| {
-        records[..i]
-            .iter()
-            .any(|b| a.low.max(b.low) < a.high.min(b.high))
-    })
+    records
+        .iter()
+        .enumerate()
+        .any(|(i, a)| records[..i].iter().any(|b| a.low.max(b.low) < a.high.min(b.high)))
 }
 
 /// "A table is *tidy* if each data segment lies in a band of its number, and no two bands, no two
 /// segments, and no two privileges of one class share a stretch of positive length."
 pub fn tidy(table: &Table) -> bool {
     let at_home = table.tables[SEGMENTS].iter().all(|s| {
-        table.tables[BANDS]
-            .iter()
-            .any(|b| b.band == s.band && s.low >= b.low && s.high <= b.high)
+        table.tables[BANDS].iter().any(|b| b.band == s.band && s.low >= b.low && s.high <= b.high)
     });
     let class_shares = |class: u8| {
-        let of: Vec<Record> = table.tables[PRIVILEGES]
-            .iter()
-            .filter(|p| p.class == class)
-            .copied()
-            .collect();
+        let of: Vec<Record> =
+            table.tables[PRIVILEGES].iter().filter(|p| p.class == class).copied().collect();
         two_share(&of)
     };
     at_home
@@ -224,13 +220,23 @@ pub fn edges_refused(e: &Edges) -> bool {
     e.figures().into_iter().any(out_of_size)
 }
 
+/// Whether a figure past the last whole four of the rungs is an edge, which can meet 15, or only a
+/// wrong length, which meets 16. The papers leave it open; docs/DECISIONS.md decides. While this is
+/// `None`, no such figure is ever one that would meet 15.
+pub const TAIL_IS_AN_EDGE: Option<bool> = None;
+
+/// The figures of the rungs that can meet 15.
+pub fn rung_edges(rungs: &[f64]) -> &[f64] {
+    match TAIL_IS_AN_EDGE {
+        Some(false) => &rungs[..rungs.len() / 4 * 4],
+        _ => rungs,
+    }
+}
+
 /// "16 rungs not in fours, over 256, or floor bytes not one each of 0 or 1"
 pub fn rungs_refused(rungs: &[f64], floors: &[u8]) -> bool {
     let count = rungs.len() / 4;
-    rungs.len() % 4 != 0
-        || count > 256
-        || floors.len() != count
-        || floors.iter().any(|&f| f > 1)
+    rungs.len() % 4 != 0 || count > 256 || floors.len() != count || floors.iter().any(|&f| f > 1)
 }
 
 /// "23 the dial list longer than the whole rows lent"
@@ -310,16 +316,17 @@ pub enum Guidance {
 /// "`advise` gets the unguarded range, except in automatic judging, where the margin is taken off
 /// and put back in floats." Taken off the guarded range, that is: (lo − m) + m and (hi + m) − m.
 pub fn advised_range(automatic: bool, (lo, hi): (f64, f64), margin: f64) -> (f64, f64) {
-    if automatic {
-        ((lo - margin) + margin, (hi + margin) - margin)
-    } else {
-        (lo, hi)
-    }
+    if automatic { ((lo - margin) + margin, (hi + margin) - margin) } else { (lo, hi) }
 }
 
 /// The power records whose note is given: those that touch the range, are meant for the class, and
 /// whose watts are strictly below the station's.
-pub fn power_notes(table: &Table, (lo, hi): (f64, f64), license: u8, watts: Option<f64>) -> Vec<usize> {
+pub fn power_notes(
+    table: &Table,
+    (lo, hi): (f64, f64),
+    license: u8,
+    watts: Option<f64>,
+) -> Vec<usize> {
     let Some(watts) = watts else {
         return Vec::new();
     };

@@ -231,11 +231,7 @@ pub const NOTHING: Decision = Decision {
 
 /// "A refusal gives its number, Blocked, all else absent, count 0."
 pub fn refused(number: u8) -> Decision {
-    Decision {
-        refusal: number,
-        verdict: 2,
-        ..NOTHING
-    }
+    Decision { refusal: number, verdict: 2, ..NOTHING }
 }
 
 impl Decision {
@@ -332,11 +328,7 @@ impl Decision {
 
 impl Station {
     pub fn floats(&self) -> [(&'static str, f64); 3] {
-        [
-            ("margin_hz", self.margin_hz),
-            ("dial_hz", self.dial_hz),
-            ("power_w", self.power_w),
-        ]
+        [("margin_hz", self.margin_hz), ("dial_hz", self.dial_hz), ("power_w", self.power_w)]
     }
 
     pub fn bytes(&self) -> [(&'static str, u8); 8] {
@@ -355,20 +347,10 @@ impl Station {
 
 impl Edges {
     pub fn figures(&self) -> [f64; 4] {
-        [
-            self.power_low,
-            self.power_high,
-            self.spectral_low,
-            self.spectral_high,
-        ]
+        [self.power_low, self.power_high, self.spectral_low, self.spectral_high]
     }
 
     pub fn of(f: [f64; 4]) -> Self {
-        Self {
-            power_low: f[0],
-            power_high: f[1],
-            spectral_low: f[2],
-            spectral_high: f[3],
-        }
+        Self { power_low: f[0], power_high: f[1], spectral_low: f[2], spectral_high: f[3] }
     }
 }

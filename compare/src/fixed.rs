@@ -5,10 +5,13 @@
 use std::process::exit;
 
 use crate::Run;
-use crate::cases::{self, Ladder, Rng};
+use crate::cases::Ladder;
+use crate::compare::Room;
+use crate::draw::Rng;
 use crate::expect;
 use crate::ffi::{Decision, Edges, Station};
 use crate::image::*;
+use crate::tables;
 
 fn span(low: f64, high: f64) -> Record {
     Record { low, high, ..Record::default() }
@@ -52,7 +55,8 @@ pub fn practice() -> Table {
 
 /// READINGS.md: "band 1 is 0–100, its segment 20–80, an Extra's privilege 0–100, general limit 10".
 fn small() -> Table {
-    let mut t = Table { data_limit: 10.0, reading: 2, rules: [7, 0, 9, 0, 0, 12], ..Table::default() };
+    let mut t =
+        Table { data_limit: 10.0, reading: 2, rules: [7, 0, 9, 0, 0, 12], ..Table::default() };
     t.tables[BANDS].push(Record { band: 1, ..span(0.0, 100.0) });
     t.tables[SEGMENTS].push(Record { band: 1, rule: 13, ..span(20.0, 80.0) });
     t.tables[PRIVILEGES].push(Record { class: 4, ..span(0.0, 100.0) });
@@ -107,8 +111,7 @@ impl Asked<'_> {
         let image = self.table.encode();
         let p = self.run.image(&image);
         let e = self.edges();
-        let rng = &mut Rng::new(self.run.seed, 0);
-        let found = self.run.dials(rng, &image, &p, &self.s, self.direction, &e, Some(2));
+        let found = self.run.dials(&image, &p, &self.s, self.direction, &e, Room::Rows(2), 0);
         if found.refusal != 0 {
             wrong("a list that fits", &found.refusal.to_string());
         }
@@ -128,7 +131,14 @@ fn wrong(what: &str, got: &str) -> ! {
     exit(1)
 }
 
-fn asked(run: &mut Run, table: Table, license: u8, region: u8, margin: f64, edges: (f64, f64)) -> Asked<'_> {
+fn asked(
+    run: &mut Run,
+    table: Table,
+    license: u8,
+    region: u8,
+    margin: f64,
+    edges: (f64, f64),
+) -> Asked<'_> {
     let s = Station {
         margin_hz: margin,
         policy: 2,
@@ -276,13 +286,16 @@ fn readings(run: &mut Run) {
     let x = 22.099999999999998;
     let d = a.verdict(x);
     if a.list().iter().any(|r| r.0 <= x && x <= r.1) || d.verdict == 2 {
-        wrong("9: margin 2.4000000000000004 allows 22.099999999999998, which isn't listed", &d.text());
+        wrong(
+            "9: margin 2.4000000000000004 allows 22.099999999999998, which isn't listed",
+            &d.text(),
+        );
     }
 }
 
 /// Each of 256 power records, plan areas and areas to avoid, once at least.
 fn every_mark(run: &mut Run) {
-    let w = cases::marks(&mut Rng::new(run.seed, 0));
+    let w = tables::marks(&mut Rng::new(run.seed, 0));
     let p = run.image(&w.image);
     let class = w.table.tables[PRIVILEGES][0].class;
     let mut a = asked(run, w.table.clone(), class, 2, 0.25, (1.0, 2.0));

@@ -53,13 +53,7 @@ impl Table {
     /// The image's bytes, as it is: nothing is checked or put right.
     pub fn encode(&self) -> Vec<u8> {
         let mut out = Vec::new();
-        for x in [
-            self.data_limit,
-            self.elsewhere_limit,
-            self.width,
-            self.offset,
-            self.tolerance,
-        ] {
+        for x in [self.data_limit, self.elsewhere_limit, self.width, self.offset, self.tolerance] {
             out.extend(x.to_bits().to_le_bytes());
         }
         out.extend([
@@ -84,6 +78,55 @@ impl Table {
         out.extend(front.to_le_bytes());
         out.extend(1u16.to_le_bytes());
         out.extend(b"EDGE");
+        out
+    }
+
+    /// The table in words, a line for each record.
+    pub fn text(&self) -> String {
+        let names = [
+            "band",
+            "segment",
+            "channel",
+            "privilege",
+            "automatic",
+            "excluded",
+            "power",
+            "plan data",
+            "plan avoid",
+        ];
+        let mut out = format!(
+            "  general: limit {:?}, elsewhere {:?}, width {:?}, offset {:?}, tolerance {:?}, region {}, \
+             reading {}, flags {:#07b}, channel band {}, sideband {}, emissions {:#06b}, rules {:?}\n",
+            self.data_limit,
+            self.elsewhere_limit,
+            self.width,
+            self.offset,
+            self.tolerance,
+            self.region,
+            self.reading,
+            self.flags,
+            self.channel_band,
+            self.sideband,
+            self.emissions,
+            self.rules
+        );
+        for (name, records) in names.iter().zip(&self.tables) {
+            for r in records {
+                out += &format!(
+                    "  {name}: {:?} to {:?}, figure {:?}, band {}, class {}, emissions {:#06b}, \
+                     flags {:#04b}, rule {}, second {}\n",
+                    r.low,
+                    r.high,
+                    r.figure,
+                    r.band,
+                    r.class,
+                    r.emissions,
+                    r.flags,
+                    r.rule,
+                    r.second
+                );
+            }
+        }
         out
     }
 

@@ -50,9 +50,7 @@ const VERDICTS: [(u16, &[u16]); 25] = [
 ];
 
 /// Codes that the limit of a ceiling can have: the blocked ones for data, 4 apart.
-const LIMITS: [u16; 19] = [
-    1, 2, 5, 6, 7, 8, 9, 10, 11, 12, 13, 14, 15, 18, 19, 20, 22, 23, 24,
-];
+const LIMITS: [u16; 19] = [1, 2, 5, 6, 7, 8, 9, 10, 11, 12, 13, 14, 15, 18, 19, 20, 22, 23, 24];
 
 pub const OTHER: [Key; 43] = [
     // 1 beyond, 2 too close; edge 0 lower, 1 upper. "Too close" never names the lower edge.
@@ -167,10 +165,7 @@ impl Reach {
     }
 
     pub fn missing(&self) -> Vec<Key> {
-        Self::required()
-            .into_iter()
-            .filter(|k| !self.counts.contains_key(k))
-            .collect()
+        Self::required().into_iter().filter(|k| !self.counts.contains_key(k)).collect()
     }
 
     /// Every count, except the long runs of notes and indices, of which the least is given.

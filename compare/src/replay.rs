@@ -36,9 +36,13 @@
 
 use std::collections::BTreeMap;
 
-use crate::cases::{self, Rng, World};
+use crate::cases::{self, Ladder};
+use crate::compare::Room;
+use crate::damage;
+use crate::draw::{Rng, Scale};
 use crate::ffi::{Decision, Edges, Station};
 use crate::oracle::adapter::Prepared;
+use crate::tables::{self, World};
 use crate::{Run, fixed};
 
 #[derive(Default)]
@@ -136,13 +140,24 @@ impl<'a> Page<'a> {
         }
     }
 
-    fn verdict(&mut self, run: &mut Run, list: &mut List, s: &Station, kind: u8, direction: u8, e: &Edges, most: u32) {
+    fn verdict(
+        &mut self,
+        run: &mut Run,
+        list: &mut List,
+        s: &Station,
+        kind: u8,
+        direction: u8,
+        e: &Edges,
+        most: u32,
+    ) {
         let d = run.verdict(self.image, self.p, s, kind, direction, e);
         let shape = u16::from(d.overshoot * 2 + d.edge) * 4 + u16::from(d.guidance);
         let code = u16::from(d.code) * 4 + u16::from(d.verdict);
         let (key, most) = match (d.refusal, d.code) {
             (0, 1..=9) => ((1, code, 0, 0), most),
-            (0, _) => ((1, code, shape, u16::from(kind) * 2 + u16::from(d.notes.contains(&1))), most * 2),
+            (0, _) => {
+                ((1, code, shape, u16::from(kind) * 2 + u16::from(d.notes.contains(&1))), most * 2)
+            }
             (r, _) => ((2, u16::from(r), 0, 0), most / 2),
         };
         if list.wants(key, most) {
@@ -170,7 +185,15 @@ impl<'a> Page<'a> {
         }
     }
 
-    fn ceiling(&mut self, run: &mut Run, list: &mut List, s: &Station, direction: u8, l: &cases::Ladder, most: u32) {
+    fn ceiling(
+        &mut self,
+        run: &mut Run,
+        list: &mut List,
+        s: &Station,
+        direction: u8,
+        l: &Ladder,
+        most: u32,
+    ) {
         if l.rungs.len() > 48 && !list.wants((4, 0, 0, 0), 2) {
             return;
         }
@@ -203,8 +226,17 @@ impl<'a> Page<'a> {
         }
     }
 
-    fn dials(&mut self, run: &mut Run, rng: &mut Rng, list: &mut List, s: &Station, direction: u8, e: &Edges, most: u32) {
-        let found = run.dials(rng, self.image, self.p, s, direction, e, None);
+    fn dials(
+        &mut self,
+        run: &mut Run,
+        rng: &mut Rng,
+        list: &mut List,
+        s: &Station,
+        direction: u8,
+        e: &Edges,
+        most: u32,
+    ) {
+        let found = run.dials(self.image, self.p, s, direction, e, Room::draw(rng), 0);
         let n = found.rows.len() / 36;
         if n > 40 {
             return;
@@ -232,9 +264,9 @@ pub fn write(run: &mut Run, file: &str) {
     let mut list = List::default();
     let none = run.image(&[]);
     // the practice table, then worlds and damaged images from the seed
-    let practice = cases::settle(fixed::practice(), cases::Scale::Hf, None, 2);
+    let practice = tables::settle(fixed::practice(), Scale::Hf, None, 2);
     page(run, &mut list, &practice, &practice.image, &none, 60, 20);
-    let marks = cases::marks(&mut Rng::new(run.seed, 0));
+    let marks = tables::marks(&mut Rng::new(run.seed, 0));
     page(run, &mut list, &marks, &marks.image, &none, 30, 20);
     let mut long = practice.image.clone();
     let end = long.len() - 28;
@@ -243,13 +275,13 @@ pub fn write(run: &mut Run, file: &str) {
     for place in 1..=4000 {
         run.place = place;
         let rng = &mut Rng::new(run.seed, place);
-        let w = cases::world(rng);
+        let w = tables::world(rng);
         if w.image.len() > 1000 {
             continue;
         }
         page(run, &mut list, &w, &w.image, &none, 80, 24);
         for _ in 0..2 {
-            let image = cases::damaged(rng, &w);
+            let image = damage::damaged(rng, &w);
             if image.len() <= 1000 {
                 page(run, &mut list, &w, &image, &none, 2, 8);
             }
@@ -277,19 +309,28 @@ pub fn write(run: &mut Run, file: &str) {
 }
 
 /// Cases on one image: `tries` of each call, of which those are taken that are still wanted.
-fn page(run: &mut Run, list: &mut List, w: &World, image: &[u8], none: &Prepared, tries: usize, most: u32) {
+fn page(
+    run: &mut Run,
+    list: &mut List,
+    w: &World,
+    image: &[u8],
+    none: &Prepared,
+    tries: usize,
+    most: u32,
+) {
     let p = run.image(image);
     let mut page = Page::new(list, image, &p);
     page.check(list, most / 2);
     let rng = &mut Rng::new(run.seed, run.place + (1 << 32));
     for i in 0..tries {
-        let (signal, mut s, mut e, mut kind, mut direction) = crate::draw(rng, w, |_, _, _, _, _| false);
+        let (signal, mut s, mut e, mut kind, mut direction) =
+            crate::draw(rng, w, |_, _, _, _, _| false);
         if rng.chance(6) {
             match rng.below(4) {
-                0 => cases::spoil_code(rng, &mut kind),
-                1 => cases::spoil_code(rng, &mut direction),
-                2 => cases::spoil_edges(rng, &mut e),
-                _ => cases::spoil_station(rng, &mut s),
+                0 => damage::spoil_code(rng, &mut kind),
+                1 => damage::spoil_code(rng, &mut direction),
+                2 => damage::spoil_edges(rng, &mut e),
+                _ => damage::spoil_station(rng, &mut s),
             }
         }
         page.verdict(run, list, &s, kind, direction, &e, most);
@@ -298,7 +339,7 @@ fn page(run: &mut Run, list: &mut List, w: &World, image: &[u8], none: &Prepared
             page.dials(run, rng, list, &s, direction, &e, most / 2);
             let mut l = cases::ladder(rng, w, &signal);
             if rng.chance(10) {
-                cases::spoil_ladder(rng, &mut l);
+                damage::spoil_ladder(rng, &mut l);
             }
             page.ceiling(run, list, &s, direction, &l, most / 4);
         }

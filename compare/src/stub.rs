@@ -108,8 +108,5 @@ extern "C" fn pamuklid_safe_dials(
         return Dials { count: 0, refusal };
     }
     rows[..bytes.len()].copy_from_slice(&bytes);
-    Dials {
-        count: (bytes.len() / 36) as u32,
-        refusal: 0,
-    }
+    Dials { count: (bytes.len() / 36) as u32, refusal: 0 }
 }

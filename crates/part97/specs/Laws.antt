@@ -2,18 +2,23 @@
 use Prim.Native.Nat.{ℕ, zero, suc, _+_, _<_}
 use mathlib.Core.Bool.{Bool, true, false, cond, _||_}
 use mathlib.Core.List.{List}
-use mathlib.Core.Path.{_≡_, refl}
+use mathlib.Core.Path.{_≡_, refl, sym, ap, _∙_}
 use native.Mathlib.Numerals.{add-one}
 use native.Mathlib.Omega.{arith}
 use lib.ListN.{set}
-use lib.Ieee.{Float}
+use lib.Ieee.{Float, lt}
 use Rattle.figures.specs.Figure.{totalLess}
 use Rattle.profile.specs.Range.{overlapsOf}
 use Rattle.profile.specs.declared.Range.{Range}
+use Rattle.profile.specs.declared.DataLimit.{DataLimit}
+use Rattle.scan.specs.First.{onFound, cond-yes, cond-not}
+use Rattle.scan.specs.declared.Found.{Found}
+use Rattle.scan.specs.declared.Found.the-variants.{At, Nothing}
+use Rattle.table.specs.declared.Segment.{Segment}
 use Rattle.part97.specs.declared.Case.{Case}
 use Rattle.part97.specs.declared.Nearest.{Nearest}
 use Rattle.part97.specs.declared.Nearest.the-variants.{Near, NoneNear}
-use Rattle.part97.specs.Part97.{segmentAt, reach, notesUpTo, anyNote, nearerBy, considered, nearestUpTo}
+use Rattle.part97.specs.Part97.{segmentAt, limitFor, tooWide, insideSegment, outsideSegments, judgeData, reach, notesUpTo, anyNote, nearerBy, considered, nearestUpTo}
 
 pub notes-more : (note : ℕ → Bool) (n : ℕ) → notesUpTo note (n + 1) ≡ cond (note n) (set (notesUpTo note n) n 1) (notesUpTo note n)
 unfolding notesUpTo
@@ -53,3 +58,29 @@ unfolding nearestUpTo
 nearest-below table c zero i by e = absurd (let z : _≡_ {A = ℕ} 0 1 = cc in omega arith)
 nearest-below table c (suc n) i by e =
     considered-below c (nearestUpTo table c n) n (segmentAt table n .range) (nearest-below table c n) i by e
+
+-- the answer to data, by what is found: too wide, inside a segment, outside them all
+module _ (table : List ℕ) (c : Case) (band : ℕ) (found : Found) where
+  pub judge-wide :
+    (limit : DataLimit) → limit ≡ limitFor table found → lt (limit .«max_bandwidth_hz») (c .width) ≡ true
+    → tooWide c band limit ≡ judgeData table c band found
+  unfolding judgeData
+  judge-wide limit e t =
+      ap (tooWide c band) e ∙ sym (cond-yes _ _ (ap (λ (d : DataLimit). lt (d .«max_bandwidth_hz») (c .width)) (sym e) ∙ t))
+
+  pub judge-inside :
+    (i : ℕ) → found ≡ At i → (s : Segment) → s ≡ segmentAt table i → (limit : DataLimit) → limit ≡ limitFor table found
+    → lt (limit .«max_bandwidth_hz») (c .width) ≡ false → insideSegment table c band s ≡ judgeData table c band found
+  unfolding judgeData
+  judge-inside i f s es limit e t =
+      ap (insideSegment table c band) es
+      ∙ ap (λ (x : Found). onFound x (λ k. insideSegment table c band (segmentAt table k)) (outsideSegments table c band)) (sym f)
+      ∙ sym (cond-not _ _ (ap (λ (d : DataLimit). lt (d .«max_bandwidth_hz») (c .width)) (sym e) ∙ t))
+
+  pub judge-outside :
+    found ≡ Nothing → (limit : DataLimit) → limit ≡ limitFor table found → lt (limit .«max_bandwidth_hz») (c .width) ≡ false
+    → outsideSegments table c band ≡ judgeData table c band found
+  unfolding judgeData
+  judge-outside f limit e t =
+      ap (λ (x : Found). onFound x (λ k. insideSegment table c band (segmentAt table k)) (outsideSegments table c band)) (sym f)
+      ∙ sym (cond-not _ _ (ap (λ (d : DataLimit). lt (d .«max_bandwidth_hz») (c .width)) (sym e) ∙ t))

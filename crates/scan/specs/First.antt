@@ -148,3 +148,10 @@ some-false test n e = go (first test n) refl e
 abbrev pub onFound : {A : Type 0} → Found → (ℕ → A) → A → A
 onFound (At i) f a = f i
 onFound Nothing f a = a
+
+-- a branch whose test is known
+pub cond-yes : {A : Type 0} (x y : A) {b : Bool} → b ≡ true → cond b x y ≡ x
+cond-yes x y e = ap (λ (t : Bool). cond t x y) e
+
+pub cond-not : {A : Type 0} (x y : A) {b : Bool} → b ≡ false → cond b x y ≡ y
+cond-not x y e = ap (λ (t : Bool). cond t x y) e

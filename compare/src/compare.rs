@@ -1,0 +1,369 @@
+//! One call on both sides. Every function gives the agreed answer or says what differs; every byte
+//! lent is held against what it was.
+
+use crate::cases::Ladder;
+use crate::draw::Rng;
+use crate::expect;
+use crate::ffi::{self, Decision, Edges, Station};
+use crate::image;
+use crate::oracle::adapter::{self, Prepared};
+
+pub type Told<T> = Result<T, String>;
+
+fn unchanged(before: &[u8], after: &[u8], what: &str) -> Told<()> {
+    if before == after {
+        return Ok(());
+    }
+    Err(format!("the call changed its {what}"))
+}
+
+fn equal(what: &str, library: usize, expected: usize) -> Told<()> {
+    if library == expected {
+        return Ok(());
+    }
+    Err(format!("{what}: library {library}, expected {expected}"))
+}
+
+fn agreed(want: Told<Decision>, got: &Decision) -> Told<Decision> {
+    let want = want?;
+    // "With that, no answer and no row ever holds a negative zero."
+    if let Some((name, _)) = want.floats().into_iter().find(|f| f.1.to_bits() == 1 << 63) {
+        return Err(format!("the Rust answers a negative zero: {name}"));
+    }
+    match got.difference(&want) {
+        None => Ok(want),
+        Some(what) => {
+            Err(format!("{what}\n  library:  {}\n  expected: {}", got.text(), want.text()))
+        }
+    }
+}
+
+/// The check and the tidy question.
+pub fn image(image: &[u8]) -> Told<Prepared> {
+    let p = adapter::prepare(image)?;
+    let lent = image.to_vec();
+    equal("check", ffi::check(&lent).into(), p.refusal.into())?;
+    equal("tidy", ffi::tidy(&lent).into(), adapter::tidy(&p).into())?;
+    unchanged(image, &lent, "image")?;
+    Ok(p)
+}
+
+pub fn verdict(
+    image: &[u8],
+    p: &Prepared,
+    s: &Station,
+    kind: u8,
+    direction: u8,
+    e: &Edges,
+) -> Told<Decision> {
+    let lent = image.to_vec();
+    let got = ffi::evaluate(*s, kind, direction, *e, &lent);
+    let want = agreed(adapter::evaluate(p, s, kind, direction, e), &got)?;
+    unchanged(image, &lent, "image")?;
+    Ok(want)
+}
+
+pub fn unmeasured(image: &[u8], p: &Prepared, s: &Station) -> Told<Decision> {
+    let lent = image.to_vec();
+    let got = ffi::unmeasured(*s, &lent);
+    let want = agreed(adapter::unmeasured(p, s), &got)?;
+    unchanged(image, &lent, "image")?;
+    Ok(want)
+}
+
+pub fn ceiling(
+    image: &[u8],
+    p: &Prepared,
+    s: &Station,
+    direction: u8,
+    l: &Ladder,
+) -> Told<adapter::Ceiling> {
+    let (lent, rungs, floors) = (image.to_vec(), l.rungs.clone(), l.floors.clone());
+    let got = ffi::ceiling(*s, direction, l.ordinary, l.floor, &lent, &rungs, &floors);
+    let want = adapter::ceiling(p, s, direction, &l.ordinary, &l.floor, &l.rungs, &l.floors)?;
+    equal("refusal", got.refusal.into(), want.refusal.into())?;
+    equal("rung_known", got.rung_known.into(), want.rung.is_some().into())?;
+    equal("rung", got.rung.into(), want.rung.unwrap_or(0).into())?;
+    equal("limit_known", got.limit_known.into(), want.limit.is_some().into())?;
+    match &want.limit {
+        Some(limit) => {
+            agreed(Ok(*limit), &got.limit)?;
+        }
+        None if !ffi::absent_limit_is_right(&got) => {
+            return Err(format!("an absent limit isn't zero: {}", got.limit.text()));
+        }
+        None => {}
+    }
+    unchanged(image, &lent, "image")?;
+    unchanged(&l.floors, &floors, "floor bytes")?;
+    let bits = |x: &[f64]| x.iter().flat_map(|x| x.to_bits().to_le_bytes()).collect::<Vec<u8>>();
+    unchanged(&bits(&l.rungs), &bits(&rungs), "rungs")?;
+    Ok(want)
+}
+
+/// How many bytes are lent for the rows of a list, and what they hold before.
+#[derive(Clone, Copy, Debug)]
+pub enum Room {
+    Rows(usize),
+    /// So many bytes more than the list needs.
+    More(usize),
+    /// So many fewer, none at the least.
+    Fewer(usize),
+}
+
+impl Room {
+    /// Exact; a few bytes more; whole rows more; a row or a byte too short; none at all.
+    pub fn draw(rng: &mut Rng) -> Self {
+        match rng.below(12) {
+            0..=4 => Self::More(0),
+            5 => Self::More(1 + rng.below(35)),
+            6 => Self::More(36 * (1 + rng.below(4))),
+            7 => Self::More(36 * rng.below(3) + rng.below(36)),
+            8 => Self::Fewer(1),
+            9 => Self::Fewer(36),
+            10 => Self::Fewer(1 + rng.below(36)),
+            _ => Self::Rows(0),
+        }
+    }
+}
+
+/// A dial list: the refusal, the rows' bytes (none on a refusal), and how many bytes were lent.
+pub struct Found {
+    pub refusal: u8,
+    pub rows: Vec<u8>,
+    pub lent: usize,
+}
+
+pub fn dials(
+    image: &[u8],
+    p: &Prepared,
+    s: &Station,
+    direction: u8,
+    e: &Edges,
+    room: Room,
+    fill: u64,
+) -> Told<Found> {
+    let (refusal, rows) = adapter::safe_dials(p, s, direction, e)?;
+    if rows.chunks(36).any(|r| (0..4).any(|i| image::f64_at(r, 8 * i).to_bits() == 1 << 63)) {
+        return Err("the Rust lists a negative zero".to_owned());
+    }
+    let lent = match room {
+        Room::Rows(n) => 36 * n,
+        Room::More(n) => rows.len() + n,
+        Room::Fewer(n) => rows.len().saturating_sub(n),
+    };
+    let mut rng = Rng::new(fill, 0);
+    let before: Vec<u8> = (0..lent).map(|_| rng.next() as u8).collect();
+    let mut after = before.clone();
+    let tables = image.to_vec();
+    let got = ffi::safe_dials(*s, direction, *e, &tables, &mut after);
+    let refusal = match refusal {
+        0 if expect::rows_refused(rows.len() / 36, lent) => 23,
+        other => other,
+    };
+    let rows = if refusal == 0 { rows } else { Vec::new() };
+    equal("refusal", got.refusal.into(), refusal.into())?;
+    equal("count", got.count as usize, rows.len() / 36)?;
+    let n = rows.len();
+    if let Some(i) = (0..n / 36).find(|i| after[36 * i..36 * i + 36] != rows[36 * i..36 * i + 36]) {
+        let row = |of: &[u8]| row_text(&of[36 * i..36 * i + 36]);
+        return Err(format!("row {i}: library {}, expected {}", row(&after), row(&rows)));
+    }
+    unchanged(&before[n..], &after[n..], "bytes past the rows")?;
+    unchanged(image, &tables, "image")?;
+    Ok(Found { refusal, rows, lent })
+}
+
+fn row_text(r: &[u8]) -> String {
+    let f = |i: usize| image::f64_at(r, 8 * i);
+    format!(
+        "segment {:?} to {:?}, dial {:?} to {:?}, band {}, zero {}, rule {}",
+        f(0),
+        f(1),
+        f(2),
+        f(3),
+        r[32],
+        r[33],
+        image::u16_at(r, 34)
+    )
+}
+
+/// A call with its inputs, for the report of a difference.
+#[derive(Clone)]
+pub enum Call {
+    Image,
+    Verdict { kind: u8, direction: u8, e: Edges },
+    Unmeasured,
+    Ceiling { direction: u8, ladder: Ladder },
+    Dials { direction: u8, e: Edges, room: Room, fill: u64 },
+}
+
+#[derive(Clone)]
+pub struct Case {
+    pub image: Vec<u8>,
+    pub s: Station,
+    pub call: Call,
+}
+
+impl Case {
+    /// What differs, if anything does.
+    pub fn difference(&self) -> Option<String> {
+        let p = match adapter::prepare(&self.image) {
+            Ok(p) => p,
+            Err(what) => return Some(what),
+        };
+        match &self.call {
+            Call::Image => image(&self.image).err(),
+            Call::Verdict { kind, direction, e } => {
+                verdict(&self.image, &p, &self.s, *kind, *direction, e).err()
+            }
+            Call::Unmeasured => unmeasured(&self.image, &p, &self.s).err(),
+            Call::Ceiling { direction, ladder } => {
+                ceiling(&self.image, &p, &self.s, *direction, ladder).err()
+            }
+            Call::Dials { direction, e, room, fill } => {
+                dials(&self.image, &p, &self.s, *direction, e, *room, *fill).err()
+            }
+        }
+    }
+
+    /// A smaller case that differs still: records, rungs and parts of the station taken away one
+    /// after another while they aren't needed.
+    pub fn smaller(&self) -> Self {
+        let mut best = self.clone();
+        loop {
+            let before = (best.image.len(), best.rungs());
+            best = best.fewer_records().fewer_rungs().plainer_station();
+            if (best.image.len(), best.rungs()) == before {
+                return best;
+            }
+        }
+    }
+
+    fn rungs(&self) -> usize {
+        match &self.call {
+            Call::Ceiling { ladder, .. } => ladder.rungs.len(),
+            _ => 0,
+        }
+    }
+
+    fn fewer_records(self) -> Self {
+        let mut best = self;
+        if matches!(expect::image_1_to_6(&best.image), 1..=4) {
+            return best;
+        }
+        for table in 0..9 {
+            let mut step = image::decode(&best.image).tables[table].len();
+            while step > 0 {
+                let mut at = 0;
+                while at < image::decode(&best.image).tables[table].len() {
+                    let mut t = image::decode(&best.image);
+                    let end = (at + step).min(t.tables[table].len());
+                    t.tables[table].drain(at..end);
+                    let next = Self { image: t.encode(), ..best.clone() };
+                    if next.difference().is_some() {
+                        best = next;
+                    } else {
+                        at += step;
+                    }
+                }
+                step /= 2;
+            }
+        }
+        best
+    }
+
+    fn fewer_rungs(self) -> Self {
+        let mut best = self;
+        let mut at = 0;
+        while at < best.rungs() / 4 {
+            let mut next = best.clone();
+            if let Call::Ceiling { ladder, .. } = &mut next.call {
+                ladder.rungs.drain(4 * at..4 * at + 4);
+                if at < ladder.floors.len() {
+                    ladder.floors.remove(at);
+                }
+            }
+            if next.difference().is_some() {
+                best = next;
+            } else {
+                at += 1;
+            }
+        }
+        best
+    }
+
+    fn plainer_station(self) -> Self {
+        let changes: [fn(&mut Station); 5] = [
+            |s| (s.power_known, s.power_w) = (0, 0.0),
+            |s| s.band_plan = 0,
+            |s| s.margin_hz = 0.0,
+            |s| s.control = 0,
+            |s| s.sideband = 0,
+        ];
+        let mut best = self;
+        for change in changes {
+            let mut next = best.clone();
+            change(&mut next.s);
+            if next.difference().is_some() {
+                best = next;
+            }
+        }
+        best
+    }
+
+    pub fn dump(&self) {
+        let name = match &self.call {
+            Call::Image => "check, tidy",
+            Call::Verdict { .. } => "evaluate",
+            Call::Unmeasured => "unmeasured",
+            Call::Ceiling { .. } => "ceiling",
+            Call::Dials { .. } => "safe_dials",
+        };
+        println!("call: {name}");
+        if !matches!(self.call, Call::Image) {
+            for (name, x) in self.s.floats() {
+                println!("  {name}: {}", figure(x));
+            }
+            let codes: Vec<String> =
+                self.s.bytes().iter().map(|(name, x)| format!("{name} {x}")).collect();
+            println!("  {}", codes.join(", "));
+        }
+        match &self.call {
+            Call::Image | Call::Unmeasured => {}
+            Call::Verdict { kind, direction, e } => {
+                println!("  kind {kind}, direction {direction}");
+                println!("  edges: {}", edges_text(e));
+            }
+            Call::Ceiling { direction, ladder } => {
+                println!("  direction {direction}");
+                println!("  ordinary: {}", edges_text(&ladder.ordinary));
+                println!("  floor: {}", edges_text(&ladder.floor));
+                for (i, r) in ladder.rungs.chunks(4).enumerate() {
+                    let figures: Vec<String> = r.iter().map(|x| figure(*x)).collect();
+                    println!("  rung {i}: {}", figures.join(", "));
+                }
+                println!("  floors: {:?}", ladder.floors);
+            }
+            Call::Dials { direction, e, room, .. } => {
+                println!("  direction {direction}");
+                println!("  edges: {}", edges_text(e));
+                println!("  room for rows: {room:?} bytes");
+            }
+        }
+        let hex: String = self.image.iter().map(|b| format!("{b:02x}")).collect();
+        println!("  image, {} bytes: {hex}", self.image.len());
+        if !matches!(expect::image_1_to_6(&self.image), 1..=4) {
+            print!("{}", image::decode(&self.image).text());
+        }
+    }
+}
+
+fn figure(x: f64) -> String {
+    format!("{x:?} ({:#018x})", x.to_bits())
+}
+
+fn edges_text(e: &Edges) -> String {
+    let f = e.figures().map(figure);
+    format!("power {} to {}, spectral {} to {}", f[0], f[1], f[2], f[3])
+}

@@ -1,0 +1,304 @@
+//! What is to be refused: damaged images, and stations, edges and rungs outside their values.
+
+use crate::cases::Ladder;
+use crate::draw::{BIG, Rng, nudge, plain};
+use crate::expect::TAIL_IS_AN_EDGE;
+use crate::ffi::{Edges, Station};
+use crate::image::*;
+use crate::tables::{World, whole};
+
+/// A figure that meets 6, 15 or 21, or just doesn't.
+fn odd_figure(rng: &mut Rng) -> f64 {
+    let sign = rng.next() & 1 << 63;
+    let x: f64 = match rng.below(8) {
+        0 => f64::INFINITY,
+        1 => f64::NAN,
+        2 => f64::from_bits(0x7ff0_0000_0000_0001),
+        3 => f64::from_bits(0x7fff_ffff_ffff_ffff),
+        4 => BIG.next_up(),
+        5 => BIG,
+        6 => f64::MAX,
+        _ => 0.0,
+    };
+    f64::from_bits(x.to_bits() ^ sign)
+}
+
+/// A code outside its values, or just inside.
+fn odd_code(rng: &mut Rng) -> u8 {
+    rng.pick(&[2, 3, 4, 5, 6, 16, 128, 253, 254, 255])
+}
+
+pub fn spoil_station(rng: &mut Rng, s: &mut Station) {
+    match rng.below(10) {
+        0 => s.policy = odd_code(rng),
+        1 => s.control = odd_code(rng),
+        2 => s.license = odd_code(rng),
+        3 => s.sideband = odd_code(rng),
+        4 => s.band_plan = odd_code(rng),
+        5 => s.dial_known = odd_code(rng),
+        6 => s.power_known = odd_code(rng),
+        7 => s.margin_hz = odd_figure(rng),
+        8 => s.dial_hz = odd_figure(rng),
+        _ => s.power_w = odd_figure(rng),
+    }
+}
+
+pub fn spoil_code(rng: &mut Rng, code: &mut u8) {
+    *code = odd_code(rng);
+}
+
+pub fn spoil_edges(rng: &mut Rng, e: &mut Edges) {
+    let mut f = e.figures();
+    f[rng.below(4)] = odd_figure(rng);
+    *e = Edges::of(f);
+}
+
+/// 15 and 16.
+pub fn spoil_ladder(rng: &mut Rng, l: &mut Ladder) {
+    match rng.below(8) {
+        0 => spoil_edges(rng, &mut l.ordinary),
+        1 => spoil_edges(rng, &mut l.floor),
+        2 if !l.rungs.is_empty() => {
+            let i = rng.below(l.rungs.len() / 4 * 4);
+            l.rungs[i] = odd_figure(rng);
+        }
+        3 => {
+            for _ in 0..1 + rng.below(3) {
+                let odd = TAIL_IS_AN_EDGE.is_some() && rng.chance(30);
+                l.rungs.push(if odd { odd_figure(rng) } else { 1.0 });
+            }
+        }
+        4 if !l.floors.is_empty() => {
+            let i = rng.below(l.floors.len());
+            l.floors[i] = rng.pick(&[2, 255, 254, 3, 128]);
+        }
+        5 => l.floors.push(rng.below(2) as u8),
+        6 => {
+            l.floors.pop();
+        }
+        _ => {
+            let over = rng.pick(&[256, 257, 258, 300]);
+            l.rungs.resize(4 * over, 1.0);
+            l.floors.resize(over, 0);
+        }
+    }
+}
+
+/// A damaged copy of a world's image, by one to three mistakes.
+pub fn damaged(rng: &mut Rng, w: &World) -> Vec<u8> {
+    let mut t = w.table.clone();
+    let rounds = rng.pick(&[1, 1, 1, 2, 3]);
+    for _ in 0..rounds {
+        spoil_table(rng, w, &mut t);
+    }
+    let mut image = t.encode();
+    if rng.chance(60) {
+        for _ in 0..rounds {
+            spoil_bytes(rng, &mut image);
+        }
+    }
+    image
+}
+
+fn spoil_table(rng: &mut Rng, w: &World, t: &mut Table) {
+    let a_record = |rng: &mut Rng, t: &Table, table: usize| {
+        (!t.tables[table].is_empty()).then(|| rng.below(t.tables[table].len()))
+    };
+    match rng.below(14) {
+        // 7 to 10
+        n @ 0..=3 => {
+            let table = [BANDS, SEGMENTS, AUTOMATIC, PRIVILEGES][n];
+            if let Some(i) = a_record(rng, t, table) {
+                let r = &mut t.tables[table][i];
+                match rng.below(3) {
+                    0 => r.high = r.low,
+                    1 => (r.low, r.high) = (r.high, r.low),
+                    _ => r.low = plain(r.high.next_up()),
+                }
+            }
+        }
+        // 11
+        4 => t.tables[BANDS].clear(),
+        5 => t.tables[SEGMENTS].clear(),
+        // 12
+        6 | 7 => {
+            if let Some(i) = a_record(rng, t, SEGMENTS) {
+                let pool: Vec<f64> = t.tables[BANDS].iter().flat_map(|b| [b.low, b.high]).collect();
+                if !pool.is_empty() {
+                    let (low, high) = whole(&pool);
+                    let r = &mut t.tables[SEGMENTS][i];
+                    if rng.chance(50) {
+                        r.low = plain(nudge(rng, w.scale, low, 100));
+                    } else {
+                        r.high = plain(nudge(rng, w.scale, high, 100));
+                    }
+                }
+            }
+        }
+        // 13
+        8 => {
+            if let Some(i) = a_record(rng, t, SEGMENTS) {
+                let r = &mut t.tables[SEGMENTS][i];
+                r.flags |= 1;
+                r.figure = rng.pick(&[0.0, -f64::from_bits(1), -0.125, f64::from_bits(1), -BIG]);
+            }
+        }
+        // 14
+        9 => t.data_limit = rng.pick(&[0.0, -f64::from_bits(1), -0.125, f64::from_bits(1), -BIG]),
+        // 6
+        10 => {
+            let x = odd_figure(rng);
+            let table = rng.below(10);
+            match table {
+                9 => match rng.below(5) {
+                    0 => t.data_limit = x,
+                    1 => t.elsewhere_limit = x,
+                    2 => t.width = x,
+                    3 => t.offset = x,
+                    _ => t.tolerance = x,
+                },
+                _ => {
+                    if let Some(i) = a_record(rng, t, table) {
+                        let r = &mut t.tables[table][i];
+                        match rng.below(3) {
+                            0 => r.low = x,
+                            1 => r.high = x,
+                            _ => r.figure = x,
+                        }
+                    }
+                }
+            }
+        }
+        // 5: a flag of the general block turned over
+        11 => t.flags ^= 1 << rng.below(6),
+        // 5: a field of any record
+        12 => {
+            let table = rng.below(9);
+            if let Some(i) = a_record(rng, t, table) {
+                let x = 1 << rng.below(8);
+                let r = &mut t.tables[table][i];
+                match rng.below(7) {
+                    0 => r.band ^= x,
+                    1 => r.class ^= x,
+                    2 => r.emissions ^= x,
+                    3 => r.flags ^= x,
+                    4 => r.rule ^= u16::from(x) << rng.pick(&[0, 8]),
+                    5 => r.second ^= u16::from(x) << rng.pick(&[0, 8]),
+                    _ => r.figure = 1.0,
+                }
+            }
+        }
+        // 5: a record in a table that may belong to an absent part
+        _ => {
+            let table = rng.pick(&[CHANNELS, PLAN_DATA, PLAN_AVOID]);
+            t.tables[table].push(Record { low: 1.0, ..Record::default() });
+        }
+    }
+}
+
+fn spoil_bytes(rng: &mut Rng, image: &mut Vec<u8>) {
+    let n = image.len();
+    if n < 92 {
+        return;
+    }
+    let end = n - 28;
+    match rng.below(14) {
+        // 1
+        0 => {
+            let to = rng.pick(&[0, 1, 27, 28, 63, 64, 91, 90, 92]);
+            image.drain(..n - to.min(n));
+        }
+        1 => {
+            if rng.chance(15) {
+                let more = 65_536usize.saturating_sub(n) + rng.pick(&[0, 1, 2, 32, 1000]);
+                let at = end;
+                image.splice(at..at, std::iter::repeat_n(0, more));
+            } else {
+                let to = 28 + rng.below(64);
+                image.drain(..n - to);
+            }
+        }
+        // 2
+        2 => image[end + 24 + rng.below(4)] ^= 1 << rng.below(8),
+        // 3
+        3 => {
+            let edition: u16 = rng.pick(&[0, 2, 3, 256, 257, 65535]);
+            image[end + 22..end + 24].copy_from_slice(&edition.to_le_bytes());
+        }
+        // 4
+        4 => {
+            let at = end + 2 * rng.below(9);
+            let count = u16_at(image, at);
+            let to = rng.pick(&[
+                count.wrapping_add(1),
+                count.wrapping_sub(1),
+                257,
+                256,
+                count ^ 0x100,
+                count ^ 0x8000,
+            ]);
+            image[at..at + 2].copy_from_slice(&to.to_le_bytes());
+        }
+        5 => {
+            let far = u32_at(image, end + 18);
+            let to = rng.pick(&[
+                far.wrapping_add(1),
+                far.wrapping_sub(1),
+                far.wrapping_add(32),
+                far ^ 65_536,
+                far ^ 1 << 31,
+                0,
+                far.wrapping_add(28),
+            ]);
+            image[end + 18..end + 22].copy_from_slice(&to.to_le_bytes());
+        }
+        6 => {
+            // bytes between the last record and the trailer, the distance with or without them
+            let more = rng.pick(&[1, 32, 64, 4]);
+            image.splice(end..end, std::iter::repeat_n(0, more));
+            if rng.chance(50) {
+                let end = image.len() - 28;
+                image[end + 18..end + 22].copy_from_slice(&(end as u32).to_le_bytes());
+            }
+        }
+        7 => {
+            // eight counts of 256 more: 32 times the sum is 65,536 more, nought in 16 bits
+            for t in 0..8 {
+                let at = end + 2 * t;
+                let to = u16_at(image, at).wrapping_add(256);
+                image[at..at + 2].copy_from_slice(&to.to_le_bytes());
+            }
+        }
+        8 => {
+            // a record from one table to another: the sum is right
+            let (a, b) = (end + 2 * rng.below(9), end + 2 * rng.below(9));
+            if u16_at(image, a) > 0 {
+                let to = u16_at(image, a) - 1;
+                image[a..a + 2].copy_from_slice(&to.to_le_bytes());
+                let to = u16_at(image, b).wrapping_add(1);
+                image[b..b + 2].copy_from_slice(&to.to_le_bytes());
+            }
+        }
+        // 5 or 6: a byte of the general block
+        9 | 10 => {
+            let at = if rng.chance(70) { 40 + rng.below(24) } else { rng.below(64) };
+            image[at] =
+                if rng.chance(50) { image[at] ^ 1 << rng.below(8) } else { rng.next() as u8 };
+        }
+        // 5 or 6: a byte of a record
+        _ => {
+            if end > 64 {
+                let record = rng.below((end - 64) / 32);
+                let at = if rng.chance(70) { 16 + rng.below(16) } else { rng.below(32) };
+                let at = 64 + 32 * record + at;
+                if at < end {
+                    image[at] = if rng.chance(50) {
+                        image[at] ^ 1 << rng.below(8)
+                    } else {
+                        rng.next() as u8
+                    };
+                }
+            }
+        }
+    }
+}

@@ -1,0 +1,29 @@
+use borrow.Author.Needs.{needs}
+use Rattle.judge.proofs.touching_band.Statement.{statement}
+use Rattle.judge.proofs.touching_band.Tie as tie
+use Rattle.judge.proofs.touching_band.Reads as reads
+use Rattle.judge.proofs.touching_band.Lts as lts
+use Rattle.find.proofs.pick_in.Reads as pick-in-reads
+
+-- src/lib.rt:68:11
+pick-in-requires : tie.Need-pick-in-requires
+pick-in-requires c κs = search needs
+
+-- src/lib.rt:69:25
+enum-known-r : tie.Need-enum-known-r
+enum-known-r c = search needs
+
+-- src/lib.rt:70:26
+enum-told : tie.Need-enum-told
+enum-told c = search needs
+
+-- src/lib.rt:63:1
+returns : tie.Need-returns
+returns c = ?
+
+-- src/lib.rt:63:1
+returns-2 : tie.Need-returns-2
+returns-2 c = ?
+
+pub touching-band-spec : {M : Type 1} → statement M
+touching-band-spec = tie.close (tie.spec pick-in-requires enum-known-r enum-told returns returns-2)

@@ -1,0 +1,247 @@
+// The 60 m band: its discrete channels, its segment, and the emissions allowed there (97.303(h)(3), 97.305(c),
+// 97.307(f)(14), 97.313(i)). It uses figures, codes, profile, station, layout, table, find, decision, part97,
+// advice_97_313, drafts and privileges_97_301.
+use codes::EmissionKind;
+use codes::Sideband;
+use decision::Advice;
+use decision::BandNumber;
+use decision::Code;
+use decision::Decision;
+use decision::Draft;
+use decision::Guidance;
+use decision::Overshoot;
+use decision::SixtyNotes;
+use decision::Verdict;
+use find::Pick;
+use find::Question;
+use part97::Case;
+use table::Channels;
+use table::Segment;
+use table::SixtyEmissions;
+ghost use mathlib.Core.Path.{_≡_};
+ghost use mathlib.Core.Bool.{_&&_};
+ghost use lib.Ieee.{lt};
+ghost use Rattle.layout.specs.Form.{Whole};
+ghost use Rattle.part97.specs.Part97.{allowedOnSixty, cwOnChannel, sameSideband, dataOnChannel, onChannel, sixtyChannel, isData, sixtySegment, sixtyPlace, sixtyEmission, sixtyKind, sixty};
+
+// The watts above which the operator is warned, on a channel and in the segment (97.313(i)).
+const CHANNEL_WATTS: f64 = 100.0;
+
+const SEGMENT_WATTS: f64 = 9.15;
+
+// Allowed on 60 m, with its notes.
+fn allowed_on_sixty(draft: Draft, warn: bool, code: Code, rule: u16, marks: SixtyNotes) -> Decision
+    ensures { λ r. ⌜ r ≡ allowedOnSixty draft warn code rule marks ⌝ }
+{
+    let advice = Advice {
+        guidance: Guidance::NoGuidance,
+        notes: [0u8; 256],
+        sixty: marks,
+    };
+    decision::finish(
+        draft,
+        advice_97_313::warned_if(warn),
+        code,
+        rule,
+        Overshoot::NoOvershoot,
+        advice,
+    )
+}
+
+// Whether a CW carrier is on a channel's centre, within the tolerance.
+fn cw_on_channel(c: Case, ch: Channels, centre: f64) -> bool
+    ensures { λ r. ⌜ r ≡ cwOnChannel c ch centre ⌝ }
+{
+    let air = c.air;
+    figures::abs(figures::midpoint(air.low_hz, air.high_hz) - centre) <= ch.carrier_tolerance_hz
+}
+
+fn same_sideband(a: Sideband, b: Sideband) -> bool
+    ensures { λ r. ⌜ r ≡ sameSideband a b ⌝ }
+{
+    match a {
+        Sideband::Usb => match b {
+            Sideband::Usb => true,
+            Sideband::Lsb => false,
+        },
+        Sideband::Lsb => match b {
+            Sideband::Usb => false,
+            Sideband::Lsb => true,
+        },
+    }
+}
+
+// Whether any other emission is on the channel's sideband, its carrier (the dial) below the centre by the offset, within
+// the tolerance, and all of it, guarded, inside the channel.
+fn data_on_channel(c: Case, ch: Channels, centre: f64) -> bool
+    ensures { λ r. ⌜ r ≡ dataOnChannel c ch centre ⌝ }
+{
+    let own = c.sideband;
+    let wanted = ch.sideband;
+    let signal = c.guarded;
+    same_sideband(own, wanted)
+        && (figures::abs(c.dial_hz - (centre - ch.carrier_offset_hz)) <= ch.carrier_tolerance_hz
+            && profile::channel_range(ch.width_hz, centre).holds(signal))
+}
+
+// Whether an emission is set up for a channel.
+fn on_channel(c: Case, ch: Channels, centre: f64, kind: EmissionKind) -> bool
+    ensures { λ r. ⌜ r ≡ onChannel c ch centre kind ⌝ }
+{
+    match kind {
+        EmissionKind::Data => data_on_channel(c, ch, centre),
+        EmissionKind::Cw => cw_on_channel(c, ch, centre),
+        EmissionKind::Test => data_on_channel(c, ch, centre),
+        EmissionKind::Nothing => data_on_channel(c, ch, centre),
+    }
+}
+
+// On a channel: set up for it, or blocked.
+fn sixty_channel(c: Case, ch: Channels, centre: f64) -> Decision
+    ensures { λ r. ⌜ r ≡ sixtyChannel c ch centre ⌝ }
+{
+    let kind = c.kind;
+    let power = c.power;
+    let range = profile::channel_range(ch.width_hz, centre);
+    let draft = drafts::draft_inside(c, ch.band, range, ch.rule);
+    if on_channel(c, ch, centre, kind) {
+        let warn = advice_97_313::above(power, CHANNEL_WATTS);
+        let marks = SixtyNotes {
+            channel_power: warn,
+            shared: true,
+            segment_power: false,
+        };
+        return allowed_on_sixty(draft, warn, Code::SixtyChannel, ch.rule, marks);
+    }
+    decision::simple(draft, Verdict::Blocked, Code::SixtyChannel, ch.rule)
+}
+
+fn is_data(kind: EmissionKind) -> bool
+    ensures { λ r. ⌜ r ≡ isData kind ⌝ }
+{
+    match kind {
+        EmissionKind::Data => true,
+        EmissionKind::Cw => false,
+        EmissionKind::Test => false,
+        EmissionKind::Nothing => false,
+    }
+}
+
+// Whether data is wider than a limit.
+fn too_wide(kind: EmissionKind, width: f64, most: f64) -> bool
+    ensures { λ r. ⌜ r ≡ (isData kind && lt most width) ⌝ }
+{
+    is_data(kind) && most < width
+}
+
+// In the segment: the general width is tested, and no other.
+fn sixty_segment(s: &[u8], c: Case, band: u8, place: Segment) -> Decision
+    requires { ⌜ Whole (now s) ⌝ }
+    ensures { λ r. ⌜ r ≡ sixtySegment (now (s .entry)) c band place ⌝ }
+{
+    let kind = c.kind;
+    let power = c.power;
+    let range = place.range;
+    let general = table::data_of(layout::general_of(s));
+    let draft = drafts::draft_inside(c, band, range, place.rule);
+    if too_wide(kind, c.width, general.max_bandwidth_hz) {
+        return decision::simple(draft, Verdict::Blocked, Code::TooWide, general.rule);
+    }
+    let warn = advice_97_313::above(power, SEGMENT_WATTS);
+    let marks = SixtyNotes {
+        channel_power: false,
+        shared: false,
+        segment_power: warn,
+    };
+    allowed_on_sixty(draft, warn, Code::SixtySegment, place.rule, marks)
+}
+
+// An overlapping channel comes before the segment; neither: off channel.
+fn sixty_place(s: &[u8], c: Case, ch: Channels) -> Decision
+    requires { ⌜ Whole (now s) ⌝ }
+    ensures { λ r. ⌜ r ≡ sixtyPlace (now (s .entry)) c ch ⌝ }
+{
+    let guarded = c.guarded;
+    match find::pick_in(
+        s,
+        layout::CHANNELS,
+        Question::ChannelOverlaps(ch.width_hz, guarded),
+    ) {
+        Pick::Picked(i, channel) => sixty_channel(c, ch, table::centre_of(channel)),
+        Pick::Missing => match find::pick_in(
+            s,
+            layout::SEGMENTS,
+            Question::BandHolds(ch.band, guarded),
+        ) {
+            Pick::Picked(k, segment) => sixty_segment(s, c, ch.band, table::segment_of(segment)),
+            Pick::Missing => decision::simple(
+                drafts::draft_of(c, BandNumber::Band(ch.band)),
+                Verdict::Blocked,
+                Code::SixtyOffChannel,
+                ch.rule,
+            ),
+        },
+    }
+}
+
+// The emissions allowed on 60 m (97.307(f)(14)).
+fn sixty_emission(s: &[u8], c: Case, ch: Channels, allowed: SixtyEmissions) -> Decision
+    requires { ⌜ Whole (now s) ⌝ }
+    ensures { λ r. ⌜ r ≡ sixtyEmission (now (s .entry)) c ch allowed ⌝ }
+{
+    let kind = c.kind;
+    match allowed {
+        SixtyEmissions::Allowed(bits, rule) => {
+            if codes::has_kind(bits, kind) {
+                sixty_place(s, c, ch)
+            } else {
+                decision::simple(
+                    drafts::draft_of(c, BandNumber::Band(ch.band)),
+                    Verdict::Blocked,
+                    Code::SixtyEmission,
+                    rule,
+                )
+            }
+        }
+        SixtyEmissions::AnyEmission => sixty_place(s, c, ch),
+    }
+}
+
+// Keyed with no audio is permitted; anything else goes by the emissions allowed.
+fn sixty_kind(s: &[u8], c: Case, ch: Channels, kind: EmissionKind) -> Decision
+    requires { ⌜ Whole (now s) ⌝ }
+    ensures { λ r. ⌜ r ≡ sixtyKind (now (s .entry)) c ch kind ⌝ }
+{
+    let allowed = table::sixty_emissions_of(layout::general_of(s));
+    match kind {
+        EmissionKind::Data => sixty_emission(s, c, ch, allowed),
+        EmissionKind::Cw => sixty_emission(s, c, ch, allowed),
+        EmissionKind::Test => sixty_emission(s, c, ch, allowed),
+        EmissionKind::Nothing => decision::simple(
+            drafts::draft_of(c, BandNumber::Band(ch.band)),
+            Verdict::Legal,
+            Code::Permitted,
+            decision::RULE_97_301,
+        ),
+    }
+}
+
+// 60 m: some privilege must hold the signal's range on the air, without the margin; the emissions that privileges list
+// aren't read.
+pub fn sixty(s: &[u8], c: Case, ch: Channels) -> Decision
+    requires { ⌜ Whole (now s) ⌝ }
+    ensures { λ r. ⌜ r ≡ sixty (now (s .entry)) c ch ⌝ }
+{
+    let kind = c.kind;
+    let on_air = c.air;
+    if privileges_97_301::some_privilege(s, c, on_air) {
+        sixty_kind(s, c, ch, kind)
+    } else {
+        decision::simple(
+            drafts::draft_of(c, BandNumber::Band(ch.band)),
+            Verdict::Blocked,
+            Code::Privilege,
+            decision::RULE_97_301,
+        )
+    }
+}
