@@ -1,1 +1,103 @@
-// The verdict.
+// The verdict: `evaluate` and `unmeasured`, public calls. It uses figures, codes, profile, occupancy, air, station, layout,
+// table, entry, decision, part97, automatic_97_221 and judge.
+use codes::{Checked, Control, ControlMode, Direction, EmissionKind, License, LicenseClass, Policy, Sideband, SidebandSet};
+use decision::{BandNumber, Code, Decision, Draft, JudgedSegment, MaybeRange, Verdict};
+use occupancy::{Edges, Reading};
+use part97::Case;
+use profile::Range;
+use station::{Figure, Situation, StationRecord};
+ghost use mathlib.Core.Path.{_≡_};
+ghost use Rattle.codes.specs.Read.{kindValid, directionValid};
+ghost use Rattle.codes.specs.Refusal.{refusalOf};
+ghost use mathlib.Core.Bool.{_&&_};
+ghost use Rattle.layout.specs.Form.{Whole};
+ghost use Rattle.verdict.specs.Verdict.{airOf, signalOf, caseOf, ruledOf, underRulesOf, decideOf, evaluateTests, evaluateOf, unmeasuredOf};
+
+// The range on the air, where dial and sideband are known.
+fn air_of(dial: Figure, sideband: SidebandSet, audio: Range) -> MaybeRange
+    ensures { λ x. ⌜ x ≡ airOf dial sideband audio ⌝ }
+{
+    match dial {
+        Figure::Known(hz) => match sideband {
+            SidebandSet::SidebandIs(side) => MaybeRange::Is(air::rf_range(hz, side, audio)),
+            SidebandSet::NoSideband => MaybeRange::NoRange,
+        },
+        Figure::Absent => MaybeRange::NoRange,
+    }
+}
+
+// The signal, before any test.
+fn signal_of(dial: Figure, sideband: SidebandSet, audio: Range) -> Draft
+    ensures { λ x. ⌜ x ≡ signalOf dial sideband audio ⌝ }
+{
+    Draft {
+        audio,
+        width: air::width(audio),
+        air: air_of(dial, sideband, audio),
+        band: BandNumber::NoBand,
+        segment: JudgedSegment::NoSegment,
+        automatic_segment: MaybeRange::NoRange,
+    }
+}
+
+// The facts that judging works from.
+fn case_of(s: Situation, control: ControlMode, class: LicenseClass, sideband: Sideband, dial: f64, kind: EmissionKind, direction: Direction, audio: Range) -> Case
+    ensures { λ x. ⌜ x ≡ caseOf s control class sideband dial kind direction audio ⌝ }
+{
+    let power = s.power;
+    let on_air = air::rf_range(dial, sideband, audio);
+    let guarded = air::guarded(s.margin_hz, on_air);
+    Case {
+        class,
+        sideband,
+        direction,
+        kind,
+        automatic: automatic_97_221::applies(control, direction),
+        dial_hz: dial,
+        margin_hz: s.margin_hz,
+        audio,
+        width: air::width(audio),
+        air: on_air,
+        guarded,
+        power,
+        band_plan: s.band_plan,
+    }
+}
+
+// Under an accepted table, at a dial: the prerequisites in order, then Part 97.
+fn ruled(image: &[u8], s: Situation, dial: Figure, kind: EmissionKind, direction: Direction, audio: Range, signal: Draft) -> Decision
+    requires { ⌜ Whole (now image) ⌝ }
+    ensures { λ x. ⌜ x ≡ ruledOf (now (image .entry)) s dial kind direction audio signal ⌝ }
+{
+    let g = layout::general_of(image);
+    if s.itu_region != g.region {
+        return decision::simple(signal, Verdict::Blocked, Code::Region, decision::RULE_97_301);
+    }
+    let control_set = s.control;
+    let license_set = s.license;
+    let sideband_set = s.sideband;
+    let Control::ControlIs(control) = control_set else {
+        return decision::simple(signal, Verdict::Blocked, Code::NoControl, decision::RULE_97_109);
+    };
+    let License::LicenseIs(class) = license_set else {
+        return decision::simple(signal, Verdict::Blocked, Code::NoLicense, decision::RULE_97_301);
+    };
+    let SidebandSet::SidebandIs(sideband) = sideband_set else {
+        return decision::simple(signal, Verdict::Blocked, Code::NoSideband, decision::NO_RULE);
+    };
+    let Figure::Known(hz) = dial else {
+        return decision::simple(signal, Verdict::Blocked, Code::NoDial, decision::NO_RULE);
+    };
+    let c = case_of(s, control, class, sideband, hz, kind, direction, audio);
+    judge::judge_case(image, c)
+}
+
+// Under Rules.
+fn under_rules(image: &[u8], s: Situation, dial: Figure, kind: EmissionKind, direction: Direction, audio: Range) -> Decision
+    requires { ⌜ Whole (now image) ⌝ }
+    ensures { λ x. ⌜ x ≡ underRulesOf (now (image .entry)) s dial kind direction audio ⌝ }
+{
+    let sideband = s.sideband;
+    let signal = signal_of(dial, sideband, audio);
+    ruled(image, s, dial, kind, direction, audio, signal)
+}

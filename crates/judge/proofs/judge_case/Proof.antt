@@ -1,3 +1,6 @@
+use mathlib.Core.Path.{sym, _∙_}
+use Rattle.find.specs.Question.{picked, missed}
+use Rattle.part97.specs.Part97.{judge}
 use borrow.Author.Needs.{needs}
 use Rattle.judge.proofs.judge_case.Statement.{statement}
 use Rattle.judge.proofs.judge_case.Tie as tie
@@ -39,11 +42,17 @@ simple-requires c κs = search needs
 
 -- src/lib.rt:75:1
 returns : tie.Need-returns
-returns c = ?
+unfolding judge
+returns c =
+    let p = picked _ _ _ _ _ (sym (c .before .before .before .before .pick-in .ensures) ∙ c .before .before .r .given .1) in
+    rw (p .found) (rw (← p .here) (c .judge-in-band .ensures))
 
 -- src/lib.rt:75:1
 returns-2 : tie.Need-returns-2
-returns-2 c = ?
+unfolding judge
+returns-2 c =
+    rw (missed _ _ _ (sym (c .before .before .before .before .before .pick-in .ensures) ∙ c .before .before .before .enum-told .given .1))
+    (rw (c .simple .ensures) (rw (c .before .draft-of .ensures) (rw (c .before .before .touching-band .ensures))))
 
 pub judge-case-spec : {M : Type 1} → statement M
 judge-case-spec =

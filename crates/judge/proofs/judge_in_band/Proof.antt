@@ -1,3 +1,6 @@
+use mathlib.Core.Path.{sym, _∙_}
+use Rattle.find.specs.Question.{picked, missed}
+use Rattle.part97.specs.Laws.{band-open, band-free, band-closed}
 use borrow.Author.Needs.{needs}
 use Rattle.judge.proofs.judge_in_band.Statement.{statement}
 use Rattle.judge.proofs.judge_in_band.Tie as tie
@@ -53,15 +56,25 @@ judge-on-band-requires-2 c κs = search needs
 
 -- src/lib.rt:43:1
 returns : tie.Need-returns
-returns c = ?
+returns c =
+    let p = picked _ _ _ _ _ (sym (c .before .before .before .before .before .before .pick-in .ensures) ∙ c .before .before .before .before .r .given .1) in
+    rw (c .simple .ensures)
+    (rw (c .before .draft-of .ensures)
+    (band-closed _ _ _ (c .before .before .before .before .before .before .before .if1 .taken) _ (p .found) _ (rw (c .before .before .excluded-of .ensures) (rw (p .here)))))
 
 -- src/lib.rt:43:1
 returns-2 : tie.Need-returns-2
-returns-2 c = ?
+returns-2 c =
+    rw (c .judge-on-band .ensures)
+    (rw (c .before .before .before .before .before .channels-of .ensures)
+    (rw (c .before .before .before .before .before .before .general-of .ensures)
+    (band-free _ _ _ (c .before .before .before .before .if1 .taken) (missed _ _ _ (sym (c .before .before .before .pick-in .ensures) ∙ c .before .enum-told .given .1)))))
 
 -- src/lib.rt:43:1
 returns-3 : tie.Need-returns-3
-returns-3 c = ?
+returns-3 c =
+    rw (c .judge-on-band2 .ensures)
+    (rw (c .before .before .channels-of .ensures) (rw (c .before .before .before .general-of .ensures) (band-open _ _ _ (c .before .if1 .left))))
 
 pub judge-in-band-spec : {M : Type 1} → statement M
 judge-in-band-spec =

@@ -1,3 +1,5 @@
+use borrow.Author.Tests.{eq-eqb, ne-eqb}
+use Rattle.part97.specs.Part97.{judgeOnBand}
 use borrow.Author.Needs.{needs}
 use Rattle.judge.proofs.judge_on_band.Statement.{statement}
 use Rattle.judge.proofs.judge_on_band.Tie as tie
@@ -16,7 +18,8 @@ sixty-requires c κs = search needs
 
 -- src/lib.rt:34:17
 returns : tie.Need-returns
-returns c = ?
+unfolding judgeOnBand
+returns c = rw (c .before .before .before .before .channels .given .1) (rw (eq-eqb _ _ (c .before .if1 .taken)) (c .sixty .ensures))
 
 -- src/lib.rt:36:13
 off-sixty-requires : tie.Need-off-sixty-requires
@@ -32,11 +35,13 @@ off-sixty-requires-2 c κs = search needs
 
 -- src/lib.rt:26:1
 returns-2 : tie.Need-returns-2
-returns-2 c = ?
+unfolding judgeOnBand
+returns-2 c = rw (c .before .before .before .before .channels .given .1) (rw (ne-eqb _ _ (c .before .if1 .left)) (c .off-sixty .ensures))
 
 -- src/lib.rt:26:1
 returns-3 : tie.Need-returns-3
-returns-3 c = ?
+unfolding judgeOnBand
+returns-3 c = rw (c .before .enum-told .given .1) (c .off-sixty2 .ensures)
 
 pub judge-on-band-spec : {M : Type 1} → statement M
 judge-on-band-spec =

@@ -41,19 +41,19 @@ judge-keyed-requires c κs = search needs
 
 -- src/lib.rt:13:1
 returns : tie.Need-returns
-returns c = ?
+returns c = rw (c .before .enum-told .given .1) (c .judge-data .ensures)
 
 -- src/lib.rt:13:1
 returns-2 : tie.Need-returns-2
-returns-2 c = ?
+returns-2 c = rw (c .before .enum-told2 .given .1) (c .judge-emitted .ensures)
 
 -- src/lib.rt:13:1
 returns-3 : tie.Need-returns-3
-returns-3 c = ?
+returns-3 c = rw (c .before .enum-told3 .given .1) (c .judge-emitted2 .ensures)
 
 -- src/lib.rt:13:1
 returns-4 : tie.Need-returns-4
-returns-4 c = ?
+returns-4 c = rw (c .before .enum-told4 .given .1) (c .judge-keyed .ensures)
 
 pub off-sixty-spec : {M : Type 1} → statement M
 off-sixty-spec =

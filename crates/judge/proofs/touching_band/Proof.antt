@@ -1,3 +1,6 @@
+use mathlib.Core.Path.{sym, _∙_}
+use Rattle.find.specs.Question.{picked, missed}
+use Rattle.part97.specs.Part97.{touching}
 use borrow.Author.Needs.{needs}
 use Rattle.judge.proofs.touching_band.Statement.{statement}
 use Rattle.judge.proofs.touching_band.Tie as tie
@@ -19,11 +22,16 @@ enum-told c = search needs
 
 -- src/lib.rt:63:1
 returns : tie.Need-returns
-returns c = ?
+unfolding touching
+returns c =
+    let p = picked _ _ _ _ _ (sym (c .before .before .before .pick-in .ensures) ∙ c .before .r .given .1) in
+    rw (p .found) (rw (← p .here))
 
 -- src/lib.rt:63:1
 returns-2 : tie.Need-returns-2
-returns-2 c = ?
+unfolding touching
+returns-2 c =
+    rw (missed _ _ _ (sym (c .before .before .pick-in .ensures) ∙ c .enum-told .given .1))
 
 pub touching-band-spec : {M : Type 1} → statement M
 touching-band-spec = tie.close (tie.spec pick-in-requires enum-known-r enum-told returns returns-2)

@@ -1,0 +1,81 @@
+-- The prerequisites by their parts: all met, and each one missing.
+use Prim.Native.Nat.{ℕ}
+use mathlib.Core.Bool.{Bool, true, false, cond}
+use mathlib.Core.List.{List}
+use mathlib.Core.Path.{_≡_, refl, sym, ap, _∙_}
+use lib.Dec.{eqb}
+use lib.Ieee.{Float}
+use Rattle.scan.specs.First.{cond-yes, cond-not}
+use Rattle.codes.specs.declared.Control.{Control}
+use Rattle.codes.specs.declared.Control.the-variants.{ControlIs, NoControl as ControlAbsent}
+use Rattle.codes.specs.declared.ControlMode.{ControlMode}
+use Rattle.codes.specs.declared.License.{License}
+use Rattle.codes.specs.declared.License.the-variants.{LicenseIs, NoLicense as LicenseAbsent}
+use Rattle.codes.specs.declared.LicenseClass.{LicenseClass}
+use Rattle.codes.specs.declared.SidebandSet.{SidebandSet}
+use Rattle.codes.specs.declared.SidebandSet.the-variants.{SidebandIs, NoSideband as SidebandAbsent}
+use Rattle.codes.specs.declared.Sideband.{Sideband}
+use Rattle.codes.specs.declared.EmissionKind.{EmissionKind}
+use Rattle.codes.specs.declared.Direction.{Direction}
+use Rattle.profile.specs.declared.Range.{Range}
+use Rattle.station.specs.declared.Situation.{Situation}
+use Rattle.station.specs.declared.Figure.{Figure}
+use Rattle.station.specs.declared.Figure.the-variants.{Known, Absent}
+use Rattle.layout.specs.Layout.{generalOf}
+use Rattle.decision.specs.Number.{noRule, §97-301, §97-109}
+use Rattle.decision.specs.Decision.{simpleOf}
+use Rattle.decision.specs.declared.Verdict.the-variants.{Blocked}
+use Rattle.decision.specs.declared.Code.the-variants.{Region, NoControl, NoLicense, NoSideband, NoDial}
+use Rattle.decision.specs.declared.Draft.{Draft}
+use Rattle.decision.specs.declared.Decision.{Decision}
+use Rattle.part97.specs.Part97.{judge}
+use Rattle.verdict.specs.Verdict.{withControl, withLicense, withSideband, withDial, caseOf, ruledOf}
+
+module _ (table : List ℕ) (s : Situation) (dial : Figure) (kind : EmissionKind) (direction : Direction) (audio : Range) (signal : Draft) where
+  -- what is asked after each prerequisite
+  abbrev atDial : ControlMode → LicenseClass → Sideband → Figure → Decision
+  atDial control class sideband d =
+      withDial d (simpleOf signal Blocked NoDial noRule) (λ hz. judge table (caseOf s control class sideband hz kind direction audio))
+
+  abbrev atSideband : ControlMode → LicenseClass → SidebandSet → Decision
+  atSideband control class set = withSideband set (simpleOf signal Blocked NoSideband noRule) (λ sideband. atDial control class sideband dial)
+
+  abbrev atLicense : ControlMode → License → Decision
+  atLicense control set = withLicense set (simpleOf signal Blocked NoLicense §97-301) (λ class. atSideband control class (s .sideband))
+
+  abbrev atControl : Control → Decision
+  atControl set = withControl set (simpleOf signal Blocked NoControl §97-109) (λ control. atLicense control (s .license))
+
+  pub ruled-region : eqb (s .«itu_region») (generalOf table .region) ≡ false → simpleOf signal Blocked Region §97-301 ≡ ruledOf table s dial kind direction audio signal
+  unfolding ruledOf
+  ruled-region e = sym (cond-not (atControl (s .control)) _ e)
+
+  module _ (here : eqb (s .«itu_region») (generalOf table .region) ≡ true) where
+    pub ruled-control : s .control ≡ ControlAbsent → simpleOf signal Blocked NoControl §97-109 ≡ ruledOf table s dial kind direction audio signal
+    unfolding ruledOf
+    ruled-control c = sym (cond-yes (atControl (s .control)) _ here ∙ ap atControl c)
+
+    module _ (control : ControlMode) (c : s .control ≡ ControlIs control) where
+      pub ruled-license : s .license ≡ LicenseAbsent → simpleOf signal Blocked NoLicense §97-301 ≡ ruledOf table s dial kind direction audio signal
+      unfolding ruledOf
+      ruled-license l = sym (cond-yes (atControl (s .control)) _ here ∙ ap atControl c ∙ ap (atLicense control) l)
+
+      module _ (class : LicenseClass) (l : s .license ≡ LicenseIs class) where
+        pub ruled-sideband : s .sideband ≡ SidebandAbsent → simpleOf signal Blocked NoSideband noRule ≡ ruledOf table s dial kind direction audio signal
+        unfolding ruledOf
+        ruled-sideband b = sym (cond-yes (atControl (s .control)) _ here ∙ ap atControl c ∙ ap (atLicense control) l ∙ ap (atSideband control class) b)
+
+        module _ (sideband : Sideband) (b : s .sideband ≡ SidebandIs sideband) where
+          pub ruled-dial : dial ≡ Absent → simpleOf signal Blocked NoDial noRule ≡ ruledOf table s dial kind direction audio signal
+          unfolding ruledOf
+          ruled-dial d =
+              sym
+              (cond-yes (atControl (s .control)) _ here ∙ ap atControl c ∙ ap (atLicense control) l ∙ ap (atSideband control class) b
+              ∙ ap (atDial control class sideband) d)
+
+          pub ruled-met : (hz : Float) → dial ≡ Known hz → judge table (caseOf s control class sideband hz kind direction audio) ≡ ruledOf table s dial kind direction audio signal
+          unfolding ruledOf
+          ruled-met hz d =
+              sym
+              (cond-yes (atControl (s .control)) _ here ∙ ap atControl c ∙ ap (atLicense control) l ∙ ap (atSideband control class) b
+              ∙ ap (atDial control class sideband) d)
