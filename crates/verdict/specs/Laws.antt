@@ -1,11 +1,20 @@
 -- The prerequisites by their parts: all met, and each one missing.
 use Prim.Native.Nat.{ℕ}
 use mathlib.Core.Bool.{Bool, true, false, cond}
-use mathlib.Core.List.{List}
+use mathlib.Core.List.{List, _++_}
 use mathlib.Core.Path.{_≡_, refl, sym, ap, _∙_}
 use lib.Dec.{eqb}
 use lib.Ieee.{Float}
 use Rattle.scan.specs.First.{cond-yes, cond-not}
+use Rattle.codes.specs.Read.{policyOf}
+use Rattle.codes.specs.Refusal.{Test, refusalOf, refusal-both}
+use Rattle.codes.specs.declared.Checked.the-variants.{Accepted}
+use Rattle.codes.specs.declared.Policy.{Policy}
+use Rattle.codes.specs.declared.Policy.the-variants.{Unset, NoProfile as NoneApply, Rules, Broken}
+use Rattle.station.specs.Station.{situationOf}
+use Rattle.station.specs.declared.StationRecord.{StationRecord}
+use Rattle.layout.specs.Form.{Whole}
+use Rattle.entry.specs.Entry.{entryTests, entryOf, entry-whole}
 use Rattle.codes.specs.declared.Control.{Control}
 use Rattle.codes.specs.declared.Control.the-variants.{ControlIs, NoControl as ControlAbsent}
 use Rattle.codes.specs.declared.ControlMode.{ControlMode}
@@ -79,3 +88,19 @@ module _ (table : List ℕ) (s : Situation) (dial : Figure) (kind : EmissionKind
               sym
               (cond-yes (atControl (s .control)) _ here ∙ ap atControl c ∙ ap (atLicense control) l ∙ ap (atSideband control class) b
               ∙ ap (atDial control class sideband) d)
+
+-- Accepted under Rules, a call's image is whole.
+rules-code : (n : ℕ) → policyOf n ≡ Rules → eqb n 2 ≡ true
+rules-code n e = go (eqb n 0) (eqb n 1) (eqb n 2) e
+  where
+    go : (a b c : Bool) → cond a Unset (cond b NoneApply (cond c Rules Broken)) ≡ Rules → c ≡ true
+    go true b c q = cc
+    go false true c q = cc
+    go false false true q = refl
+    go false false false q = cc
+
+pub rules-whole :
+  (r : StationRecord) (beside : Bool) (l : List ℕ) (more : List Test) → refusalOf (entryTests r beside l ++ more) ≡ Accepted
+  → situationOf r .policy ≡ Rules → Whole l
+unfolding entryOf situationOf
+rules-whole r beside l more e p = entry-whole r beside l (refusal-both (entryTests r beside l) more e .0) (rules-code (r .policy) p)

@@ -42,6 +42,7 @@ use Rattle.decision.specs.Number.{noRule, §97-301, §97-109}
 use Rattle.decision.specs.Decision.{simpleOf, refusedOf}
 use Rattle.decision.specs.declared.Verdict.{Verdict}
 use Rattle.decision.specs.declared.Verdict.the-variants.{Legal, Blocked}
+use Rattle.decision.specs.declared.Code.{Code}
 use Rattle.decision.specs.declared.Code.the-variants.{NoProfile, ProfileBroken, NoRules, Unmeasured, Region, NoControl, NoLicense, NoSideband, NoDial}
 use Rattle.decision.specs.declared.BandNumber.the-variants.{NoBand}
 use Rattle.decision.specs.declared.JudgedSegment.the-variants.{NoSegment}
@@ -124,17 +125,29 @@ ruledOf table s dial kind direction audio signal =
 unfoldable pub underRulesOf : List ℕ → Situation → Figure → EmissionKind → Direction → Range → Decision
 underRulesOf table s dial kind direction audio = ruledOf table s dial kind direction audio (signalOf dial (s .sideband) audio)
 
--- by the policy, at a dial; without a table the reading is Wider
+-- without a table the policy alone decides, and the reading is Wider
+unfoldable pub unruledOf : Situation → Figure → Edges → Verdict → Code → Decision
+unruledOf s dial e verdict code = simpleOf (signalOf dial (s .sideband) (rangeOf e Wider)) verdict code noRule
+
+-- by the policy, at a dial
 unfoldable pub decideOf : List ℕ → Situation → Policy → Figure → EmissionKind → Direction → Edges → Decision
-decideOf table s Unset dial kind direction e = simpleOf (signalOf dial (s .sideband) (rangeOf e Wider)) Blocked NoProfile noRule
-decideOf table s NoneApply dial kind direction e = simpleOf (signalOf dial (s .sideband) (rangeOf e Wider)) Legal NoRules noRule
-decideOf table s Broken dial kind direction e = simpleOf (signalOf dial (s .sideband) (rangeOf e Wider)) Blocked ProfileBroken noRule
+decideOf table s Unset dial kind direction e = unruledOf s dial e Blocked NoProfile
+decideOf table s NoneApply dial kind direction e = unruledOf s dial e Legal NoRules
 decideOf table s Rules dial kind direction e = underRulesOf table s dial kind direction (rangeOf e (readingOf (generalOf table)))
+decideOf table s Broken dial kind direction e = unruledOf s dial e Blocked ProfileBroken
+
+-- the codes beside the record
+abbrev pub besideValid : ℕ → ℕ → Bool
+besideValid kind direction = kindValid kind && directionValid direction
+
+-- "15 an edge not finite or above 2^40 in size"
+abbrev pub edgeTests : Edges → List Test
+edgeTests e = test 15 (not (edgesValid e)) ∷ []
 
 -- "Order: 20, 21, 22, 1 to 14, 15 …"
 abbrev pub evaluateTests : StationRecord → ℕ → ℕ → Edges → List ℕ → List Test
 evaluateTests r kind direction e l =
-    entryTests r (kindValid kind && directionValid direction) l ++ (test 15 (not (edgesValid e)) ∷ [])
+    entryTests r (besideValid kind direction) l ++ edgeTests e
 
 -- the decision, or the refusal
 abbrev pub unlessRefused : Checked → Decision → Decision

@@ -7,11 +7,9 @@ use part97::Case;
 use profile::Range;
 use station::{Figure, Situation, StationRecord};
 ghost use mathlib.Core.Path.{_≡_};
-ghost use Rattle.codes.specs.Read.{kindValid, directionValid};
 ghost use Rattle.codes.specs.Refusal.{refusalOf};
-ghost use mathlib.Core.Bool.{_&&_};
 ghost use Rattle.layout.specs.Form.{Whole};
-ghost use Rattle.verdict.specs.Verdict.{airOf, signalOf, caseOf, ruledOf, underRulesOf, decideOf, evaluateTests, evaluateOf, unmeasuredOf};
+ghost use Rattle.verdict.specs.Verdict.{airOf, signalOf, caseOf, ruledOf, underRulesOf, unruledOf, decideOf, besideValid, evaluateTests, evaluateOf, unmeasuredOf};
 
 // The range on the air, where dial and sideband are known.
 fn air_of(dial: Figure, sideband: SidebandSet, audio: Range) -> MaybeRange
@@ -100,4 +98,97 @@ fn under_rules(image: &[u8], s: Situation, dial: Figure, kind: EmissionKind, dir
     let sideband = s.sideband;
     let signal = signal_of(dial, sideband, audio);
     ruled(image, s, dial, kind, direction, audio, signal)
+}
+
+// Without a table, by the wider reading: the policy alone decides.
+fn unruled(s: Situation, dial: Figure, e: Edges, verdict: Verdict, code: Code) -> Decision
+    ensures { λ x. ⌜ x ≡ unruledOf s dial e verdict code ⌝ }
+{
+    let sideband = s.sideband;
+    let audio = e.range(Reading::Wider);
+    let signal = signal_of(dial, sideband, audio);
+    decision::simple(signal, verdict, code, decision::NO_RULE)
+}
+
+// By the policy, at a dial. Under Rules the image is an accepted one.
+pub fn decide(image: &[u8], s: Situation, policy: Policy, dial: Figure, kind: EmissionKind, direction: Direction, e: Edges) -> Decision
+    requires { ⌜ (policy ≡ Policy.Rules → Whole (now image)) ⌝ }
+    ensures { λ x. ⌜ x ≡ decideOf (now (image .entry)) s policy dial kind direction e ⌝ }
+{
+    match policy {
+        Policy::Unset => unruled(s, dial, e, Verdict::Blocked, Code::NoProfile),
+        Policy::NoProfile => unruled(s, dial, e, Verdict::Legal, Code::NoRules),
+        Policy::Rules => {
+            let g = layout::general_of(image);
+            let audio = e.range(table::reading_of(g));
+            under_rules(image, s, dial, kind, direction, audio)
+        }
+        Policy::Broken => unruled(s, dial, e, Verdict::Blocked, Code::ProfileBroken),
+    }
+}
+
+// The codes beside the record.
+fn beside_valid(kind: u8, direction: u8) -> bool
+    ensures { λ x. ⌜ x ≡ besideValid kind direction ⌝ }
+{
+    kind <= 3 && direction <= 2
+}
+
+// Refusals 20 to 22, 1 to 14 and 15.
+fn evaluate_refusals(r: StationRecord, kind: u8, direction: u8, e: Edges, image: &[u8]) -> Checked
+    ensures { λ x. ⌜ x ≡ refusalOf (evaluateTests r kind direction e (now (image .entry))) ⌝ }
+{
+    match entry::admit(r, beside_valid(kind, direction), image) {
+        Checked::Refused(n) => Checked::Refused(n),
+        Checked::Accepted => {
+            if entry::edges_valid(e) {
+                Checked::Accepted
+            } else {
+                Checked::Refused(15)
+            }
+        }
+    }
+}
+
+// Judge a transmission.
+pub fn evaluate(r: StationRecord, kind: u8, direction: u8, e: Edges, image: &[u8]) -> Decision
+    ensures { λ x. ⌜ x ≡ evaluateOf r kind direction e (now (image .entry)) ⌝ }
+{
+    match evaluate_refusals(r, kind, direction, e, image) {
+        Checked::Refused(n) => decision::refused(n),
+        Checked::Accepted => {
+            let s = station::situation_of(r);
+            let policy = s.policy;
+            let dial = s.dial;
+            decide(
+                image,
+                s,
+                policy,
+                dial,
+                codes::kind_of(kind),
+                codes::direction_of(direction),
+                entry::edges_read(e),
+            )
+        }
+    }
+}
+
+// The refusal of a transmission whose spectrum is not known.
+pub fn unmeasured(r: StationRecord, image: &[u8]) -> Decision
+    ensures { λ x. ⌜ x ≡ unmeasuredOf r (now (image .entry)) ⌝ }
+{
+    match entry::admit(r, true, image) {
+        Checked::Refused(n) => decision::refused(n),
+        Checked::Accepted => {
+            let s = station::situation_of(r);
+            let dial = s.dial;
+            let sideband = s.sideband;
+            let audio = Range {
+                low_hz: 0.0,
+                high_hz: 0.0,
+            };
+            let signal = signal_of(dial, sideband, audio);
+            decision::simple(signal, Verdict::Blocked, Code::Unmeasured, decision::NO_RULE)
+        }
+    }
 }

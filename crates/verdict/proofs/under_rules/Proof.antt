@@ -1,3 +1,4 @@
+use Rattle.verdict.specs.Verdict.{underRulesOf}
 use borrow.Author.Needs.{needs}
 use Rattle.verdict.proofs.under_rules.Statement.{statement}
 use Rattle.verdict.proofs.under_rules.Tie as tie
@@ -16,7 +17,8 @@ ruled-requires c κs = search needs
 
 -- src/lib.rt:96:1
 returns : tie.Need-returns
-returns c = ?
+unfolding underRulesOf
+returns c = rw (c .ruled .ensures) (rw (c .before .signal-of .ensures))
 
 pub under-rules-spec : {M : Type 1} → statement M
 under-rules-spec = tie.close (tie.spec signal-of-requires ruled-requires returns)
