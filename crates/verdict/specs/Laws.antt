@@ -1,20 +1,21 @@
 -- The prerequisites by their parts: all met, and each one missing.
 use Prim.Native.Nat.{ℕ}
-use mathlib.Core.Bool.{Bool, true, false, cond}
-use mathlib.Core.List.{List, _++_}
+use mathlib.Core.Bool.{Bool, true, false, not, cond}
+use mathlib.Core.List.{List, [], _∷_, _++_}
 use mathlib.Core.Path.{_≡_, refl, sym, ap, _∙_}
 use lib.Dec.{eqb}
 use lib.Ieee.{Float}
 use Rattle.scan.specs.First.{cond-yes, cond-not}
-use Rattle.codes.specs.Read.{policyOf}
-use Rattle.codes.specs.Refusal.{Test, refusalOf, refusal-both}
+use Rattle.codes.specs.Read.{policyOf, kindOf, directionOf}
+use Rattle.codes.specs.Refusal.{Test, test, refusalOf, refusal-both, refusal-next}
+use Rattle.codes.specs.declared.Checked.{Checked}
 use Rattle.codes.specs.declared.Checked.the-variants.{Accepted}
 use Rattle.codes.specs.declared.Policy.{Policy}
 use Rattle.codes.specs.declared.Policy.the-variants.{Unset, NoProfile as NoneApply, Rules, Broken}
 use Rattle.station.specs.Station.{situationOf}
 use Rattle.station.specs.declared.StationRecord.{StationRecord}
 use Rattle.layout.specs.Form.{Whole}
-use Rattle.entry.specs.Entry.{entryTests, entryOf, entry-whole}
+use Rattle.entry.specs.Entry.{entryTests, entryOf, entry-whole, edgesValid, edgesRead}
 use Rattle.codes.specs.declared.Control.{Control}
 use Rattle.codes.specs.declared.Control.the-variants.{ControlIs, NoControl as ControlAbsent}
 use Rattle.codes.specs.declared.ControlMode.{ControlMode}
@@ -27,6 +28,7 @@ use Rattle.codes.specs.declared.Sideband.{Sideband}
 use Rattle.codes.specs.declared.EmissionKind.{EmissionKind}
 use Rattle.codes.specs.declared.Direction.{Direction}
 use Rattle.profile.specs.declared.Range.{Range}
+use Rattle.occupancy.specs.declared.Edges.{Edges}
 use Rattle.station.specs.declared.Situation.{Situation}
 use Rattle.station.specs.declared.Figure.{Figure}
 use Rattle.station.specs.declared.Figure.the-variants.{Known, Absent}
@@ -38,7 +40,7 @@ use Rattle.decision.specs.declared.Code.the-variants.{Region, NoControl, NoLice
 use Rattle.decision.specs.declared.Draft.{Draft}
 use Rattle.decision.specs.declared.Decision.{Decision}
 use Rattle.part97.specs.Part97.{judge}
-use Rattle.verdict.specs.Verdict.{withControl, withLicense, withSideband, withDial, caseOf, ruledOf}
+use Rattle.verdict.specs.Verdict.{withControl, withLicense, withSideband, withDial, caseOf, ruledOf, decideOf, besideValid, edgeTests, unlessRefused, evaluateOf}
 
 module _ (table : List ℕ) (s : Situation) (dial : Figure) (kind : EmissionKind) (direction : Direction) (audio : Range) (signal : Draft) where
   -- what is asked after each prerequisite
@@ -104,3 +106,17 @@ pub rules-whole :
   → situationOf r .policy ≡ Rules → Whole l
 unfolding entryOf situationOf
 rules-whole r beside l more e p = entry-whole r beside l (refusal-both (entryTests r beside l) more e .0) (rules-code (r .policy) p)
+
+-- An input that no test refuses goes on to the decision.
+pub evaluate-accepted :
+  (r : StationRecord) (kind direction : ℕ) (e : Edges) (l : List ℕ) → entryOf r (besideValid kind direction) l ≡ Accepted → edgesValid e ≡ true
+  → evaluateOf r kind direction e l
+    ≡ decideOf l (situationOf r) (situationOf r .policy) (situationOf r .dial) (kindOf kind) (directionOf direction) (edgesRead e)
+unfolding evaluateOf entryOf
+evaluate-accepted r kind direction e l h v =
+    ap
+    (λ (x : Checked).
+    unlessRefused x
+    (decideOf l (situationOf r) (situationOf r .policy) (situationOf r .dial) (kindOf kind) (directionOf direction) (edgesRead e)))
+    (refusal-next (entryTests r (besideValid kind direction) l) (edgeTests e) h
+    ∙ ap (λ (b : Bool). refusalOf (test 15 (not b) ∷ [])) v)
