@@ -1,11 +1,16 @@
 // Data from an automatically controlled station (97.221). It uses air, layout, table, find, decision, part97, drafts,
 // advice_97_313 and automatic_97_221.
 use codes::Direction;
-use decision::{Code, Decision, Draft, Verdict};
-use find::{Pick, Question};
+use decision::Code;
+use decision::Decision;
+use decision::Draft;
+use decision::Verdict;
+use find::Pick;
+use find::Question;
 use part97::Case;
 use profile::Range;
-use table::{Elsewhere, ElsewhereRule};
+use table::Elsewhere;
+use table::ElsewhereRule;
 ghost use mathlib.Core.Path.{_≡_};
 ghost use mathlib.Core.Bool.{_&&_, not};
 ghost use Rattle.layout.specs.Form.{Whole};
@@ -47,7 +52,12 @@ fn automatic_elsewhere(s: &[u8], c: Case, draft: Draft, rule: ElsewhereRule) -> 
         }
         ElsewhereRule::Nowhere => {
             let g = layout::general_of(s);
-            decision::simple(draft, Verdict::Blocked, Code::AutomaticOutside, g.automatic_rule)
+            decision::simple(
+                draft,
+                Verdict::Blocked,
+                Code::AutomaticOutside,
+                g.automatic_rule,
+            )
         }
     }
 }

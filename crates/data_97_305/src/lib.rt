@@ -2,9 +2,15 @@
 // (97.301) and, for automatic control, 97.221. It uses profile, layout, table, find, decision, part97, drafts,
 // privileges_97_301, advice_97_313, automatic_data_97_221 and overshoot_97_305.
 use codes::EmissionKind;
-use decision::{BandNumber, Code, Decision, Verdict};
-use find::{Pick, Question};
-use part97::{Case, Nearest, Privileged};
+use decision::BandNumber;
+use decision::Code;
+use decision::Decision;
+use decision::Verdict;
+use find::Pick;
+use find::Question;
+use part97::Case;
+use part97::Nearest;
+use part97::Privileged;
 use profile::DataLimit;
 use table::Segment;
 ghost use mathlib.Core.Path.{_≡_};
@@ -37,7 +43,12 @@ fn outside_segments(s: &[u8], c: Case, band: u8) -> Decision
         }
         Nearest::NoneNear => {
             let draft = drafts::draft_of(c, BandNumber::Band(band));
-            decision::simple(draft, Verdict::Blocked, Code::NoDataHere, decision::RULE_97_305C)
+            decision::simple(
+                draft,
+                Verdict::Blocked,
+                Code::NoDataHere,
+                decision::RULE_97_305C,
+            )
         }
     }
 }
@@ -58,10 +69,20 @@ fn inside_segment(s: &[u8], c: Case, band: u8, segment: Segment) -> Decision
             advice_97_313::advise(s, c, air, draft, Code::Permitted, segment.rule)
         }
         Privileged::Forbidden => {
-            decision::simple(draft, Verdict::Blocked, Code::Privilege, decision::RULE_97_307F9)
+            decision::simple(
+                draft,
+                Verdict::Blocked,
+                Code::Privilege,
+                decision::RULE_97_307F9,
+            )
         }
         Privileged::Unheld => {
-            decision::simple(draft, Verdict::Blocked, Code::Privilege, decision::RULE_97_301)
+            decision::simple(
+                draft,
+                Verdict::Blocked,
+                Code::Privilege,
+                decision::RULE_97_301,
+            )
         }
     }
 }

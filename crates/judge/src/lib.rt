@@ -1,8 +1,12 @@
 // The judgement of a case under an accepted table: the band (97.301), bands closed to automatic control, 60 m, and the kind
 // of emission. It uses layout, table, find, decision, part97, drafts, data_97_305, other_97_305 and sixty_97_303.
 use codes::EmissionKind;
-use decision::{BandNumber, Code, Decision, Verdict};
-use find::{Pick, Question};
+use decision::BandNumber;
+use decision::Code;
+use decision::Decision;
+use decision::Verdict;
+use find::Pick;
+use find::Question;
 use part97::Case;
 use table::ChannelBand;
 ghost use mathlib.Core.Path.{_≡_};
@@ -81,7 +85,12 @@ pub fn judge_case(s: &[u8], c: Case) -> Decision
         Pick::Picked(_, r) => judge_in_band(s, c, r.band),
         Pick::Missing => {
             let draft = drafts::draft_of(c, touching_band(s, c));
-            decision::simple(draft, Verdict::Blocked, Code::OutOfBand, decision::RULE_97_301)
+            decision::simple(
+                draft,
+                Verdict::Blocked,
+                Code::OutOfBand,
+                decision::RULE_97_301,
+            )
         }
     }
 }

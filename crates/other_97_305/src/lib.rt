@@ -1,8 +1,12 @@
 // CW, test emissions and keying with no audio, off 60 m: wherever the operator's privileges allow that emission (97.305(a),
 // (b)). It uses layout, decision, part97, drafts and privileges_97_301.
 use codes::EmissionKind;
-use decision::{BandNumber, Code, Decision, Verdict};
-use part97::{Case, Privileged};
+use decision::BandNumber;
+use decision::Code;
+use decision::Decision;
+use decision::Verdict;
+use part97::Case;
+use part97::Privileged;
 use profile::Range;
 ghost use mathlib.Core.Path.{_≡_};
 ghost use Rattle.layout.specs.Form.{Whole};
@@ -30,10 +34,20 @@ pub fn judge_emitted(s: &[u8], c: Case, band: u8, kind: EmissionKind) -> Decisio
             decision::simple(draft, Verdict::Legal, Code::Permitted, other_rule(kind))
         }
         Privileged::Forbidden => {
-            decision::simple(draft, Verdict::Blocked, Code::Privilege, decision::RULE_97_307F9)
+            decision::simple(
+                draft,
+                Verdict::Blocked,
+                Code::Privilege,
+                decision::RULE_97_307F9,
+            )
         }
         Privileged::Unheld => {
-            decision::simple(draft, Verdict::Blocked, Code::Privilege, decision::RULE_97_301)
+            decision::simple(
+                draft,
+                Verdict::Blocked,
+                Code::Privilege,
+                decision::RULE_97_301,
+            )
         }
     }
 }
@@ -49,7 +63,12 @@ pub fn judge_keyed(s: &[u8], c: Case, band: u8) -> Decision
         high_hz: c.dial_hz,
     };
     if privileges_97_301::some_privilege(s, c, dial) {
-        return decision::simple(draft, Verdict::Legal, Code::Permitted, decision::RULE_97_301);
+        return decision::simple(
+            draft,
+            Verdict::Legal,
+            Code::Permitted,
+            decision::RULE_97_301,
+        );
     }
     let g = layout::general_of(s);
     decision::simple(draft, Verdict::Blocked, Code::Privilege, g.privileges_rule)

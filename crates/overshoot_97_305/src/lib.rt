@@ -1,7 +1,9 @@
 // How far data lies outside a data segment (97.305(c)): the nearest segment, and the overshoot. It uses figures, profile,
 // layout, table, decision and part97.
-use decision::{Edge, Overshoot};
-use part97::{Case, Nearest};
+use decision::Edge;
+use decision::Overshoot;
+use part97::Case;
+use part97::Nearest;
 use profile::Range;
 ghost use mathlib.Core.Path.{_≡_};
 ghost use Rattle.layout.specs.Layout.{countOf, segments};

@@ -46,14 +46,14 @@ near-inj : {i j : ℕ} {x y : Float} → Near i x ≡ Near j y → i ≡ j
 near-inj e = cc
 
 considered-below :
-  (c : Case) (best : Nearest) (n : ℕ) (segment : Range) → ((i : ℕ) (by : Float) → best ≡ Near i by → i < n)
-  → (i : ℕ) (by : Float) → considered c best n segment ≡ Near i by → i < suc n
+    (c : Case) (best : Nearest) (n : ℕ) (segment : Range) → ((i : ℕ) (by : Float) → best ≡ Near i by → i < n)
+    → (i : ℕ) (by : Float) → considered c best n segment ≡ Near i by → i < suc n
 unfolding considered
 considered-below c best n segment lower i by e = go (overlapsOf segment (c .guarded)) best lower e
   where
     go :
-      (o : Bool) (best : Nearest) → ((i : ℕ) (by : Float) → best ≡ Near i by → i < n)
-      → cond o (nearerBy best n (reach segment (c .air))) best ≡ Near i by → i < suc n
+        (o : Bool) (best : Nearest) → ((i : ℕ) (by : Float) → best ≡ Near i by → i < n)
+        → cond o (nearerBy best n (reach segment (c .air))) best ≡ Near i by → i < suc n
     go false b low q = let h = low i by q in omega arith
     go true NoneNear low q = let h : n ≡ i = near-inj q in omega arith
     go true (Near j least) low q = pick (totalLess (reach segment (c .air)) least) q
@@ -71,15 +71,15 @@ nearest-below table c (suc n) i by e =
 -- the answer to data, by what is found: too wide, inside a segment, outside them all
 module _ (table : List ℕ) (c : Case) (band : ℕ) (found : Found) where
   pub judge-wide :
-    (limit : DataLimit) → limit ≡ limitFor table found → lt (limit .«max_bandwidth_hz») (c .width) ≡ true
-    → tooWide c band limit ≡ judgeData table c band found
+      (limit : DataLimit) → limit ≡ limitFor table found → lt (limit .«max_bandwidth_hz») (c .width) ≡ true
+      → tooWide c band limit ≡ judgeData table c band found
   unfolding judgeData
   judge-wide limit e t =
       ap (tooWide c band) e ∙ sym (cond-yes _ _ (ap (λ (d : DataLimit). lt (d .«max_bandwidth_hz») (c .width)) (sym e) ∙ t))
 
   pub judge-inside :
-    (i : ℕ) → found ≡ At i → (s : Segment) → s ≡ segmentAt table i → (limit : DataLimit) → limit ≡ limitFor table found
-    → lt (limit .«max_bandwidth_hz») (c .width) ≡ false → insideSegment table c band s ≡ judgeData table c band found
+      (i : ℕ) → found ≡ At i → (s : Segment) → s ≡ segmentAt table i → (limit : DataLimit) → limit ≡ limitFor table found
+      → lt (limit .«max_bandwidth_hz») (c .width) ≡ false → insideSegment table c band s ≡ judgeData table c band found
   unfolding judgeData
   judge-inside i f s es limit e t =
       ap (insideSegment table c band) es
@@ -87,8 +87,8 @@ module _ (table : List ℕ) (c : Case) (band : ℕ) (found : Found) where
       ∙ sym (cond-not _ _ (ap (λ (d : DataLimit). lt (d .«max_bandwidth_hz») (c .width)) (sym e) ∙ t))
 
   pub judge-outside :
-    found ≡ Nothing → (limit : DataLimit) → limit ≡ limitFor table found → lt (limit .«max_bandwidth_hz») (c .width) ≡ false
-    → outsideSegments table c band ≡ judgeData table c band found
+      found ≡ Nothing → (limit : DataLimit) → limit ≡ limitFor table found → lt (limit .«max_bandwidth_hz») (c .width) ≡ false
+      → outsideSegments table c band ≡ judgeData table c band found
   unfolding judgeData
   judge-outside f limit e t =
       ap (λ (x : Found). onFound x (λ k. insideSegment table c band (segmentAt table k)) (outsideSegments table c band)) (sym f)
@@ -101,8 +101,8 @@ module _ (table : List ℕ) (c : Case) (band : ℕ) where
   band-open e = sym (cond-not _ _ e)
 
   pub band-free :
-    c .automatic ≡ true → firstIn table excluded (OfBand band) ≡ Nothing
-    → judgeOnBand table c band (channelsOf (generalOf table)) ≡ judgeInBand table c band
+      c .automatic ≡ true → firstIn table excluded (OfBand band) ≡ Nothing
+      → judgeOnBand table c band (channelsOf (generalOf table)) ≡ judgeInBand table c band
   unfolding judgeInBand
   band-free e f = sym (cond-yes _ _ e ∙ ap (λ (x : Found). onFound x closed (judgeOnBand table c band (channelsOf (generalOf table)))) f)
     where
@@ -110,9 +110,9 @@ module _ (table : List ℕ) (c : Case) (band : ℕ) where
       closed x = simpleOf (draftOf c (Band band)) Blocked AutomaticExcluded (excludedOf (recordOf table excluded x) .rule)
 
   pub band-closed :
-    c .automatic ≡ true → (x : ℕ) → firstIn table excluded (OfBand band) ≡ At x → (rule : ℕ)
-    → rule ≡ excludedOf (recordOf table excluded x) .rule
-    → simpleOf (draftOf c (Band band)) Blocked AutomaticExcluded rule ≡ judgeInBand table c band
+      c .automatic ≡ true → (x : ℕ) → firstIn table excluded (OfBand band) ≡ At x → (rule : ℕ)
+      → rule ≡ excludedOf (recordOf table excluded x) .rule
+      → simpleOf (draftOf c (Band band)) Blocked AutomaticExcluded rule ≡ judgeInBand table c band
   unfolding judgeInBand
   band-closed e x f rule r =
       ap (simpleOf (draftOf c (Band band)) Blocked AutomaticExcluded) r

@@ -99,9 +99,9 @@ judged control direction e dial =
     (situationOf (station control dial) .dial) (kindOf 0) (directionOf direction) (edgesRead e))
 
 goes-on :
-  (control direction : ℕ) (e : Edges) (dial : Float)
-  → refusalOf (stationTests (station control dial) (besideValid 0 direction) practice) ≡ Accepted → edgesValid e ≡ true
-  → data-at control direction e dial ≡ judged control direction e dial
+    (control direction : ℕ) (e : Edges) (dial : Float)
+    → refusalOf (stationTests (station control dial) (besideValid 0 direction) practice) ≡ Accepted → edgesValid e ≡ true
+    → data-at control direction e dial ≡ judged control direction e dial
 goes-on control direction e dial s v =
     ap stated
     (evaluate-accepted (station control dial) 0 direction e practice

@@ -102,15 +102,15 @@ rules-code n e = go (eqb n 0) (eqb n 1) (eqb n 2) e
     go false false false q = cc
 
 pub rules-whole :
-  (r : StationRecord) (beside : Bool) (l : List ℕ) (more : List Test) → refusalOf (entryTests r beside l ++ more) ≡ Accepted
-  → situationOf r .policy ≡ Rules → Whole l
+    (r : StationRecord) (beside : Bool) (l : List ℕ) (more : List Test) → refusalOf (entryTests r beside l ++ more) ≡ Accepted
+    → situationOf r .policy ≡ Rules → Whole l
 unfolding entryOf situationOf
 rules-whole r beside l more e p = entry-whole r beside l (refusal-both (entryTests r beside l) more e .0) (rules-code (r .policy) p)
 
 -- An input that no test refuses goes on to the decision.
 pub evaluate-accepted :
-  (r : StationRecord) (kind direction : ℕ) (e : Edges) (l : List ℕ) → entryOf r (besideValid kind direction) l ≡ Accepted → edgesValid e ≡ true
-  → evaluateOf r kind direction e l
+    (r : StationRecord) (kind direction : ℕ) (e : Edges) (l : List ℕ) → entryOf r (besideValid kind direction) l ≡ Accepted → edgesValid e ≡ true
+    → evaluateOf r kind direction e l
     ≡ decideOf l (situationOf r) (situationOf r .policy) (situationOf r .dial) (kindOf kind) (directionOf direction) (edgesRead e)
 unfolding evaluateOf entryOf
 evaluate-accepted r kind direction e l h v =

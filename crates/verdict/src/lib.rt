@@ -1,11 +1,29 @@
 // The verdict: `evaluate` and `unmeasured`, public calls. It uses figures, codes, profile, occupancy, air, station, layout,
 // table, entry, decision, part97, automatic_97_221 and judge.
-use codes::{Checked, Control, ControlMode, Direction, EmissionKind, License, LicenseClass, Policy, Sideband, SidebandSet};
-use decision::{BandNumber, Code, Decision, Draft, JudgedSegment, MaybeRange, Verdict};
-use occupancy::{Edges, Reading};
+use codes::Checked;
+use codes::Control;
+use codes::ControlMode;
+use codes::Direction;
+use codes::EmissionKind;
+use codes::License;
+use codes::LicenseClass;
+use codes::Policy;
+use codes::Sideband;
+use codes::SidebandSet;
+use decision::BandNumber;
+use decision::Code;
+use decision::Decision;
+use decision::Draft;
+use decision::JudgedSegment;
+use decision::MaybeRange;
+use decision::Verdict;
+use occupancy::Edges;
+use occupancy::Reading;
 use part97::Case;
 use profile::Range;
-use station::{Figure, Situation, StationRecord};
+use station::Figure;
+use station::Situation;
+use station::StationRecord;
 ghost use mathlib.Core.Path.{_≡_};
 ghost use Rattle.codes.specs.Refusal.{refusalOf};
 ghost use Rattle.layout.specs.Form.{Whole};
@@ -39,7 +57,16 @@ fn signal_of(dial: Figure, sideband: SidebandSet, audio: Range) -> Draft
 }
 
 // The facts that judging works from.
-fn case_of(s: Situation, control: ControlMode, class: LicenseClass, sideband: Sideband, dial: f64, kind: EmissionKind, direction: Direction, audio: Range) -> Case
+fn case_of(
+    s: Situation,
+    control: ControlMode,
+    class: LicenseClass,
+    sideband: Sideband,
+    dial: f64,
+    kind: EmissionKind,
+    direction: Direction,
+    audio: Range,
+) -> Case
     ensures { λ x. ⌜ x ≡ caseOf s control class sideband dial kind direction audio ⌝ }
 {
     let power = s.power;
@@ -63,25 +90,53 @@ fn case_of(s: Situation, control: ControlMode, class: LicenseClass, sideband: Si
 }
 
 // Under an accepted table, at a dial: the prerequisites in order, then Part 97.
-fn ruled(image: &[u8], s: Situation, dial: Figure, kind: EmissionKind, direction: Direction, audio: Range, signal: Draft) -> Decision
+fn ruled(
+    image: &[u8],
+    s: Situation,
+    dial: Figure,
+    kind: EmissionKind,
+    direction: Direction,
+    audio: Range,
+    signal: Draft,
+) -> Decision
     requires { ⌜ Whole (now image) ⌝ }
     ensures { λ x. ⌜ x ≡ ruledOf (now (image .entry)) s dial kind direction audio signal ⌝ }
 {
     let g = layout::general_of(image);
     if s.itu_region != g.region {
-        return decision::simple(signal, Verdict::Blocked, Code::Region, decision::RULE_97_301);
+        return decision::simple(
+            signal,
+            Verdict::Blocked,
+            Code::Region,
+            decision::RULE_97_301,
+        );
     }
     let control_set = s.control;
     let license_set = s.license;
     let sideband_set = s.sideband;
     let Control::ControlIs(control) = control_set else {
-        return decision::simple(signal, Verdict::Blocked, Code::NoControl, decision::RULE_97_109);
+        return decision::simple(
+            signal,
+            Verdict::Blocked,
+            Code::NoControl,
+            decision::RULE_97_109,
+        );
     };
     let License::LicenseIs(class) = license_set else {
-        return decision::simple(signal, Verdict::Blocked, Code::NoLicense, decision::RULE_97_301);
+        return decision::simple(
+            signal,
+            Verdict::Blocked,
+            Code::NoLicense,
+            decision::RULE_97_301,
+        );
     };
     let SidebandSet::SidebandIs(sideband) = sideband_set else {
-        return decision::simple(signal, Verdict::Blocked, Code::NoSideband, decision::NO_RULE);
+        return decision::simple(
+            signal,
+            Verdict::Blocked,
+            Code::NoSideband,
+            decision::NO_RULE,
+        );
     };
     let Figure::Known(hz) = dial else {
         return decision::simple(signal, Verdict::Blocked, Code::NoDial, decision::NO_RULE);
@@ -91,7 +146,14 @@ fn ruled(image: &[u8], s: Situation, dial: Figure, kind: EmissionKind, direction
 }
 
 // Under Rules.
-fn under_rules(image: &[u8], s: Situation, dial: Figure, kind: EmissionKind, direction: Direction, audio: Range) -> Decision
+fn under_rules(
+    image: &[u8],
+    s: Situation,
+    dial: Figure,
+    kind: EmissionKind,
+    direction: Direction,
+    audio: Range,
+) -> Decision
     requires { ⌜ Whole (now image) ⌝ }
     ensures { λ x. ⌜ x ≡ underRulesOf (now (image .entry)) s dial kind direction audio ⌝ }
 {
@@ -111,7 +173,15 @@ fn unruled(s: Situation, dial: Figure, e: Edges, verdict: Verdict, code: Code) -
 }
 
 // By the policy, at a dial. Under Rules the image is an accepted one.
-pub fn decide(image: &[u8], s: Situation, policy: Policy, dial: Figure, kind: EmissionKind, direction: Direction, e: Edges) -> Decision
+pub fn decide(
+    image: &[u8],
+    s: Situation,
+    policy: Policy,
+    dial: Figure,
+    kind: EmissionKind,
+    direction: Direction,
+    e: Edges,
+) -> Decision
     requires { ⌜ (policy ≡ Policy.Rules → Whole (now image)) ⌝ }
     ensures { λ x. ⌜ x ≡ decideOf (now (image .entry)) s policy dial kind direction e ⌝ }
 {
@@ -188,7 +258,12 @@ pub fn unmeasured(r: StationRecord, image: &[u8]) -> Decision
                 high_hz: 0.0,
             };
             let signal = signal_of(dial, sideband, audio);
-            decision::simple(signal, Verdict::Blocked, Code::Unmeasured, decision::NO_RULE)
+            decision::simple(
+                signal,
+                Verdict::Blocked,
+                Code::Unmeasured,
+                decision::NO_RULE,
+            )
         }
     }
 }

@@ -1,3 +1,4 @@
+-- `advice_97_313::notes_of` meets its contract: on each way to a return, the tests and what the calls ensure say which case of the definition holds.
 use Prim.Native.Nat.{_+_, _*_, _-_, _≤_}
 use mathlib.Core.Path.{_≡_, refl}
 use mathlib.Core.Logic.{⊎-elim}
@@ -8,16 +9,8 @@ use Rattle.layout.specs.Form.{table-within}
 use Rattle.part97.specs.Part97.{noteAt, notesUpTo, anyNote}
 use Rattle.part97.specs.Laws.{notes-more, any-more}
 use native.Mathlib.Omega.{arith}
-use borrow.Author.Tests.{lt-ltb, lt-leb, le-ltb, le-leb, eq-eqb, ne-eqb, not-true, not-false}
 use Rattle.advice_97_313.proofs.notes_of.Statement.{statement}
 use Rattle.advice_97_313.proofs.notes_of.Tie as tie
-use Rattle.advice_97_313.proofs.notes_of.Reads as reads
-use Rattle.advice_97_313.proofs.notes_of.Lts as lts
-use Rattle.advice_97_313.proofs.is_noted.Reads as is-noted-reads
-use Rattle.layout.proofs.count_of.Reads as count-of-reads
-use Rattle.layout.proofs.record_at.Reads as record-at-reads
-use Rattle.layout.proofs.start_of.Reads as start-of-reads
-use Rattle.table.proofs.power_limit_of.Reads as power-limit-of-reads
 
 abbrev Inv-loop : tie.InvT-loop
 Inv-loop s c r start count marks₀ any₀ i₀ marks any i = (i ≤ count) × (marks ≡ notesUpTo (noteAt s c r) i) × (any ≡ anyNote (noteAt s c r) i)
@@ -36,56 +29,43 @@ asked c =
     (rw (c .before .before .record-at .ensures)
     (rw (c .before .before .before .before .before .before .start-of .ensures))))
 
--- src/lib.rt:46:9
 start-of-requires : tie.Need-start-of-requires Inv-loop μ-loop
 start-of-requires c κs = omega (arith, c .before .pre .sized)
 
--- src/lib.rt:47:17
 count-of-requires : tie.Need-count-of-requires Inv-loop μ-loop
 count-of-requires c κs = omega (arith, c .before .before .pre .sized)
 
--- src/lib.rt:47:17
 cast-count : tie.Need-cast-count Inv-loop μ-loop
 cast-count c = omega arith
 
--- src/lib.rt:51:5
 loop-holds : tie.Need-loop-holds Inv-loop μ-loop
 unfolding notesUpTo anyNote
 loop-holds c = (omega arith, refl, refl)
 
--- src/lib.rt:52:72
 mul-record-at : tie.Need-mul-record-at Inv-loop μ-loop
 mul-record-at c = omega (arith, within (c .before .before .before .before .before))
 
--- src/lib.rt:52:64
 add-record-at : tie.Need-add-record-at Inv-loop μ-loop
 add-record-at c = omega (arith, within (c .before .before .before .before .before))
 
--- src/lib.rt:52:43
 record-at-requires : tie.Need-record-at-requires Inv-loop μ-loop
 record-at-requires c κs = omega (arith, within (c .before .before .before .before .before))
 
--- src/lib.rt:52:13
 power-limit-of-requires : tie.Need-power-limit-of-requires Inv-loop μ-loop
 power-limit-of-requires c κs = search needs
 
--- src/lib.rt:53:12
 is-noted-requires : tie.Need-is-noted-requires Inv-loop μ-loop
 is-noted-requires c κs = search needs
 
--- src/lib.rt:54:13
 array-write-marks : tie.Need-array-write-marks Inv-loop μ-loop
 array-write-marks c = omega (arith, c .before .before .before .before .before .before .before .before .before .pre .few power (omega arith))
 
--- src/lib.rt:57:9
 add-i : tie.Need-add-i Inv-loop μ-loop
 add-i c = omega arith
 
--- src/lib.rt:51:5
 loop-less : tie.Need-loop-less Inv-loop μ-loop
 loop-less c = omega arith
 
--- src/lib.rt:51:5
 loop-again : tie.Need-loop-again Inv-loop μ-loop
 loop-again c =
     let inv = c .before .before .before .before .before .loop .inv in
@@ -102,7 +82,6 @@ loop-again c =
     ))
     (c .if1 .came)
 
--- src/lib.rt:42:1
 returns : tie.Need-returns Inv-loop μ-loop
 returns c =
     let e : c .before .loop .i ≡ countOf (c .before .before .before .before .before .args .s .now) power = omega (arith, c .before .before .count-of .ensures) in

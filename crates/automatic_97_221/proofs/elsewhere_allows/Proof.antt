@@ -1,25 +1,17 @@
-use native.Mathlib.Omega.{arith}
-use borrow.Author.Tests.{lt-ltb, lt-leb, le-ltb, le-leb, eq-eqb, ne-eqb, not-true, not-false}
+-- `automatic_97_221::elsewhere_allows` meets its contract: on each way to a return, the tests and what the calls ensure say which case of the definition holds.
 use borrow.Author.Needs.{needs}
 use Rattle.automatic_97_221.proofs.elsewhere_allows.Statement.{statement}
 use Rattle.automatic_97_221.proofs.elsewhere_allows.Tie as tie
-use Rattle.automatic_97_221.proofs.elsewhere_allows.Reads as reads
-use Rattle.automatic_97_221.proofs.elsewhere_allows.Lts as lts
-use Rattle.automatic_97_221.proofs.responding.Reads as responding-reads
 
--- src/lib.rt:51:30
 enum-known-rule : tie.Need-enum-known-rule
 enum-known-rule c = search needs
 
--- src/lib.rt:52:45
 responding-requires : tie.Need-responding-requires
 responding-requires c κs = search needs
 
--- src/lib.rt:54:35
 enum-told : tie.Need-enum-told
 enum-told c = search needs
 
--- src/lib.rt:47:1
 returns : tie.Need-returns
 returns c =
     rw (c .before .before .before .before .before .rule .given .1)
@@ -27,7 +19,6 @@ returns c =
     (rw (← c .before .responding .ensures)
     (rw (c .if2 .taken))))
 
--- src/lib.rt:47:1
 returns-2 : tie.Need-returns-2
 returns-2 c =
     rw (c .before .before .before .before .before .before .rule .given .1)
@@ -35,13 +26,11 @@ returns-2 c =
     (rw (← c .before .before .responding .ensures)
     (rw (c .before .if2 .left))))
 
--- src/lib.rt:47:1
 returns-3 : tie.Need-returns-3
 returns-3 c =
     rw (c .before .before .before .rule .given .1)
     (rw (c .if1 .left))
 
--- src/lib.rt:47:1
 returns-4 : tie.Need-returns-4
 returns-4 c = search needs
 

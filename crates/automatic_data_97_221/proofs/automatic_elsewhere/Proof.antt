@@ -1,25 +1,15 @@
-use native.Mathlib.Omega.{arith}
-use borrow.Author.Tests.{lt-ltb, lt-leb, le-ltb, le-leb, eq-eqb, ne-eqb, not-true, not-false}
+-- `automatic_data_97_221::automatic_elsewhere` meets its contract: on each way to a return, the tests and what the calls ensure say which case of the definition holds.
 use Rattle.part97.specs.Part97.{automaticElsewhere}
 use borrow.Author.Needs.{needs}
 use Rattle.automatic_data_97_221.proofs.automatic_elsewhere.Statement.{statement}
 use Rattle.automatic_data_97_221.proofs.automatic_elsewhere.Tie as tie
-use Rattle.automatic_data_97_221.proofs.automatic_elsewhere.Reads as reads
-use Rattle.automatic_data_97_221.proofs.automatic_elsewhere.Lts as lts
-use Rattle.automatic_data_97_221.proofs.advise_automatic.Reads as advise-automatic-reads
-use Rattle.automatic_data_97_221.proofs.must_respond.Reads as must-respond-reads
-use Rattle.decision.proofs.simple.Reads as simple-reads
-use Rattle.layout.proofs.general_of.Reads as general-of-reads
 
--- src/lib.rt:39:30
 enum-known-rule : tie.Need-enum-known-rule
 enum-known-rule c = search needs
 
--- src/lib.rt:41:17
 simple-requires : tie.Need-simple-requires
 simple-requires c κs = search needs
 
--- src/lib.rt:41:17
 returns : tie.Need-returns
 unfolding automaticElsewhere
 returns c =
@@ -27,15 +17,12 @@ returns c =
     (rw (c .before .if1 .taken)
     (rw (c .simple .ensures)))
 
--- src/lib.rt:43:16
 must-respond-requires : tie.Need-must-respond-requires
 must-respond-requires c κs = search needs
 
--- src/lib.rt:44:17
 simple-requires-2 : tie.Need-simple-requires-2
 simple-requires-2 c κs = search needs
 
--- src/lib.rt:44:17
 returns-2 : tie.Need-returns-2
 unfolding automaticElsewhere
 returns-2 c =
@@ -45,23 +32,18 @@ returns-2 c =
     (rw (c .before .if2 .taken)
     (rw (c .simple2 .ensures)))))
 
--- src/lib.rt:46:13
 advise-automatic-requires : tie.Need-advise-automatic-requires
 advise-automatic-requires c κs = search needs
 
--- src/lib.rt:49:17
 enum-told : tie.Need-enum-told
 enum-told c = search needs
 
--- src/lib.rt:49:17
 general-of-requires : tie.Need-general-of-requires
 general-of-requires c κs = search needs
 
--- src/lib.rt:50:13
 simple-requires-3 : tie.Need-simple-requires-3
 simple-requires-3 c κs = search needs
 
--- src/lib.rt:33:1
 returns-3 : tie.Need-returns-3
 unfolding automaticElsewhere
 returns-3 c =
@@ -71,7 +53,6 @@ returns-3 c =
     (rw (c .before .if2 .left)
     (rw (c .advise-automatic .ensures)))))
 
--- src/lib.rt:33:1
 returns-4 : tie.Need-returns-4
 unfolding automaticElsewhere
 returns-4 c =

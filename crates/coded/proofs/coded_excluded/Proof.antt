@@ -1,17 +1,12 @@
-use native.Mathlib.Omega.{arith}
-use borrow.Author.Tests.{lt-ltb, lt-leb, le-ltb, le-leb, eq-eqb, ne-eqb, not-true, not-false}
+-- `coded::coded_excluded` meets its contract: on each way to a return, the tests and what the calls ensure say which case of the definition holds.
+use borrow.Author.Tests.{eq-eqb, ne-eqb}
 use borrow.Author.Needs.{needs}
 use Rattle.coded.proofs.coded_excluded.Statement.{statement}
 use Rattle.coded.proofs.coded_excluded.Tie as tie
-use Rattle.coded.proofs.coded_excluded.Reads as reads
-use Rattle.coded.proofs.coded_excluded.Lts as lts
-use Rattle.coded.proofs.no_lists.Reads as no-lists-reads
 
--- src/lib.rt:74:54
 no-lists-requires : tie.Need-no-lists-requires
 no-lists-requires c κs = search needs
 
--- src/lib.rt:71:1
 returns : tie.Need-returns
 returns c =
     rw (eq-eqb _ _ (c .before .before .before .before .before .before .before .if1 .taken))
@@ -20,7 +15,6 @@ returns c =
     (rw (← c .before .before .no-lists .ensures)
     (rw (c .before .if4 .taken)))))
 
--- src/lib.rt:71:1
 returns-2 : tie.Need-returns-2
 returns-2 c =
     rw (eq-eqb _ _ (c .before .before .before .before .before .before .if1 .taken))
@@ -29,20 +23,17 @@ returns-2 c =
     (rw (← c .before .no-lists .ensures)
     (rw (c .if4 .left)))))
 
--- src/lib.rt:71:1
 returns-3 : tie.Need-returns-3
 returns-3 c =
     rw (eq-eqb _ _ (c .before .before .before .before .if1 .taken))
     (rw (eq-eqb _ _ (c .before .before .if2 .taken))
     (rw (ne-eqb _ _ (c .if3 .left))))
 
--- src/lib.rt:71:1
 returns-4 : tie.Need-returns-4
 returns-4 c =
     rw (eq-eqb _ _ (c .before .before .if1 .taken))
     (rw (ne-eqb _ _ (c .if2 .left)))
 
--- src/lib.rt:71:1
 returns-5 : tie.Need-returns-5
 returns-5 c =
     rw (ne-eqb _ _ (c .if1 .left))

@@ -1,33 +1,22 @@
+-- `coded::coded_general` meets its contract: on each way to a return, the tests and what the calls ensure say which case of the definition holds.
 use Rattle.coded.specs.Coded.{codedGeneral}
-use native.Mathlib.Omega.{arith}
-use borrow.Author.Tests.{lt-ltb, lt-leb, le-ltb, le-leb, eq-eqb, ne-eqb, not-true, not-false}
+use borrow.Author.Tests.{lt-leb, le-leb, eq-eqb, ne-eqb}
 use borrow.Author.Needs.{needs}
 use Rattle.coded.proofs.coded_general.Statement.{statement}
 use Rattle.coded.proofs.coded_general.Tie as tie
-use Rattle.coded.proofs.coded_general.Reads as reads
-use Rattle.coded.proofs.coded_general.Lts as lts
-use Rattle.coded.proofs.coded_channels.Reads as coded-channels-reads
-use Rattle.coded.proofs.coded_elsewhere.Reads as coded-elsewhere-reads
-use Rattle.coded.proofs.coded_plans.Reads as coded-plans-reads
-use Rattle.coded.proofs.coded_sixty.Reads as coded-sixty-reads
 
--- src/lib.rt:156:25
 coded-elsewhere-requires : tie.Need-coded-elsewhere-requires
 coded-elsewhere-requires c κs = search needs
 
--- src/lib.rt:157:29
 coded-channels-requires : tie.Need-coded-channels-requires
 coded-channels-requires c κs = search needs
 
--- src/lib.rt:158:33
 coded-sixty-requires : tie.Need-coded-sixty-requires
 coded-sixty-requires c κs = search needs
 
--- src/lib.rt:158:51
 coded-plans-requires : tie.Need-coded-plans-requires
 coded-plans-requires c κs = search needs
 
--- src/lib.rt:149:1
 returns : tie.Need-returns
 unfolding codedGeneral
 returns c =
@@ -43,7 +32,6 @@ returns c =
     (rw (c .before .if7 .taken)
     (rw (c .coded-plans .ensures)))))))))))
 
--- src/lib.rt:149:1
 returns-2 : tie.Need-returns-2
 unfolding codedGeneral
 returns-2 c =
@@ -58,7 +46,6 @@ returns-2 c =
     (rw (← c .before .coded-sixty .ensures)
     (rw (c .if7 .left))))))))))
 
--- src/lib.rt:149:1
 returns-3 : tie.Need-returns-3
 unfolding codedGeneral
 returns-3 c =
@@ -71,7 +58,6 @@ returns-3 c =
     (rw (← c .before .coded-channels .ensures)
     (rw (c .if6 .left))))))))
 
--- src/lib.rt:149:1
 returns-4 : tie.Need-returns-4
 unfolding codedGeneral
 returns-4 c =
@@ -82,7 +68,6 @@ returns-4 c =
     (rw (← c .before .coded-elsewhere .ensures)
     (rw (c .if5 .left))))))
 
--- src/lib.rt:149:1
 returns-5 : tie.Need-returns-5
 unfolding codedGeneral
 returns-5 c =
@@ -91,7 +76,6 @@ returns-5 c =
     (rw (eq-eqb _ _ (c .before .before .if3 .taken))
     (rw (ne-eqb _ _ (c .if4 .left)))))
 
--- src/lib.rt:149:1
 returns-6 : tie.Need-returns-6
 unfolding codedGeneral
 returns-6 c =
@@ -99,14 +83,12 @@ returns-6 c =
     (rw (le-leb _ _ (c .before .before .if2 .taken))
     (rw (ne-eqb _ _ (c .if3 .left))))
 
--- src/lib.rt:149:1
 returns-7 : tie.Need-returns-7
 unfolding codedGeneral
 returns-7 c =
     rw (le-leb _ _ (c .before .before .if1 .taken))
     (rw (lt-leb _ _ (c .if2 .left)))
 
--- src/lib.rt:149:1
 returns-8 : tie.Need-returns-8
 unfolding codedGeneral
 returns-8 c =

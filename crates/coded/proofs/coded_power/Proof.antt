@@ -1,22 +1,15 @@
-use native.Mathlib.Omega.{arith}
-use borrow.Author.Tests.{lt-ltb, lt-leb, le-ltb, le-leb, eq-eqb, ne-eqb, not-true, not-false}
+-- `coded::coded_power` meets its contract: on each way to a return, the tests and what the calls ensure say which case of the definition holds.
+use borrow.Author.Tests.{lt-leb, le-leb, eq-eqb, ne-eqb}
 use borrow.Author.Needs.{needs}
 use Rattle.coded.proofs.coded_power.Statement.{statement}
 use Rattle.coded.proofs.coded_power.Tie as tie
-use Rattle.coded.proofs.coded_power.Reads as reads
-use Rattle.coded.proofs.coded_power.Lts as lts
-use Rattle.coded.proofs.bits_under.Reads as bits-under-reads
-use Rattle.codes.proofs.bit0.Reads as bit0-reads
 
--- src/lib.rt:81:24
 bit0-requires : tie.Need-bit0-requires
 bit0-requires c κs = search needs
 
--- src/lib.rt:81:13
 bits-under-requires : tie.Need-bits-under-requires
 bits-under-requires c κs = search needs
 
--- src/lib.rt:77:1
 returns : tie.Need-returns
 returns c =
     rw (le-leb _ _ (c .before .before .before .before .before .before .before .before .if1 .taken))
@@ -26,7 +19,6 @@ returns c =
     (rw (eq-eqb _ _ (c .before .before .before .if3 .taken))
     (rw (eq-eqb _ _ (c .before .if4 .taken)))))))
 
--- src/lib.rt:77:1
 returns-2 : tie.Need-returns-2
 returns-2 c =
     rw (le-leb _ _ (c .before .before .before .before .before .before .before .if1 .taken))
@@ -36,7 +28,6 @@ returns-2 c =
     (rw (eq-eqb _ _ (c .before .before .if3 .taken))
     (rw (ne-eqb _ _ (c .if4 .left)))))))
 
--- src/lib.rt:77:1
 returns-3 : tie.Need-returns-3
 returns-3 c =
     rw (le-leb _ _ (c .before .before .before .before .before .if1 .taken))
@@ -45,7 +36,6 @@ returns-3 c =
     (rw (c .before .before .if2 .taken)
     (rw (ne-eqb _ _ (c .if3 .left))))))
 
--- src/lib.rt:77:1
 returns-4 : tie.Need-returns-4
 returns-4 c =
     rw (le-leb _ _ (c .before .before .before .if1 .taken))
@@ -53,7 +43,6 @@ returns-4 c =
     (rw (← c .before .bits-under .ensures)
     (rw (c .if2 .left))))
 
--- src/lib.rt:77:1
 returns-5 : tie.Need-returns-5
 returns-5 c =
     rw (lt-leb _ _ (c .if1 .left))

@@ -1,36 +1,24 @@
-use native.Mathlib.Omega.{arith}
-use borrow.Author.Tests.{lt-ltb, lt-leb, le-ltb, le-leb, eq-eqb, ne-eqb, not-true, not-false}
+-- `coded::coded_privilege` meets its contract: on each way to a return, the tests and what the calls ensure say which case of the definition holds.
+use borrow.Author.Tests.{lt-leb, le-leb, eq-eqb, ne-eqb}
 use borrow.Author.Needs.{needs}
 use Rattle.coded.proofs.coded_privilege.Statement.{statement}
 use Rattle.coded.proofs.coded_privilege.Tie as tie
-use Rattle.coded.proofs.coded_privilege.Reads as reads
-use Rattle.coded.proofs.coded_privilege.Lts as lts
-use Rattle.coded.proofs.bits_under.Reads as bits-under-reads
-use Rattle.coded.proofs.under.Reads as under-reads
-use Rattle.codes.proofs.bit0.Reads as bit0-reads
-use Rattle.codes.proofs.bit1.Reads as bit1-reads
 
--- src/lib.rt:60:28
 bit0-requires : tie.Need-bit0-requires
 bit0-requires c κs = search needs
 
--- src/lib.rt:60:17
 bits-under-requires : tie.Need-bits-under-requires
 bits-under-requires c κs = search needs
 
--- src/lib.rt:61:27
 bit1-requires : tie.Need-bit1-requires
 bit1-requires c κs = search needs
 
--- src/lib.rt:61:49
 cast-under : tie.Need-cast-under
 cast-under c = search needs
 
--- src/lib.rt:61:21
 under-requires : tie.Need-under-requires
 under-requires c κs = search needs
 
--- src/lib.rt:55:1
 returns : tie.Need-returns
 returns c =
     rw (le-leb _ _ (c .before .before .before .before .before .before .before .before .before .before .before .before .before .before .if1 .taken))
@@ -44,7 +32,6 @@ returns c =
     (rw (eq-eqb _ _ (c .before .before .before .if5 .taken))
     (rw (eq-eqb _ _ (c .before .if6 .taken)))))))))))
 
--- src/lib.rt:55:1
 returns-2 : tie.Need-returns-2
 returns-2 c =
     rw (le-leb _ _ (c .before .before .before .before .before .before .before .before .before .before .before .before .before .if1 .taken))
@@ -58,7 +45,6 @@ returns-2 c =
     (rw (eq-eqb _ _ (c .before .before .if5 .taken))
     (rw (ne-eqb _ _ (c .if6 .left)))))))))))
 
--- src/lib.rt:55:1
 returns-3 : tie.Need-returns-3
 returns-3 c =
     rw (le-leb _ _ (c .before .before .before .before .before .before .before .before .before .before .before .if1 .taken))
@@ -71,7 +57,6 @@ returns-3 c =
     (rw (c .before .before .if4 .taken)
     (rw (ne-eqb _ _ (c .if5 .left))))))))))
 
--- src/lib.rt:55:1
 returns-4 : tie.Need-returns-4
 returns-4 c =
     rw (le-leb _ _ (c .before .before .before .before .before .before .before .before .before .if1 .taken))
@@ -83,7 +68,6 @@ returns-4 c =
     (rw (← c .before .under .ensures)
     (rw (c .if4 .left))))))))
 
--- src/lib.rt:55:1
 returns-5 : tie.Need-returns-5
 returns-5 c =
     rw (le-leb _ _ (c .before .before .before .before .before .if1 .taken))
@@ -92,13 +76,11 @@ returns-5 c =
     (rw (← c .before .bits-under .ensures)
     (rw (c .if3 .left)))))
 
--- src/lib.rt:55:1
 returns-6 : tie.Need-returns-6
 returns-6 c =
     rw (le-leb _ _ (c .before .before .if1 .taken))
     (rw (lt-leb _ _ (c .if2 .left)))
 
--- src/lib.rt:55:1
 returns-7 : tie.Need-returns-7
 returns-7 c =
     rw (lt-leb _ _ (c .if1 .left))

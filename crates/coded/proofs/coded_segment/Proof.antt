@@ -1,35 +1,24 @@
-use native.Mathlib.Omega.{arith}
-use borrow.Author.Tests.{lt-ltb, lt-leb, le-ltb, le-leb, eq-eqb, ne-eqb, not-true, not-false}
+-- `coded::coded_segment` meets its contract: on each way to a return, the tests and what the calls ensure say which case of the definition holds.
+use borrow.Author.Tests.{lt-leb, le-leb, eq-eqb, ne-eqb}
 use borrow.Author.Needs.{needs}
 use Rattle.coded.proofs.coded_segment.Statement.{statement}
 use Rattle.coded.proofs.coded_segment.Tie as tie
-use Rattle.coded.proofs.coded_segment.Reads as reads
-use Rattle.coded.proofs.coded_segment.Lts as lts
-use Rattle.coded.proofs.under.Reads as under-reads
-use Rattle.codes.proofs.bit0.Reads as bit0-reads
-use Rattle.codes.proofs.bit1.Reads as bit1-reads
 
--- src/lib.rt:44:19
 bit0-requires : tie.Need-bit0-requires
 bit0-requires c κs = search needs
 
--- src/lib.rt:44:13
 under-requires : tie.Need-under-requires
 under-requires c κs = search needs
 
--- src/lib.rt:45:23
 bit1-requires : tie.Need-bit1-requires
 bit1-requires c κs = search needs
 
--- src/lib.rt:45:45
 cast-under : tie.Need-cast-under
 cast-under c = search needs
 
--- src/lib.rt:45:17
 under-requires-2 : tie.Need-under-requires-2
 under-requires-2 c κs = search needs
 
--- src/lib.rt:40:1
 returns : tie.Need-returns
 returns c =
     rw (le-leb _ _ (c .before .before .before .before .before .before .before .before .before .before .if1 .taken))
@@ -41,7 +30,6 @@ returns c =
     (rw (c .before .before .before .if3 .taken)
     (rw (eq-eqb _ _ (c .before .if4 .taken)))))))))
 
--- src/lib.rt:40:1
 returns-2 : tie.Need-returns-2
 returns-2 c =
     rw (le-leb _ _ (c .before .before .before .before .before .before .before .before .before .if1 .taken))
@@ -53,7 +41,6 @@ returns-2 c =
     (rw (c .before .before .if3 .taken)
     (rw (ne-eqb _ _ (c .if4 .left)))))))))
 
--- src/lib.rt:40:1
 returns-3 : tie.Need-returns-3
 returns-3 c =
     rw (le-leb _ _ (c .before .before .before .before .before .before .before .if1 .taken))
@@ -64,7 +51,6 @@ returns-3 c =
     (rw (← c .before .under2 .ensures)
     (rw (c .if3 .left)))))))
 
--- src/lib.rt:40:1
 returns-4 : tie.Need-returns-4
 returns-4 c =
     rw (le-leb _ _ (c .before .before .before .if1 .taken))
@@ -72,7 +58,6 @@ returns-4 c =
     (rw (← c .before .under .ensures)
     (rw (c .if2 .left))))
 
--- src/lib.rt:40:1
 returns-5 : tie.Need-returns-5
 returns-5 c =
     rw (lt-leb _ _ (c .if1 .left))

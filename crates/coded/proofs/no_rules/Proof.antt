@@ -1,16 +1,12 @@
-use native.Mathlib.Omega.{arith}
-use borrow.Author.Tests.{lt-ltb, lt-leb, le-ltb, le-leb, eq-eqb, ne-eqb, not-true, not-false}
+-- `coded::no_rules` meets its contract: on each way to a return, the tests and what the calls ensure say which case of the definition holds.
+use borrow.Author.Tests.{eq-eqb, ne-eqb}
 use Rattle.coded.proofs.no_rules.Statement.{statement}
 use Rattle.coded.proofs.no_rules.Tie as tie
-use Rattle.coded.proofs.no_rules.Reads as reads
-use Rattle.coded.proofs.no_rules.Lts as lts
 
--- src/lib.rt:28:1
 returns : tie.Need-returns
 returns c =
     rw (eq-eqb _ _ (c .before .if1 .taken))
 
--- src/lib.rt:28:1
 returns-2 : tie.Need-returns-2
 returns-2 c =
     rw (ne-eqb _ _ (c .if1 .left))

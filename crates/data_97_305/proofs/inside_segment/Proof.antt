@@ -1,61 +1,44 @@
+-- `data_97_305::inside_segment` meets its contract: on each way to a return, the tests and what the calls ensure say which case of the definition holds.
 use mathlib.Core.Path.{sym, _∙_}
 use Rattle.scan.specs.First.{cond-yes, cond-not}
 use Rattle.part97.specs.Part97.{insideSegment}
 use borrow.Author.Needs.{needs}
 use Rattle.data_97_305.proofs.inside_segment.Statement.{statement}
 use Rattle.data_97_305.proofs.inside_segment.Tie as tie
-use Rattle.data_97_305.proofs.inside_segment.Reads as reads
-use Rattle.data_97_305.proofs.inside_segment.Lts as lts
-use Rattle.advice_97_313.proofs.advise.Reads as advise-reads
-use Rattle.automatic_data_97_221.proofs.automatic_data.Reads as automatic-data-reads
-use Rattle.decision.proofs.simple.Reads as simple-reads
-use Rattle.drafts.proofs.draft_inside.Reads as draft-inside-reads
-use Rattle.privileges_97_301.proofs.privileged.Reads as privileged-reads
 
--- src/lib.rt:52:9
 draft-inside-requires : tie.Need-draft-inside-requires
 draft-inside-requires c κs = search needs
 
--- src/lib.rt:53:11
 privileged-requires : tie.Need-privileged-requires
 privileged-requires c κs = search needs
 
--- src/lib.rt:55:16
 enum-told : tie.Need-enum-told
 enum-told c = search needs
 
--- src/lib.rt:56:17
 automatic-data-requires : tie.Need-automatic-data-requires
 automatic-data-requires c κs = search needs
 
--- src/lib.rt:56:17
 returns : tie.Need-returns
 unfolding insideSegment
 returns c =
     rw (← c .before .before .before .before .privileged .ensures)
     (rw (c .before .before .enum-told .given .1) (c .automatic-data .ensures ∙ sym (cond-yes _ _ (c .before .if1 .taken))))
 
--- src/lib.rt:58:13
 advise-requires : tie.Need-advise-requires
 advise-requires c κs = search needs
 
--- src/lib.rt:61:37
 enum-told-2 : tie.Need-enum-told-2
 enum-told-2 c = search needs
 
--- src/lib.rt:61:13
 simple-requires : tie.Need-simple-requires
 simple-requires c κs = search needs
 
--- src/lib.rt:64:37
 enum-told-3 : tie.Need-enum-told-3
 enum-told-3 c = search needs
 
--- src/lib.rt:64:13
 simple-requires-2 : tie.Need-simple-requires-2
 simple-requires-2 c κs = search needs
 
--- src/lib.rt:46:1
 returns-2 : tie.Need-returns-2
 unfolding insideSegment
 returns-2 c =
@@ -63,14 +46,12 @@ returns-2 c =
     (rw (c .before .before .enum-told .given .1)
     (rw (← c .before .before .before .before .before .draft-inside .ensures) (c .advise .ensures ∙ sym (cond-not _ _ (c .before .if1 .left)))))
 
--- src/lib.rt:46:1
 returns-3 : tie.Need-returns-3
 unfolding insideSegment
 returns-3 c =
     rw (← c .before .before .before .privileged .ensures)
     (rw (c .before .enum-told2 .given .1) (rw (c .simple .ensures) (rw (c .before .before .before .before .draft-inside .ensures))))
 
--- src/lib.rt:46:1
 returns-4 : tie.Need-returns-4
 unfolding insideSegment
 returns-4 c =

@@ -1,3 +1,4 @@
+-- `data_97_305::judge_data` meets its contract: on each way to a return, the tests and what the calls ensure say which case of the definition holds.
 use Prim.Native.Nat.{ℕ}
 use mathlib.Core.Path.{_≡_}
 use Rattle.layout.specs.Layout.{segments}
@@ -10,91 +11,66 @@ use Rattle.part97.specs.Laws.{judge-wide, judge-inside, judge-outside}
 use borrow.Author.Needs.{needs}
 use Rattle.data_97_305.proofs.judge_data.Statement.{statement}
 use Rattle.data_97_305.proofs.judge_data.Tie as tie
-use Rattle.data_97_305.proofs.judge_data.Reads as reads
-use Rattle.data_97_305.proofs.judge_data.Lts as lts
-use Rattle.data_97_305.proofs.inside_segment.Reads as inside-segment-reads
-use Rattle.data_97_305.proofs.outside_segments.Reads as outside-segments-reads
-use Rattle.data_97_305.proofs.too_wide.Reads as too-wide-reads
-use Rattle.find.proofs.pick_in.Reads as pick-in-reads
-use Rattle.layout.proofs.general_of.Reads as general-of-reads
-use Rattle.profile.proofs.data_limit.Reads as data-limit-reads
-use Rattle.table.proofs.data_of.Reads as data-of-reads
-use Rattle.table.proofs.segment_of.Reads as segment-of-reads
 
 -- the limit by the segment that was found
 limit :
-  (c : tie.After-data-limit) (i : ℕ)
-  → PickedAt (c .before .before .before .before .before .before .before .before .before .before .args .s .now) segments (Holds (c .before .before .before .before .before .before .before .before .before .before .args .c .guarded)) i (c .before .before .before .r .given .0 .1 .0)
-  → c .data-limit .result ≡ limitFor (c .before .before .before .before .before .before .before .before .before .before .args .s .now) (firstIn (c .before .before .before .before .before .before .before .before .before .before .args .s .now) segments (Holds (c .before .before .before .before .before .before .before .before .before .before .args .c .guarded)))
+    (c : tie.After-data-limit) (i : ℕ)
+    → PickedAt (c .before .before .before .before .before .before .before .before .before .before .args .s .now) segments (Holds (c .before .before .before .before .before .before .before .before .before .before .args .c .guarded)) i (c .before .before .before .r .given .0 .1 .0)
+    → c .data-limit .result ≡ limitFor (c .before .before .before .before .before .before .before .before .before .before .args .s .now) (firstIn (c .before .before .before .before .before .before .before .before .before .before .args .s .now) segments (Holds (c .before .before .before .before .before .before .before .before .before .before .args .c .guarded)))
 limit c i p =
     rw (c .data-limit .ensures)
     (rw (c .before .segment-of .ensures)
     (rw (p .here) (rw (p .found) (rw (c .before .before .before .before .before .before .data-of .ensures) (rw (c .before .before .before .before .before .before .before .general-of .ensures))))))
 
--- src/lib.rt:83:34
 general-of-requires : tie.Need-general-of-requires
 general-of-requires c κs = search needs
 
--- src/lib.rt:83:9
 data-of-requires : tie.Need-data-of-requires
 data-of-requires c κs = search needs
 
--- src/lib.rt:84:11
 pick-in-requires : tie.Need-pick-in-requires
 pick-in-requires c κs = search needs
 
--- src/lib.rt:85:25
 enum-known-r : tie.Need-enum-known-r
 enum-known-r c = search needs
 
--- src/lib.rt:86:17
 segment-of-requires : tie.Need-segment-of-requires
 segment-of-requires c κs = search needs
 
--- src/lib.rt:89:17
 data-limit-requires : tie.Need-data-limit-requires
 data-limit-requires c κs = search needs
 
--- src/lib.rt:91:17
 too-wide-requires : tie.Need-too-wide-requires
 too-wide-requires c κs = search needs
 
--- src/lib.rt:91:17
 returns : tie.Need-returns
 returns c =
     let p = picked _ _ _ _ _ (sym (c .before .before .before .before .before .before .before .before .before .pick-in .ensures) ∙ c .before .before .before .before .before .before .before .r .given .1) in
     c .too-wide .ensures ∙ judge-wide _ _ _ _ _ (limit (c .before .before .before .before) _ p) (c .before .if1 .taken)
 
--- src/lib.rt:93:13
 inside-segment-requires : tie.Need-inside-segment-requires
 inside-segment-requires c κs = search needs
 
--- src/lib.rt:96:16
 enum-told : tie.Need-enum-told
 enum-told c = search needs
 
--- src/lib.rt:97:17
 too-wide-requires-2 : tie.Need-too-wide-requires-2
 too-wide-requires-2 c κs = search needs
 
--- src/lib.rt:97:17
 returns-2 : tie.Need-returns-2
 returns-2 c =
     let none = missed _ _ _ (sym (c .before .before .before .before .before .before .pick-in .ensures) ∙ c .before .before .before .before .enum-told .given .1) in
     c .too-wide2 .ensures ∙ judge-wide _ _ _ _ _ (rw none (rw (c .before .before .before .before .before .before .before .data-of .ensures) (rw (c .before .before .before .before .before .before .before .before .general-of .ensures)))) (c .before .if2 .taken)
 
--- src/lib.rt:99:13
 outside-segments-requires : tie.Need-outside-segments-requires
 outside-segments-requires c κs = search needs
 
--- src/lib.rt:78:1
 returns-3 : tie.Need-returns-3
 returns-3 c =
     let p = picked _ _ _ _ _ (sym (c .before .before .before .before .before .before .before .before .before .pick-in .ensures) ∙ c .before .before .before .before .before .before .before .r .given .1) in
     c .inside-segment .ensures
     ∙ judge-inside _ _ _ _ _ (p .found) _ (rw (c .before .before .before .before .before .segment-of .ensures) (rw (p .here))) _ (limit (c .before .before .before .before) _ p) (c .before .if1 .left)
 
--- src/lib.rt:78:1
 returns-4 : tie.Need-returns-4
 returns-4 c =
     let none = missed _ _ _ (sym (c .before .before .before .before .before .before .pick-in .ensures) ∙ c .before .before .before .before .enum-told .given .1) in

@@ -1,18 +1,12 @@
-use native.Mathlib.Omega.{arith}
-use borrow.Author.Tests.{lt-ltb, lt-leb, le-ltb, le-leb, eq-eqb, ne-eqb, not-true, not-false}
+-- `decision::refused` meets its contract: on each way to a return, the tests and what the calls ensure say which case of the definition holds.
 use Rattle.decision.specs.Decision.{refusedOf}
 use borrow.Author.Needs.{needs}
 use Rattle.decision.proofs.refused.Statement.{statement}
 use Rattle.decision.proofs.refused.Tie as tie
-use Rattle.decision.proofs.refused.Reads as reads
-use Rattle.decision.proofs.refused.Lts as lts
-use Rattle.decision.proofs.no_advice.Reads as no-advice-reads
 
--- src/lib.rt:202:17
 no-advice-requires : tie.Need-no-advice-requires
 no-advice-requires c κs = search needs
 
--- src/lib.rt:187:1
 returns : tie.Need-returns
 unfolding refusedOf
 returns c =

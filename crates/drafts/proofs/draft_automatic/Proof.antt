@@ -3,10 +3,7 @@ use mathlib.Core.Path.{refl}
 use Rattle.part97.specs.Part97.{draftAutomatic}
 use Rattle.drafts.proofs.draft_automatic.Statement.{statement}
 use Rattle.drafts.proofs.draft_automatic.Tie as tie
-use Rattle.drafts.proofs.draft_automatic.Reads as reads
-use Rattle.drafts.proofs.draft_automatic.Lts as lts
 
--- src/lib.rt:45:1
 returns : tie.Need-returns
 unfolding draftAutomatic
 returns c = refl

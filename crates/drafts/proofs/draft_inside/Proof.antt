@@ -3,10 +3,7 @@ use mathlib.Core.Path.{refl}
 use Rattle.part97.specs.Part97.{draftInside}
 use Rattle.drafts.proofs.draft_inside.Statement.{statement}
 use Rattle.drafts.proofs.draft_inside.Tie as tie
-use Rattle.drafts.proofs.draft_inside.Reads as reads
-use Rattle.drafts.proofs.draft_inside.Lts as lts
 
--- src/lib.rt:29:1
 returns : tie.Need-returns
 unfolding draftInside
 returns c = refl

@@ -3,10 +3,7 @@ use mathlib.Core.Path.{refl}
 use Rattle.part97.specs.Part97.{draftOf}
 use Rattle.drafts.proofs.draft_of.Statement.{statement}
 use Rattle.drafts.proofs.draft_of.Tie as tie
-use Rattle.drafts.proofs.draft_of.Reads as reads
-use Rattle.drafts.proofs.draft_of.Lts as lts
 
--- src/lib.rt:13:1
 returns : tie.Need-returns
 unfolding draftOf
 returns c = refl

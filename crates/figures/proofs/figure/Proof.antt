@@ -1,8 +1,7 @@
 -- `figures::figure` meets its contract: a NaN's pattern is told by its two fields, and stands for the one NaN, which 0 / 0 is.
 use Prim.Native.Nat.{ℕ}
-use mathlib.Core.Bool.{Bool, true, false, not, _&&_}
+use mathlib.Core.Bool.{true}
 use mathlib.Core.Path.{_≡_, refl, sym, _∙_}
-use lib.Dec.{T}
 use lib.Ieee.{Float, nan, inf, fin, binary64, div, ofBits, isNan, nanBits}
 use lib.Ieee.Bits.{nanBits-is}
 use borrow.Author.Needs.{needs}

@@ -1,17 +1,11 @@
-use native.Mathlib.Omega.{arith}
-use borrow.Author.Tests.{lt-ltb, lt-leb, le-ltb, le-leb, eq-eqb, ne-eqb, not-true, not-false}
+-- `figures::in_size` meets its contract: on each way to a return, the tests and what the calls ensure say which case of the definition holds.
 use borrow.Author.Needs.{needs}
 use Rattle.figures.proofs.in_size.Statement.{statement}
 use Rattle.figures.proofs.in_size.Tie as tie
-use Rattle.figures.proofs.in_size.Reads as reads
-use Rattle.figures.proofs.in_size.Lts as lts
-use Rattle.figures.proofs.abs.Reads as abs-reads
 
--- src/lib.rt:66:5
 abs-requires : tie.Need-abs-requires
 abs-requires c κs = search needs
 
--- src/lib.rt:63:1
 returns : tie.Need-returns
 returns c =
     rw (c .abs .ensures)

@@ -1,170 +1,121 @@
+-- `find::answers` meets its contract: on each way to a return, the tests and what the calls ensure say which case of the definition holds.
 use Rattle.find.specs.Question.{asks}
-use native.Mathlib.Omega.{arith}
-use borrow.Author.Tests.{lt-ltb, lt-leb, le-ltb, le-leb, eq-eqb, ne-eqb, not-true, not-false}
+use borrow.Author.Tests.{eq-eqb, ne-eqb}
 use borrow.Author.Needs.{needs}
 use Rattle.find.proofs.answers.Statement.{statement}
 use Rattle.find.proofs.answers.Tie as tie
-use Rattle.find.proofs.answers.Reads as reads
-use Rattle.find.proofs.answers.Lts as lts
-use Rattle.coded.proofs.coded_record.Reads as coded-record-reads
-use Rattle.find.proofs.no_limit.Reads as no-limit-reads
-use Rattle.find.proofs.sound_record.Reads as sound-record-reads
-use Rattle.profile.proofs.Range.holds.Reads as holds-reads
-use Rattle.profile.proofs.Range.is_lengthy.Reads as is-lengthy-reads
-use Rattle.profile.proofs.Range.overlaps.Reads as overlaps-reads
-use Rattle.profile.proofs.channel_range.Reads as channel-range-reads
-use Rattle.profile.proofs.share.Reads as share-reads
-use Rattle.table.proofs.centre_of.Reads as centre-of-reads
-use Rattle.table.proofs.own_limit.Reads as own-limit-reads
-use Rattle.table.proofs.span_of.Reads as span-of-reads
 
--- src/lib.rt:63:28
 enum-known-q : tie.Need-enum-known-q
 enum-known-q c = search needs
 
--- src/lib.rt:63:35
 coded-record-requires : tie.Need-coded-record-requires
 coded-record-requires c κs = search needs
 
--- src/lib.rt:64:31
 enum-told : tie.Need-enum-told
 enum-told c = search needs
 
--- src/lib.rt:64:31
 sound-record-requires : tie.Need-sound-record-requires
 sound-record-requires c κs = search needs
 
--- src/lib.rt:65:34
 enum-told-2 : tie.Need-enum-told-2
 enum-told-2 c = search needs
 
--- src/lib.rt:65:34
 span-of-requires : tie.Need-span-of-requires
 span-of-requires c κs = search needs
 
--- src/lib.rt:65:34
 is-lengthy-requires : tie.Need-is-lengthy-requires
 is-lengthy-requires c κs = search needs
 
--- src/lib.rt:66:39
 enum-told-3 : tie.Need-enum-told-3
 enum-told-3 c = search needs
 
--- src/lib.rt:66:39
 own-limit-requires : tie.Need-own-limit-requires
 own-limit-requires c κs = search needs
 
--- src/lib.rt:66:30
 no-limit-requires : tie.Need-no-limit-requires
 no-limit-requires c κs = search needs
 
--- src/lib.rt:67:25
 enum-known-q-2 : tie.Need-enum-known-q-2
 enum-known-q-2 c = search needs
 
--- src/lib.rt:67:31
 span-of-requires-2 : tie.Need-span-of-requires-2
 span-of-requires-2 c κs = search needs
 
--- src/lib.rt:67:31
 holds-requires : tie.Need-holds-requires
 holds-requires c κs = search needs
 
--- src/lib.rt:68:28
 enum-known-q-3 : tie.Need-enum-known-q-3
 enum-known-q-3 c = search needs
 
--- src/lib.rt:68:34
 span-of-requires-3 : tie.Need-span-of-requires-3
 span-of-requires-3 c κs = search needs
 
--- src/lib.rt:68:34
 overlaps-requires : tie.Need-overlaps-requires
 overlaps-requires c κs = search needs
 
--- src/lib.rt:69:26
 enum-known-q-4 : tie.Need-enum-known-q-4
 enum-known-q-4 c = search needs
 
--- src/lib.rt:69:47
 span-of-requires-4 : tie.Need-span-of-requires-4
 span-of-requires-4 c κs = search needs
 
--- src/lib.rt:69:32
 share-requires : tie.Need-share-requires
 share-requires c κs = search needs
 
--- src/lib.rt:70:26
 enum-known-q-5 : tie.Need-enum-known-q-5
 enum-known-q-5 c = search needs
 
--- src/lib.rt:71:29
 enum-known-q-6 : tie.Need-enum-known-q-6
 enum-known-q-6 c = search needs
 
--- src/lib.rt:71:53
 span-of-requires-5 : tie.Need-span-of-requires-5
 span-of-requires-5 c κs = search needs
 
--- src/lib.rt:71:53
 holds-requires-2 : tie.Need-holds-requires-2
 holds-requires-2 c κs = search needs
 
--- src/lib.rt:72:30
 enum-known-q-7 : tie.Need-enum-known-q-7
 enum-known-q-7 c = search needs
 
--- src/lib.rt:72:55
 span-of-requires-6 : tie.Need-span-of-requires-6
 span-of-requires-6 c κs = search needs
 
--- src/lib.rt:72:55
 holds-requires-3 : tie.Need-holds-requires-3
 holds-requires-3 c κs = search needs
 
--- src/lib.rt:73:31
 enum-known-q-8 : tie.Need-enum-known-q-8
 enum-known-q-8 c = search needs
 
--- src/lib.rt:73:71
 span-of-requires-7 : tie.Need-span-of-requires-7
 span-of-requires-7 c κs = search needs
 
--- src/lib.rt:73:56
 share-requires-2 : tie.Need-share-requires-2
 share-requires-2 c κs = search needs
 
--- src/lib.rt:74:35
 enum-known-q-9 : tie.Need-enum-known-q-9
 enum-known-q-9 c = search needs
 
--- src/lib.rt:74:78
 centre-of-requires : tie.Need-centre-of-requires
 centre-of-requires c κs = search needs
 
--- src/lib.rt:74:48
 channel-range-requires : tie.Need-channel-range-requires
 channel-range-requires c κs = search needs
 
--- src/lib.rt:74:48
 overlaps-requires-2 : tie.Need-overlaps-requires-2
 overlaps-requires-2 c κs = search needs
 
--- src/lib.rt:59:1
 returns : tie.Need-returns
 unfolding asks
 returns c =
     rw (c .before .before .q .given .1)
     (rw (c .coded-record .ensures))
 
--- src/lib.rt:59:1
 returns-2 : tie.Need-returns-2
 unfolding asks
 returns-2 c =
     rw (c .before .enum-told .given .1)
     (rw (c .sound-record .ensures))
 
--- src/lib.rt:59:1
 returns-3 : tie.Need-returns-3
 unfolding asks
 returns-3 c =
@@ -172,7 +123,6 @@ returns-3 c =
     (rw (c .is-lengthy .ensures)
     (rw (c .before .span-of .ensures)))
 
--- src/lib.rt:59:1
 returns-4 : tie.Need-returns-4
 unfolding asks
 returns-4 c =
@@ -180,7 +130,6 @@ returns-4 c =
     (rw (← c .before .own-limit .ensures)
     (rw (c .no-limit .ensures)))
 
--- src/lib.rt:59:1
 returns-5 : tie.Need-returns-5
 unfolding asks
 returns-5 c =
@@ -188,7 +137,6 @@ returns-5 c =
     (rw (c .holds .ensures)
     (rw (c .before .span-of2 .ensures)))
 
--- src/lib.rt:59:1
 returns-6 : tie.Need-returns-6
 unfolding asks
 returns-6 c =
@@ -196,7 +144,6 @@ returns-6 c =
     (rw (c .overlaps .ensures)
     (rw (c .before .span-of3 .ensures)))
 
--- src/lib.rt:59:1
 returns-7 : tie.Need-returns-7
 unfolding asks
 returns-7 c =
@@ -204,13 +151,11 @@ returns-7 c =
     (rw (c .share .ensures)
     (rw (c .before .span-of4 .ensures)))
 
--- src/lib.rt:59:1
 returns-8 : tie.Need-returns-8
 unfolding asks
 returns-8 c =
     rw (c .before .before .q5 .given .1)
 
--- src/lib.rt:59:1
 returns-9 : tie.Need-returns-9
 unfolding asks
 returns-9 c =
@@ -219,14 +164,12 @@ returns-9 c =
     (rw (c .holds2 .ensures)
     (rw (c .before .span-of5 .ensures))))
 
--- src/lib.rt:59:1
 returns-10 : tie.Need-returns-10
 unfolding asks
 returns-10 c =
     rw (c .before .before .before .q6 .given .1)
     (rw (ne-eqb _ _ (c .if1 .left)))
 
--- src/lib.rt:59:1
 returns-11 : tie.Need-returns-11
 unfolding asks
 returns-11 c =
@@ -235,14 +178,12 @@ returns-11 c =
     (rw (c .holds3 .ensures)
     (rw (c .before .span-of6 .ensures))))
 
--- src/lib.rt:59:1
 returns-12 : tie.Need-returns-12
 unfolding asks
 returns-12 c =
     rw (c .before .before .before .q7 .given .1)
     (rw (ne-eqb _ _ (c .if2 .left)))
 
--- src/lib.rt:59:1
 returns-13 : tie.Need-returns-13
 unfolding asks
 returns-13 c =
@@ -251,14 +192,12 @@ returns-13 c =
     (rw (c .share2 .ensures)
     (rw (c .before .span-of7 .ensures))))
 
--- src/lib.rt:59:1
 returns-14 : tie.Need-returns-14
 unfolding asks
 returns-14 c =
     rw (c .before .before .before .q8 .given .1)
     (rw (ne-eqb _ _ (c .if3 .left)))
 
--- src/lib.rt:59:1
 returns-15 : tie.Need-returns-15
 unfolding asks
 returns-15 c =

@@ -1,15 +1,11 @@
+-- `find::find_from` meets its contract: on each way to a return, the tests and what the calls ensure say which case of the definition holds.
 use Prim.Native.Nat.{_-_}
 use borrow.Author.Needs.{needs}
 use Rattle.scan.specs.First.{Passed, passed-none, passed-step, found-here, found-none}
 use Rattle.find.specs.Question.{asksAt}
 use native.Mathlib.Omega.{arith}
-use borrow.Author.Tests.{lt-ltb, lt-leb, le-ltb, le-leb, eq-eqb, ne-eqb, not-true, not-false}
 use Rattle.find.proofs.find_from.Statement.{statement}
 use Rattle.find.proofs.find_from.Tie as tie
-use Rattle.find.proofs.find_from.Reads as reads
-use Rattle.find.proofs.find_from.Lts as lts
-use Rattle.find.proofs.answers.Reads as answers-reads
-use Rattle.layout.proofs.record_at.Reads as record-at-reads
 
 abbrev Inv-loop : tie.InvT-loop
 Inv-loop s start count q i₀ i = Passed (asksAt s start q) count i
@@ -17,47 +13,37 @@ Inv-loop s start count q i₀ i = Passed (asksAt s start q) count i
 abbrev μ-loop : tie.MeasureT-loop
 μ-loop s start count q i₀ i = count - i
 
--- src/lib.rt:84:5
 loop-holds : tie.Need-loop-holds Inv-loop μ-loop
 loop-holds c = passed-none _ _
 
--- src/lib.rt:85:49
 mul-record-at : tie.Need-mul-record-at Inv-loop μ-loop
 mul-record-at c = omega arith
 
--- src/lib.rt:85:41
 add-record-at : tie.Need-add-record-at Inv-loop μ-loop
 add-record-at c = omega arith
 
--- src/lib.rt:85:20
 record-at-requires : tie.Need-record-at-requires Inv-loop μ-loop
 record-at-requires c κs = omega arith
 
--- src/lib.rt:85:12
 answers-requires : tie.Need-answers-requires Inv-loop μ-loop
 answers-requires c κs = search needs
 
--- src/lib.rt:86:13
 returns : tie.Need-returns Inv-loop μ-loop
 returns c =
     found-here _ _ _ (c .before .before .before .loop-test .taken) (c .before .before .before .before .loop .inv)
     (rw (← c .before .before .record-at .ensures) (rw (← c .before .answers .ensures) (c .if1 .taken)))
 
--- src/lib.rt:88:9
 add-i : tie.Need-add-i Inv-loop μ-loop
 add-i c = omega arith
 
--- src/lib.rt:84:5
 loop-less : tie.Need-loop-less Inv-loop μ-loop
 loop-less c = omega arith
 
--- src/lib.rt:84:5
 loop-again : tie.Need-loop-again Inv-loop μ-loop
 loop-again c =
     passed-step _ _ _ (c .before .before .before .loop-test .taken) (c .before .before .before .before .loop .inv)
     (rw (← c .before .before .record-at .ensures) (rw (← c .before .answers .ensures) (c .if1 .left)))
 
--- src/lib.rt:79:1
 returns-2 : tie.Need-returns-2 Inv-loop μ-loop
 returns-2 c = found-none _ _ _ (c .loop-test .left) (c .before .loop .inv)
 

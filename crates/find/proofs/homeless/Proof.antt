@@ -1,3 +1,4 @@
+-- `find::homeless` meets its contract: on each way to a return, the tests and what the calls ensure say which case of the definition holds.
 use Prim.Native.Nat.{_+_, _*_, _-_, _≤_}
 use mathlib.Core.Path.{_≡_}
 use mathlib.Core.Bool.{not}
@@ -8,16 +9,8 @@ use Rattle.layout.specs.Form.{table-within}
 use Rattle.scan.specs.First.{Passed, passed-none, passed-step, some-here, some-none}
 use Rattle.find.specs.Question.{homelessAt}
 use native.Mathlib.Omega.{arith}
-use borrow.Author.Tests.{lt-ltb, lt-leb, le-ltb, le-leb, eq-eqb, ne-eqb, not-true, not-false}
 use Rattle.find.proofs.homeless.Statement.{statement}
 use Rattle.find.proofs.homeless.Tie as tie
-use Rattle.find.proofs.homeless.Reads as reads
-use Rattle.find.proofs.homeless.Lts as lts
-use Rattle.find.proofs.home_question.Reads as home-question-reads
-use Rattle.find.proofs.some_in.Reads as some-in-reads
-use Rattle.layout.proofs.count_of.Reads as count-of-reads
-use Rattle.layout.proofs.record_at.Reads as record-at-reads
-use Rattle.layout.proofs.start_of.Reads as start-of-reads
 
 abbrev Inv-loop : tie.InvT-loop
 Inv-loop s own start count i₀ i = Passed (homelessAt s own) count i
@@ -36,62 +29,48 @@ asked c =
     (rw (c .before .before .record-at .ensures)
     (rw (c .before .before .before .before .before .before .start-of .ensures))))
 
--- src/lib.rt:130:9
 start-of-requires : tie.Need-start-of-requires Inv-loop μ-loop
 start-of-requires c κs = omega (arith, c .before .pre .sized)
 
--- src/lib.rt:131:17
 count-of-requires : tie.Need-count-of-requires Inv-loop μ-loop
 count-of-requires c κs = omega (arith, c .before .before .pre .sized)
 
--- src/lib.rt:131:17
 cast-count : tie.Need-cast-count Inv-loop μ-loop
 cast-count c = omega arith
 
--- src/lib.rt:133:5
 loop-holds : tie.Need-loop-holds Inv-loop μ-loop
 loop-holds c = passed-none _ _
 
--- src/lib.rt:134:46
 mul-record-at : tie.Need-mul-record-at Inv-loop μ-loop
 mul-record-at c = omega (arith, within (c .before .before .before .before .before))
 
--- src/lib.rt:134:38
 add-record-at : tie.Need-add-record-at Inv-loop μ-loop
 add-record-at c = omega (arith, within (c .before .before .before .before .before))
 
--- src/lib.rt:134:13
 record-at-requires : tie.Need-record-at-requires Inv-loop μ-loop
 record-at-requires c κs = omega (arith, within (c .before .before .before .before .before))
 
--- src/lib.rt:135:39
 home-question-requires : tie.Need-home-question-requires Inv-loop μ-loop
 home-question-requires c κs = search needs
 
--- src/lib.rt:135:13
 some-in-requires : tie.Need-some-in-requires Inv-loop μ-loop
 some-in-requires c κs = (c .before .before .before .before .before .before .before .pre, omega arith)
 
--- src/lib.rt:136:13
 returns : tie.Need-returns Inv-loop μ-loop
 returns c =
     rw (← c .before .before .before .before .before .before .count-of .ensures)
     (some-here _ _ _ (c .before .before .before .before .loop-test .taken) (c .before .before .before .before .before .loop .inv) (rw (← asked (c .before)) (c .if1 .taken)))
 
--- src/lib.rt:138:9
 add-i : tie.Need-add-i Inv-loop μ-loop
 add-i c = omega arith
 
--- src/lib.rt:133:5
 loop-less : tie.Need-loop-less Inv-loop μ-loop
 loop-less c = omega arith
 
--- src/lib.rt:133:5
 loop-again : tie.Need-loop-again Inv-loop μ-loop
 loop-again c =
     passed-step _ _ _ (c .before .before .before .before .loop-test .taken) (c .before .before .before .before .before .loop .inv) (rw (← asked (c .before)) (c .if1 .left))
 
--- src/lib.rt:126:1
 returns-2 : tie.Need-returns-2 Inv-loop μ-loop
 returns-2 c = rw (← c .before .before .count-of .ensures) (some-none _ _ _ (c .loop-test .left) (c .before .loop .inv))
 

@@ -1,27 +1,20 @@
+-- `find::some_in` meets its contract: on each way to a return, the tests and what the calls ensure say which case of the definition holds.
 use borrow.Author.Needs.{needs}
 use Rattle.find.proofs.some_in.Statement.{statement}
 use Rattle.find.proofs.some_in.Tie as tie
-use Rattle.find.proofs.some_in.Reads as reads
-use Rattle.find.proofs.some_in.Lts as lts
-use Rattle.find.proofs.find_in.Reads as find-in-reads
 
--- src/lib.rt:108:11
 find-in-requires : tie.Need-find-in-requires
 find-in-requires c κs = search needs
 
--- src/lib.rt:109:25
 enum-told : tie.Need-enum-told
 enum-told c = search needs
 
--- src/lib.rt:110:27
 enum-told-2 : tie.Need-enum-told-2
 enum-told-2 c = search needs
 
--- src/lib.rt:104:1
 returns : tie.Need-returns
 returns c = rw (← c .before .before .find-in .ensures) (rw (c .enum-told .given .1))
 
--- src/lib.rt:104:1
 returns-2 : tie.Need-returns-2
 returns-2 c = rw (← c .before .before .find-in .ensures) (rw (c .enum-told2 .given .1))
 

@@ -1,26 +1,18 @@
+-- `find::sound_record` meets its contract: on each way to a return, the tests and what the calls ensure say which case of the definition holds.
 use Rattle.find.specs.Question.{soundRecord}
-use native.Mathlib.Omega.{arith}
-use borrow.Author.Tests.{lt-ltb, lt-leb, le-ltb, le-leb, eq-eqb, ne-eqb, not-true, not-false}
 use borrow.Author.Needs.{needs}
 use Rattle.find.proofs.sound_record.Statement.{statement}
 use Rattle.find.proofs.sound_record.Tie as tie
-use Rattle.find.proofs.sound_record.Reads as reads
-use Rattle.find.proofs.sound_record.Lts as lts
-use Rattle.find.proofs.sound_bits.Reads as sound-bits-reads
 
--- src/lib.rt:46:5
 sound-bits-requires : tie.Need-sound-bits-requires
 sound-bits-requires c κs = search needs
 
--- src/lib.rt:46:27
 sound-bits-requires-2 : tie.Need-sound-bits-requires-2
 sound-bits-requires-2 c κs = search needs
 
--- src/lib.rt:46:49
 sound-bits-requires-3 : tie.Need-sound-bits-requires-3
 sound-bits-requires-3 c κs = search needs
 
--- src/lib.rt:43:1
 returns : tie.Need-returns
 unfolding soundRecord
 returns c =
@@ -30,7 +22,6 @@ returns c =
     (rw (c .before .if2 .taken)
     (rw (c .sound-bits3 .ensures)))))
 
--- src/lib.rt:43:1
 returns-2 : tie.Need-returns-2
 unfolding soundRecord
 returns-2 c =
@@ -39,7 +30,6 @@ returns-2 c =
     (rw (← c .before .sound-bits2 .ensures)
     (rw (c .if2 .left))))
 
--- src/lib.rt:43:1
 returns-3 : tie.Need-returns-3
 unfolding soundRecord
 returns-3 c =

@@ -1,16 +1,12 @@
+-- `image::is_miscoded` meets its contract: on each way to a return, the tests and what the calls ensure say which case of the definition holds.
 use Rattle.image.specs.Check.{miscoded}
 use Prim.Native.Nat.{_-_}
 use Rattle.layout.specs.Layout.{tables}
 use Rattle.scan.specs.First.{Passed, passed-none, passed-step, some-here, some-none}
 use Rattle.image.specs.Check.{miscodedIn}
 use native.Mathlib.Omega.{arith}
-use borrow.Author.Tests.{lt-ltb, lt-leb, le-ltb, le-leb, eq-eqb, ne-eqb, not-true, not-false}
 use Rattle.image.proofs.is_miscoded.Statement.{statement}
 use Rattle.image.proofs.is_miscoded.Tie as tie
-use Rattle.image.proofs.is_miscoded.Reads as reads
-use Rattle.image.proofs.is_miscoded.Lts as lts
-use Rattle.find.proofs.some_in.Reads as some-in-reads
-use Rattle.image.proofs.coded_block.Reads as coded-block-reads
 
 abbrev Inv-loop : tie.InvT-loop
 Inv-loop s t₀ t = Passed (miscodedIn s) tables t
@@ -18,24 +14,19 @@ Inv-loop s t₀ t = Passed (miscodedIn s) tables t
 abbrev μ-loop : tie.MeasureT-loop
 μ-loop s t₀ t = tables - t
 
--- src/lib.rt:31:9
 coded-block-requires : tie.Need-coded-block-requires Inv-loop μ-loop
 coded-block-requires c κs = c .before .pre
 
--- src/lib.rt:32:9
 returns : tie.Need-returns Inv-loop μ-loop
 unfolding miscoded
 returns c = rw (← c .before .coded-block .ensures) (rw (c .if1 .taken))
 
--- src/lib.rt:35:5
 loop-holds : tie.Need-loop-holds Inv-loop μ-loop
 loop-holds c = passed-none _ _
 
--- src/lib.rt:36:12
 some-in-requires : tie.Need-some-in-requires Inv-loop μ-loop
 some-in-requires c κs = (c .before .before .before .before .before .pre, c .loop-test .taken)
 
--- src/lib.rt:37:13
 returns-2 : tie.Need-returns-2 Inv-loop μ-loop
 unfolding miscoded
 returns-2 c =
@@ -43,20 +34,16 @@ returns-2 c =
     (rw (c .before .before .before .before .if1 .left)
     (some-here _ _ _ (c .before .before .loop-test .taken) (c .before .before .before .loop .inv) (rw (← c .before .some-in .ensures) (c .if2 .taken))))
 
--- src/lib.rt:39:9
 add-t : tie.Need-add-t Inv-loop μ-loop
 add-t c = omega arith
 
--- src/lib.rt:35:5
 loop-less : tie.Need-loop-less Inv-loop μ-loop
 loop-less c = omega arith
 
--- src/lib.rt:35:5
 loop-again : tie.Need-loop-again Inv-loop μ-loop
 loop-again c =
     passed-step _ _ _ (c .before .before .loop-test .taken) (c .before .before .before .loop .inv) (rw (← c .before .some-in .ensures) (c .if2 .left))
 
--- src/lib.rt:27:1
 returns-3 : tie.Need-returns-3 Inv-loop μ-loop
 unfolding miscoded
 returns-3 c =

@@ -1,18 +1,12 @@
+-- `image::is_unlimited` meets its contract: on each way to a return, the tests and what the calls ensure say which case of the definition holds.
 use Rattle.image.specs.Check.{unlimited}
-use native.Mathlib.Omega.{arith}
-use borrow.Author.Tests.{lt-ltb, lt-leb, le-ltb, le-leb, eq-eqb, ne-eqb, not-true, not-false}
 use borrow.Author.Needs.{needs}
 use Rattle.image.proofs.is_unlimited.Statement.{statement}
 use Rattle.image.proofs.is_unlimited.Tie as tie
-use Rattle.image.proofs.is_unlimited.Reads as reads
-use Rattle.image.proofs.is_unlimited.Lts as lts
-use Rattle.figures.proofs.figure.Reads as figure-reads
 
--- src/lib.rt:80:5
 figure-requires : tie.Need-figure-requires
 figure-requires c κs = search needs
 
--- src/lib.rt:77:1
 returns : tie.Need-returns
 unfolding unlimited
 returns c =

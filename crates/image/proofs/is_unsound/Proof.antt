@@ -1,51 +1,36 @@
+-- `image::is_unsound` meets its contract: on each way to a return, the tests and what the calls ensure say which case of the definition holds.
 use Rattle.image.specs.Check.{unsound}
-use borrow.Author.Tests.{not-true, not-false}
 use borrow.Author.Needs.{needs}
 use Rattle.image.proofs.is_unsound.Statement.{statement}
 use Rattle.image.proofs.is_unsound.Tie as tie
-use Rattle.image.proofs.is_unsound.Reads as reads
-use Rattle.image.proofs.is_unsound.Lts as lts
-use Rattle.find.proofs.find_from.Reads as find-from-reads
-use Rattle.image.proofs.sound_block.Reads as sound-block-reads
-use Rattle.layout.proofs.general_of.Reads as general-of-reads
-use Rattle.layout.proofs.records_before.Reads as records-before-reads
 
--- src/lib.rt:58:21
 general-of-requires : tie.Need-general-of-requires
 general-of-requires c κs = search needs
 
--- src/lib.rt:58:9
 sound-block-requires : tie.Need-sound-block-requires
 sound-block-requires c κs = search needs
 
--- src/lib.rt:59:9
 returns : tie.Need-returns
 unfolding unsound
 returns c =
     rw (← c .before .before .general-of .ensures)
     (rw (← c .before .sound-block .ensures) (rw (c .if1 .taken)))
 
--- src/lib.rt:61:17
 records-before-requires : tie.Need-records-before-requires
 records-before-requires c κs = search needs
 
--- src/lib.rt:61:17
 cast-count : tie.Need-cast-count
 cast-count c = search needs
 
--- src/lib.rt:62:11
 find-from-requires : tie.Need-find-from-requires
 find-from-requires c κs = search needs
 
--- src/lib.rt:63:25
 enum-told : tie.Need-enum-told
 enum-told c = search needs
 
--- src/lib.rt:64:27
 enum-told-2 : tie.Need-enum-told-2
 enum-told-2 c = search needs
 
--- src/lib.rt:54:1
 returns-2 : tie.Need-returns-2
 unfolding unsound
 returns-2 c =
@@ -54,7 +39,6 @@ returns-2 c =
     (rw (c .before .before .before .before .if1 .left)
     (rw (← c .before .before .before .records-before .ensures) (rw (← c .before .before .find-from .ensures) (rw (c .enum-told .given .1))))))
 
--- src/lib.rt:54:1
 returns-3 : tie.Need-returns-3
 unfolding unsound
 returns-3 c =

@@ -1,34 +1,24 @@
+-- `image::sound_block` meets its contract: on each way to a return, the tests and what the calls ensure say which case of the definition holds.
 use Rattle.image.specs.Check.{soundBlock}
-use native.Mathlib.Omega.{arith}
-use borrow.Author.Tests.{lt-ltb, lt-leb, le-ltb, le-leb, eq-eqb, ne-eqb, not-true, not-false}
 use borrow.Author.Needs.{needs}
 use Rattle.image.proofs.sound_block.Statement.{statement}
 use Rattle.image.proofs.sound_block.Tie as tie
-use Rattle.image.proofs.sound_block.Reads as reads
-use Rattle.image.proofs.sound_block.Lts as lts
-use Rattle.find.proofs.sound_bits.Reads as sound-bits-reads
 
--- src/lib.rt:47:5
 sound-bits-requires : tie.Need-sound-bits-requires
 sound-bits-requires c κs = search needs
 
--- src/lib.rt:48:13
 sound-bits-requires-2 : tie.Need-sound-bits-requires-2
 sound-bits-requires-2 c κs = search needs
 
--- src/lib.rt:49:17
 sound-bits-requires-3 : tie.Need-sound-bits-requires-3
 sound-bits-requires-3 c κs = search needs
 
--- src/lib.rt:50:21
 sound-bits-requires-4 : tie.Need-sound-bits-requires-4
 sound-bits-requires-4 c κs = search needs
 
--- src/lib.rt:50:59
 sound-bits-requires-5 : tie.Need-sound-bits-requires-5
 sound-bits-requires-5 c κs = search needs
 
--- src/lib.rt:44:1
 returns : tie.Need-returns
 unfolding soundBlock
 returns c =
@@ -42,7 +32,6 @@ returns c =
     (rw (c .before .if4 .taken)
     (rw (c .sound-bits5 .ensures)))))))))
 
--- src/lib.rt:44:1
 returns-2 : tie.Need-returns-2
 unfolding soundBlock
 returns-2 c =
@@ -55,7 +44,6 @@ returns-2 c =
     (rw (← c .before .sound-bits4 .ensures)
     (rw (c .if4 .left))))))))
 
--- src/lib.rt:44:1
 returns-3 : tie.Need-returns-3
 unfolding soundBlock
 returns-3 c =
@@ -66,7 +54,6 @@ returns-3 c =
     (rw (← c .before .sound-bits3 .ensures)
     (rw (c .if3 .left))))))
 
--- src/lib.rt:44:1
 returns-4 : tie.Need-returns-4
 unfolding soundBlock
 returns-4 c =
@@ -75,7 +62,6 @@ returns-4 c =
     (rw (← c .before .sound-bits2 .ensures)
     (rw (c .if2 .left))))
 
--- src/lib.rt:44:1
 returns-5 : tie.Need-returns-5
 unfolding soundBlock
 returns-5 c =

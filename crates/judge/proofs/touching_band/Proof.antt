@@ -1,33 +1,26 @@
+-- `judge::touching_band` meets its contract: on each way to a return, the tests and what the calls ensure say which case of the definition holds.
 use mathlib.Core.Path.{sym, _∙_}
 use Rattle.find.specs.Question.{picked, missed}
 use Rattle.part97.specs.Part97.{touching}
 use borrow.Author.Needs.{needs}
 use Rattle.judge.proofs.touching_band.Statement.{statement}
 use Rattle.judge.proofs.touching_band.Tie as tie
-use Rattle.judge.proofs.touching_band.Reads as reads
-use Rattle.judge.proofs.touching_band.Lts as lts
-use Rattle.find.proofs.pick_in.Reads as pick-in-reads
 
--- src/lib.rt:68:11
 pick-in-requires : tie.Need-pick-in-requires
 pick-in-requires c κs = search needs
 
--- src/lib.rt:69:25
 enum-known-r : tie.Need-enum-known-r
 enum-known-r c = search needs
 
--- src/lib.rt:70:26
 enum-told : tie.Need-enum-told
 enum-told c = search needs
 
--- src/lib.rt:63:1
 returns : tie.Need-returns
 unfolding touching
 returns c =
     let p = picked _ _ _ _ _ (sym (c .before .before .before .pick-in .ensures) ∙ c .before .r .given .1) in
     rw (p .found) (rw (← p .here))
 
--- src/lib.rt:63:1
 returns-2 : tie.Need-returns-2
 unfolding touching
 returns-2 c =

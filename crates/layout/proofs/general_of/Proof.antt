@@ -1,93 +1,66 @@
+-- `layout::general_of` meets its contract: on each way to a return, the tests and what the calls ensure say which case of the definition holds.
 use Rattle.layout.specs.Layout.{generalOf}
-use native.Mathlib.Omega.{arith}
-use borrow.Author.Tests.{lt-ltb, lt-leb, le-ltb, le-leb, eq-eqb, ne-eqb, not-true, not-false}
 use borrow.Author.Needs.{needs}
 use Rattle.layout.proofs.general_of.Statement.{statement}
 use Rattle.layout.proofs.general_of.Tie as tie
-use Rattle.layout.proofs.general_of.Reads as reads
-use Rattle.layout.proofs.general_of.Lts as lts
-use Rattle.layout.proofs.byte_at.Reads as byte-at-reads
-use Rattle.layout.proofs.u16_at.Reads as u16-at-reads
-use Rattle.layout.proofs.u32_at.Reads as u32-at-reads
-use Rattle.layout.proofs.u64_at.Reads as u64-at-reads
 
--- src/lib.rt:116:21
 u64-at-requires : tie.Need-u64-at-requires
 u64-at-requires c κs = search needs
 
--- src/lib.rt:117:26
 u64-at-requires-2 : tie.Need-u64-at-requires-2
 u64-at-requires-2 c κs = search needs
 
--- src/lib.rt:118:24
 u64-at-requires-3 : tie.Need-u64-at-requires-3
 u64-at-requires-3 c κs = search needs
 
--- src/lib.rt:119:25
 u64-at-requires-4 : tie.Need-u64-at-requires-4
 u64-at-requires-4 c κs = search needs
 
--- src/lib.rt:120:28
 u64-at-requires-5 : tie.Need-u64-at-requires-5
 u64-at-requires-5 c κs = search needs
 
--- src/lib.rt:121:17
 byte-at-requires : tie.Need-byte-at-requires
 byte-at-requires c κs = search needs
 
--- src/lib.rt:122:18
 byte-at-requires-2 : tie.Need-byte-at-requires-2
 byte-at-requires-2 c κs = search needs
 
--- src/lib.rt:123:16
 byte-at-requires-3 : tie.Need-byte-at-requires-3
 byte-at-requires-3 c κs = search needs
 
--- src/lib.rt:124:23
 byte-at-requires-4 : tie.Need-byte-at-requires-4
 byte-at-requires-4 c κs = search needs
 
--- src/lib.rt:125:19
 byte-at-requires-5 : tie.Need-byte-at-requires-5
 byte-at-requires-5 c κs = search needs
 
--- src/lib.rt:126:20
 byte-at-requires-6 : tie.Need-byte-at-requires-6
 byte-at-requires-6 c κs = search needs
 
--- src/lib.rt:127:20
 u16-at-requires : tie.Need-u16-at-requires
 u16-at-requires c κs = search needs
 
--- src/lib.rt:128:25
 u16-at-requires-2 : tie.Need-u16-at-requires-2
 u16-at-requires-2 c κs = search needs
 
--- src/lib.rt:129:25
 u16-at-requires-3 : tie.Need-u16-at-requires-3
 u16-at-requires-3 c κs = search needs
 
--- src/lib.rt:130:24
 u16-at-requires-4 : tie.Need-u16-at-requires-4
 u16-at-requires-4 c κs = search needs
 
--- src/lib.rt:131:25
 u16-at-requires-5 : tie.Need-u16-at-requires-5
 u16-at-requires-5 c κs = search needs
 
--- src/lib.rt:132:26
 u16-at-requires-6 : tie.Need-u16-at-requires-6
 u16-at-requires-6 c κs = search needs
 
--- src/lib.rt:133:17
 u16-at-requires-7 : tie.Need-u16-at-requires-7
 u16-at-requires-7 c κs = search needs
 
--- src/lib.rt:134:22
 u32-at-requires : tie.Need-u32-at-requires
 u32-at-requires c κs = search needs
 
--- src/lib.rt:111:1
 returns : tie.Need-returns
 unfolding generalOf
 returns c =

@@ -1,69 +1,51 @@
-use native.Mathlib.Omega.{arith}
-use borrow.Author.Tests.{lt-ltb, lt-leb, le-ltb, le-leb, eq-eqb, ne-eqb, not-true, not-false}
+-- `layout::letters_wrong` meets its contract: on each way to a return, the tests and what the calls ensure say which case of the definition holds.
+use borrow.Author.Tests.{eq-eqb, ne-eqb}
 use borrow.Author.Needs.{needs}
 use Rattle.layout.proofs.letters_wrong.Statement.{statement}
 use Rattle.layout.proofs.letters_wrong.Tie as tie
-use Rattle.layout.proofs.letters_wrong.Reads as reads
-use Rattle.layout.proofs.letters_wrong.Lts as lts
-use Rattle.layout.proofs.byte_at.Reads as byte-at-reads
 
--- src/lib.rt:192:14
 sub-at : tie.Need-sub-at
 sub-at c = search needs
 
--- src/lib.rt:192:14
 add-at : tie.Need-add-at
 add-at c = search needs
 
--- src/lib.rt:194:19
 add-byte-at : tie.Need-add-byte-at
 add-byte-at c = search needs
 
--- src/lib.rt:194:8
 byte-at-requires : tie.Need-byte-at-requires
 byte-at-requires c κs = search needs
 
--- src/lib.rt:194:30
 array-read-if1 : tie.Need-array-read-if1
 array-read-if1 c = search needs
 
--- src/lib.rt:195:23
 add-byte-at-2 : tie.Need-add-byte-at-2
 add-byte-at-2 c = search needs
 
--- src/lib.rt:195:12
 byte-at-requires-2 : tie.Need-byte-at-requires-2
 byte-at-requires-2 c κs = search needs
 
--- src/lib.rt:195:34
 array-read-if2 : tie.Need-array-read-if2
 array-read-if2 c = search needs
 
--- src/lib.rt:196:27
 add-byte-at-3 : tie.Need-add-byte-at-3
 add-byte-at-3 c = search needs
 
--- src/lib.rt:196:16
 byte-at-requires-3 : tie.Need-byte-at-requires-3
 byte-at-requires-3 c κs = search needs
 
--- src/lib.rt:196:38
 array-read-if3 : tie.Need-array-read-if3
 array-read-if3 c = search needs
 
--- src/lib.rt:197:35
 add-byte-at-4 : tie.Need-add-byte-at-4
 add-byte-at-4 c = search needs
 
--- src/lib.rt:197:24
 byte-at-requires-4 : tie.Need-byte-at-requires-4
 byte-at-requires-4 c κs = search needs
 
--- src/lib.rt:197:46
 array-read-result : tie.Need-array-read-result
 array-read-result c = search needs
 
--- src/lib.rt:197:17
 returns : tie.Need-returns
 returns c =
     rw (← c .before .before .before .before .before .before .byte-at .ensures)
@@ -74,7 +56,6 @@ returns c =
     (rw (eq-eqb _ _ (c .before .if3 .taken))
     (rw (c .byte-at4 .ensures)))))))
 
--- src/lib.rt:188:1
 returns-2 : tie.Need-returns-2
 returns-2 c =
     rw (← c .before .before .before .before .before .byte-at .ensures)
@@ -84,7 +65,6 @@ returns-2 c =
     (rw (← c .before .byte-at3 .ensures)
     (rw (ne-eqb _ _ (c .if3 .left)))))))
 
--- src/lib.rt:188:1
 returns-3 : tie.Need-returns-3
 returns-3 c =
     rw (← c .before .before .before .byte-at .ensures)
@@ -92,7 +72,6 @@ returns-3 c =
     (rw (← c .before .byte-at2 .ensures)
     (rw (ne-eqb _ _ (c .if2 .left)))))
 
--- src/lib.rt:188:1
 returns-4 : tie.Need-returns-4
 returns-4 c =
     rw (← c .before .byte-at .ensures)

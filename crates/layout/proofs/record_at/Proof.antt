@@ -1,84 +1,60 @@
+-- `layout::record_at` meets its contract: on each way to a return, the tests and what the calls ensure say which case of the definition holds.
 use Rattle.layout.specs.Layout.{recordAt}
-use native.Mathlib.Omega.{arith}
-use borrow.Author.Tests.{lt-ltb, lt-leb, le-ltb, le-leb, eq-eqb, ne-eqb, not-true, not-false}
 use borrow.Author.Needs.{needs}
 use Rattle.layout.proofs.record_at.Statement.{statement}
 use Rattle.layout.proofs.record_at.Tie as tie
-use Rattle.layout.proofs.record_at.Reads as reads
-use Rattle.layout.proofs.record_at.Lts as lts
-use Rattle.layout.proofs.byte_at.Reads as byte-at-reads
-use Rattle.layout.proofs.u16_at.Reads as u16-at-reads
-use Rattle.layout.proofs.u64_at.Reads as u64-at-reads
 
--- src/lib.rt:99:14
 u64-at-requires : tie.Need-u64-at-requires
 u64-at-requires c κs = search needs
 
--- src/lib.rt:100:25
 add-u64-at : tie.Need-add-u64-at
 add-u64-at c = search needs
 
--- src/lib.rt:100:15
 u64-at-requires-2 : tie.Need-u64-at-requires-2
 u64-at-requires-2 c κs = search needs
 
--- src/lib.rt:101:27
 add-u64-at-2 : tie.Need-add-u64-at-2
 add-u64-at-2 c = search needs
 
--- src/lib.rt:101:17
 u64-at-requires-3 : tie.Need-u64-at-requires-3
 u64-at-requires-3 c κs = search needs
 
--- src/lib.rt:102:26
 add-byte-at : tie.Need-add-byte-at
 add-byte-at c = search needs
 
--- src/lib.rt:102:15
 byte-at-requires : tie.Need-byte-at-requires
 byte-at-requires c κs = search needs
 
--- src/lib.rt:103:27
 add-byte-at-2 : tie.Need-add-byte-at-2
 add-byte-at-2 c = search needs
 
--- src/lib.rt:103:16
 byte-at-requires-2 : tie.Need-byte-at-requires-2
 byte-at-requires-2 c κs = search needs
 
--- src/lib.rt:104:31
 add-byte-at-3 : tie.Need-add-byte-at-3
 add-byte-at-3 c = search needs
 
--- src/lib.rt:104:20
 byte-at-requires-3 : tie.Need-byte-at-requires-3
 byte-at-requires-3 c κs = search needs
 
--- src/lib.rt:105:27
 add-byte-at-4 : tie.Need-add-byte-at-4
 add-byte-at-4 c = search needs
 
--- src/lib.rt:105:16
 byte-at-requires-4 : tie.Need-byte-at-requires-4
 byte-at-requires-4 c κs = search needs
 
--- src/lib.rt:106:25
 add-u16-at : tie.Need-add-u16-at
 add-u16-at c = search needs
 
--- src/lib.rt:106:15
 u16-at-requires : tie.Need-u16-at-requires
 u16-at-requires c κs = search needs
 
--- src/lib.rt:107:32
 add-u16-at-2 : tie.Need-add-u16-at-2
 add-u16-at-2 c = search needs
 
--- src/lib.rt:107:22
 u16-at-requires-2 : tie.Need-u16-at-requires-2
 u16-at-requires-2 c κs = search needs
 
--- src/lib.rt:94:1
 returns : tie.Need-returns
 unfolding recordAt
 returns c =

@@ -1,3 +1,4 @@
+-- `overshoot_97_305::nearest_segment` meets its contract: on each way to a return, the tests and what the calls ensure say which case of the definition holds.
 use Prim.Native.Nat.{_+_, _*_, _-_, _≤_}
 use mathlib.Core.Path.{_≡_, refl}
 use lib.ListN.{length}
@@ -7,16 +8,8 @@ use Rattle.layout.specs.Form.{table-within}
 use Rattle.part97.specs.Part97.{nearestUpTo}
 use Rattle.part97.specs.Laws.{nearest-more}
 use native.Mathlib.Omega.{arith}
-use borrow.Author.Tests.{lt-ltb, lt-leb, le-ltb, le-leb, eq-eqb, ne-eqb, not-true, not-false}
 use Rattle.overshoot_97_305.proofs.nearest_segment.Statement.{statement}
 use Rattle.overshoot_97_305.proofs.nearest_segment.Tie as tie
-use Rattle.overshoot_97_305.proofs.nearest_segment.Reads as reads
-use Rattle.overshoot_97_305.proofs.nearest_segment.Lts as lts
-use Rattle.overshoot_97_305.proofs.consider.Reads as consider-reads
-use Rattle.layout.proofs.count_of.Reads as count-of-reads
-use Rattle.layout.proofs.record_at.Reads as record-at-reads
-use Rattle.layout.proofs.start_of.Reads as start-of-reads
-use Rattle.table.proofs.span_of.Reads as span-of-reads
 
 abbrev Inv-loop : tie.InvT-loop
 Inv-loop s c start count best₀ i₀ best i = (i ≤ count) × (best ≡ nearestUpTo s c i)
@@ -27,61 +20,49 @@ abbrev μ-loop : tie.MeasureT-loop
 within : (c : tie.Start Inv-loop μ-loop) → startOf (c .args .s .now) segments + recordSize * countOf (c .args .s .now) segments + trailerSize ≤ length (c .args .s .now)
 within c = table-within (c .args .s .now) (c .pre) segments (omega arith)
 
--- src/lib.rt:92:9
 start-of-requires : tie.Need-start-of-requires Inv-loop μ-loop
 start-of-requires c κs = omega (arith, c .before .pre .sized)
 
--- src/lib.rt:93:17
 count-of-requires : tie.Need-count-of-requires Inv-loop μ-loop
 count-of-requires c κs = omega (arith, c .before .before .pre .sized)
 
--- src/lib.rt:93:17
 cast-count : tie.Need-cast-count Inv-loop μ-loop
 cast-count c = omega arith
 
--- src/lib.rt:96:5
 loop-holds : tie.Need-loop-holds Inv-loop μ-loop
 unfolding nearestUpTo
 loop-holds c = (omega arith, refl)
 
--- src/lib.rt:97:67
 mul-record-at : tie.Need-mul-record-at Inv-loop μ-loop
 mul-record-at c = omega (arith, within (c .before .before .before .before .before))
 
--- src/lib.rt:97:59
 add-record-at : tie.Need-add-record-at Inv-loop μ-loop
 add-record-at c = omega (arith, within (c .before .before .before .before .before))
 
--- src/lib.rt:97:38
 record-at-requires : tie.Need-record-at-requires Inv-loop μ-loop
 record-at-requires c κs = omega (arith, within (c .before .before .before .before .before))
 
--- src/lib.rt:97:13
 span-of-requires : tie.Need-span-of-requires Inv-loop μ-loop
 span-of-requires c κs = search needs
 
--- src/lib.rt:98:9
 consider-requires : tie.Need-consider-requires Inv-loop μ-loop
 consider-requires c κs = search needs
 
--- src/lib.rt:99:9
 add-i : tie.Need-add-i Inv-loop μ-loop
 add-i c = omega arith
 
--- src/lib.rt:96:5
 loop-less : tie.Need-loop-less Inv-loop μ-loop
 loop-less c = omega arith
 
--- src/lib.rt:96:5
 loop-again : tie.Need-loop-again Inv-loop μ-loop
-loop-again c =
-    (omega arith,
-    rw nearest-more
-    (rw (← c .before .before .before .before .loop .inv .1)
-    (rw (c .consider .ensures)
-    (rw (c .before .span-of .ensures) (rw (c .before .before .record-at .ensures) (rw (c .before .before .before .before .before .before .start-of .ensures)))))))
+loop-again c = (
+  omega arith,
+  rw nearest-more
+      (rw (← c .before .before .before .before .loop .inv .1)
+      (rw (c .consider .ensures)
+      (rw (c .before .span-of .ensures) (rw (c .before .before .record-at .ensures) (rw (c .before .before .before .before .before .before .start-of .ensures)))))),
+)
 
--- src/lib.rt:88:1
 returns : tie.Need-returns Inv-loop μ-loop
 returns c =
     let e : c .before .loop .i ≡ countOf (c .before .before .before .before .before .args .s .now) segments = omega (arith, c .before .before .count-of .ensures) in

@@ -1,16 +1,11 @@
-use native.Mathlib.Omega.{arith}
-use borrow.Author.Tests.{lt-ltb, lt-leb, le-ltb, le-leb, eq-eqb, ne-eqb, not-true, not-false}
+-- `overshoot_97_305::overshoot_by` meets its contract: on each way to a return, the tests and what the calls ensure say which case of the definition holds.
 use Rattle.overshoot_97_305.proofs.overshoot_by.Statement.{statement}
 use Rattle.overshoot_97_305.proofs.overshoot_by.Tie as tie
-use Rattle.overshoot_97_305.proofs.overshoot_by.Reads as reads
-use Rattle.overshoot_97_305.proofs.overshoot_by.Lts as lts
 
--- src/lib.rt:36:1
 returns : tie.Need-returns
 returns c =
     rw (c .if1 .taken)
 
--- src/lib.rt:36:1
 returns-2 : tie.Need-returns-2
 returns-2 c =
     rw (c .if1 .left)

@@ -7,34 +7,22 @@ use Rattle.part97.specs.Part97.{privilegedOf}
 use borrow.Author.Needs.{needs}
 use Rattle.privileges_97_301.proofs.privileged.Statement.{statement}
 use Rattle.privileges_97_301.proofs.privileged.Tie as tie
-use Rattle.privileges_97_301.proofs.privileged.Reads as reads
-use Rattle.privileges_97_301.proofs.privileged.Lts as lts
-use Rattle.codes.proofs.class_code.Reads as class-code-reads
-use Rattle.find.proofs.pick_in.Reads as pick-in-reads
-use Rattle.profile.proofs.allows.Reads as allows-reads
-use Rattle.table.proofs.privilege_of.Reads as privilege-of-reads
 
--- src/lib.rt:30:9
 class-code-requires : tie.Need-class-code-requires
 class-code-requires c κs = search needs
 
--- src/lib.rt:31:11
 pick-in-requires : tie.Need-pick-in-requires
 pick-in-requires c κs = search needs
 
--- src/lib.rt:32:22
 enum-known-i : tie.Need-enum-known-i
 enum-known-i c = search needs
 
--- src/lib.rt:33:17
 privilege-of-requires : tie.Need-privilege-of-requires
 privilege-of-requires c κs = search needs
 
--- src/lib.rt:35:16
 allows-requires : tie.Need-allows-requires
 allows-requires c κs = search needs
 
--- src/lib.rt:41:26
 enum-told : tie.Need-enum-told
 enum-told c = search needs
 
@@ -42,7 +30,6 @@ enum-told c = search needs
 asked : (c : tie.After-allows) → c .allows .result ≡ allowsOf (privilegeOf (c .before .before .before .i .given .0 .1 .0) .emissions) (c .before .before .before .before .before .before .before .before .before .args .kind)
 asked c = rw (c .allows .ensures) (rw (c .before .privilege-of .ensures))
 
--- src/lib.rt:24:1
 returns : tie.Need-returns
 unfolding privilegedOf
 returns c =
@@ -53,7 +40,6 @@ returns c =
     (rw (← asked (c .before))
     (rw (c .if1 .taken)))))
 
--- src/lib.rt:24:1
 returns-2 : tie.Need-returns-2
 unfolding privilegedOf
 returns-2 c =
@@ -64,7 +50,6 @@ returns-2 c =
     (rw (← asked (c .before))
     (rw (c .if1 .left)))))
 
--- src/lib.rt:24:1
 returns-3 : tie.Need-returns-3
 unfolding privilegedOf
 returns-3 c =

@@ -3,20 +3,13 @@ use Rattle.part97.specs.Part97.{allowedOnSixty}
 use borrow.Author.Needs.{needs}
 use Rattle.sixty_97_303.proofs.allowed_on_sixty.Statement.{statement}
 use Rattle.sixty_97_303.proofs.allowed_on_sixty.Tie as tie
-use Rattle.sixty_97_303.proofs.allowed_on_sixty.Reads as reads
-use Rattle.sixty_97_303.proofs.allowed_on_sixty.Lts as lts
-use Rattle.advice_97_313.proofs.warned_if.Reads as warned-if-reads
-use Rattle.decision.proofs.finish.Reads as finish-reads
 
--- src/lib.rt:43:9
 warned-if-requires : tie.Need-warned-if-requires
 warned-if-requires c κs = search needs
 
--- src/lib.rt:41:5
 finish-requires : tie.Need-finish-requires
 finish-requires c κs = search needs
 
--- src/lib.rt:33:1
 returns : tie.Need-returns
 unfolding allowedOnSixty
 returns c =

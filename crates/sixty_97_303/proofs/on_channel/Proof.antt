@@ -2,62 +2,46 @@
 use borrow.Author.Needs.{needs}
 use Rattle.sixty_97_303.proofs.on_channel.Statement.{statement}
 use Rattle.sixty_97_303.proofs.on_channel.Tie as tie
-use Rattle.sixty_97_303.proofs.on_channel.Reads as reads
-use Rattle.sixty_97_303.proofs.on_channel.Lts as lts
-use Rattle.sixty_97_303.proofs.cw_on_channel.Reads as cw-on-channel-reads
-use Rattle.sixty_97_303.proofs.data_on_channel.Reads as data-on-channel-reads
 
--- src/lib.rt:92:31
 enum-told : tie.Need-enum-told
 enum-told c = search needs
 
--- src/lib.rt:92:31
 data-on-channel-requires : tie.Need-data-on-channel-requires
 data-on-channel-requires c κs = search needs
 
--- src/lib.rt:93:29
 enum-told-2 : tie.Need-enum-told-2
 enum-told-2 c = search needs
 
--- src/lib.rt:93:29
 cw-on-channel-requires : tie.Need-cw-on-channel-requires
 cw-on-channel-requires c κs = search needs
 
--- src/lib.rt:94:31
 enum-told-3 : tie.Need-enum-told-3
 enum-told-3 c = search needs
 
--- src/lib.rt:94:31
 data-on-channel-requires-2 : tie.Need-data-on-channel-requires-2
 data-on-channel-requires-2 c κs = search needs
 
--- src/lib.rt:95:34
 enum-told-4 : tie.Need-enum-told-4
 enum-told-4 c = search needs
 
--- src/lib.rt:95:34
 data-on-channel-requires-3 : tie.Need-data-on-channel-requires-3
 data-on-channel-requires-3 c κs = search needs
 
--- src/lib.rt:88:1
 returns : tie.Need-returns
 returns c =
     rw (c .data-on-channel .ensures)
     (rw (c .before .enum-told .given .1))
 
--- src/lib.rt:88:1
 returns-2 : tie.Need-returns-2
 returns-2 c =
     rw (c .cw-on-channel .ensures)
     (rw (c .before .enum-told2 .given .1))
 
--- src/lib.rt:88:1
 returns-3 : tie.Need-returns-3
 returns-3 c =
     rw (c .data-on-channel2 .ensures)
     (rw (c .before .enum-told3 .given .1))
 
--- src/lib.rt:88:1
 returns-4 : tie.Need-returns-4
 returns-4 c =
     rw (c .data-on-channel3 .ensures)

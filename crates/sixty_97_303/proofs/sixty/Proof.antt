@@ -3,30 +3,19 @@ use Rattle.part97.specs.Part97.{sixty}
 use borrow.Author.Needs.{needs}
 use Rattle.sixty_97_303.proofs.sixty.Statement.{statement}
 use Rattle.sixty_97_303.proofs.sixty.Tie as tie
-use Rattle.sixty_97_303.proofs.sixty.Reads as reads
-use Rattle.sixty_97_303.proofs.sixty.Lts as lts
-use Rattle.decision.proofs.simple.Reads as simple-reads
-use Rattle.drafts.proofs.draft_of.Reads as draft-of-reads
-use Rattle.privileges_97_301.proofs.some_privilege.Reads as some-privilege-reads
-use Rattle.sixty_97_303.proofs.sixty_kind.Reads as sixty-kind-reads
 
--- src/lib.rt:237:8
 some-privilege-requires : tie.Need-some-privilege-requires
 some-privilege-requires c κs = search needs
 
--- src/lib.rt:238:9
 sixty-kind-requires : tie.Need-sixty-kind-requires
 sixty-kind-requires c κs = search needs
 
--- src/lib.rt:241:13
 draft-of-requires : tie.Need-draft-of-requires
 draft-of-requires c κs = search needs
 
--- src/lib.rt:240:9
 simple-requires : tie.Need-simple-requires
 simple-requires c κs = search needs
 
--- src/lib.rt:231:1
 returns : tie.Need-returns
 unfolding sixty
 returns c =
@@ -34,7 +23,6 @@ returns c =
     (rw (← c .before .before .some-privilege .ensures)
     (rw (c .before .if1 .taken)))
 
--- src/lib.rt:231:1
 returns-2 : tie.Need-returns-2
 unfolding sixty
 returns-2 c =

@@ -3,59 +3,40 @@ use Rattle.part97.specs.Part97.{sixtyKind}
 use borrow.Author.Needs.{needs}
 use Rattle.sixty_97_303.proofs.sixty_kind.Statement.{statement}
 use Rattle.sixty_97_303.proofs.sixty_kind.Tie as tie
-use Rattle.sixty_97_303.proofs.sixty_kind.Reads as reads
-use Rattle.sixty_97_303.proofs.sixty_kind.Lts as lts
-use Rattle.decision.proofs.simple.Reads as simple-reads
-use Rattle.drafts.proofs.draft_of.Reads as draft-of-reads
-use Rattle.layout.proofs.general_of.Reads as general-of-reads
-use Rattle.sixty_97_303.proofs.sixty_emission.Reads as sixty-emission-reads
-use Rattle.table.proofs.sixty_emissions_of.Reads as sixty-emissions-of-reads
 
--- src/lib.rt:215:45
 general-of-requires : tie.Need-general-of-requires
 general-of-requires c κs = search needs
 
--- src/lib.rt:215:9
 sixty-emissions-of-requires : tie.Need-sixty-emissions-of-requires
 sixty-emissions-of-requires c κs = search needs
 
--- src/lib.rt:217:31
 enum-told : tie.Need-enum-told
 enum-told c = search needs
 
--- src/lib.rt:217:31
 sixty-emission-requires : tie.Need-sixty-emission-requires
 sixty-emission-requires c κs = search needs
 
--- src/lib.rt:218:29
 enum-told-2 : tie.Need-enum-told-2
 enum-told-2 c = search needs
 
--- src/lib.rt:218:29
 sixty-emission-requires-2 : tie.Need-sixty-emission-requires-2
 sixty-emission-requires-2 c κs = search needs
 
--- src/lib.rt:219:31
 enum-told-3 : tie.Need-enum-told-3
 enum-told-3 c = search needs
 
--- src/lib.rt:219:31
 sixty-emission-requires-3 : tie.Need-sixty-emission-requires-3
 sixty-emission-requires-3 c κs = search needs
 
--- src/lib.rt:221:33
 enum-told-4 : tie.Need-enum-told-4
 enum-told-4 c = search needs
 
--- src/lib.rt:221:13
 draft-of-requires : tie.Need-draft-of-requires
 draft-of-requires c κs = search needs
 
--- src/lib.rt:220:34
 simple-requires : tie.Need-simple-requires
 simple-requires c κs = search needs
 
--- src/lib.rt:211:1
 returns : tie.Need-returns
 unfolding sixtyKind
 returns c =
@@ -64,7 +45,6 @@ returns c =
     (rw (c .before .before .before .before .general-of .ensures)
     (rw (c .before .enum-told .given .1))))
 
--- src/lib.rt:211:1
 returns-2 : tie.Need-returns-2
 unfolding sixtyKind
 returns-2 c =
@@ -73,7 +53,6 @@ returns-2 c =
     (rw (c .before .before .before .before .general-of .ensures)
     (rw (c .before .enum-told2 .given .1))))
 
--- src/lib.rt:211:1
 returns-3 : tie.Need-returns-3
 unfolding sixtyKind
 returns-3 c =
@@ -82,7 +61,6 @@ returns-3 c =
     (rw (c .before .before .before .before .general-of .ensures)
     (rw (c .before .enum-told3 .given .1))))
 
--- src/lib.rt:211:1
 returns-4 : tie.Need-returns-4
 unfolding sixtyKind
 returns-4 c =

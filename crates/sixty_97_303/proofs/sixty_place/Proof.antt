@@ -5,65 +5,43 @@ use Rattle.part97.specs.Part97.{sixtyPlace}
 use borrow.Author.Needs.{needs}
 use Rattle.sixty_97_303.proofs.sixty_place.Statement.{statement}
 use Rattle.sixty_97_303.proofs.sixty_place.Tie as tie
-use Rattle.sixty_97_303.proofs.sixty_place.Reads as reads
-use Rattle.sixty_97_303.proofs.sixty_place.Lts as lts
-use Rattle.decision.proofs.simple.Reads as simple-reads
-use Rattle.drafts.proofs.draft_of.Reads as draft-of-reads
-use Rattle.find.proofs.pick_in.Reads as pick-in-reads
-use Rattle.sixty_97_303.proofs.sixty_channel.Reads as sixty-channel-reads
-use Rattle.sixty_97_303.proofs.sixty_segment.Reads as sixty-segment-reads
-use Rattle.table.proofs.centre_of.Reads as centre-of-reads
-use Rattle.table.proofs.segment_of.Reads as segment-of-reads
 
--- src/lib.rt:165:11
 pick-in-requires : tie.Need-pick-in-requires
 pick-in-requires c κs = search needs
 
--- src/lib.rt:170:22
 enum-known-i : tie.Need-enum-known-i
 enum-known-i c = search needs
 
--- src/lib.rt:170:58
 centre-of-requires : tie.Need-centre-of-requires
 centre-of-requires c κs = search needs
 
--- src/lib.rt:170:37
 sixty-channel-requires : tie.Need-sixty-channel-requires
 sixty-channel-requires c κs = search needs
 
--- src/lib.rt:174:13
 enum-told : tie.Need-enum-told
 enum-told c = search needs
 
--- src/lib.rt:171:32
 pick-in-requires-2 : tie.Need-pick-in-requires-2
 pick-in-requires-2 c κs = search needs
 
--- src/lib.rt:176:26
 enum-known-k : tie.Need-enum-known-k
 enum-known-k c = search needs
 
--- src/lib.rt:176:70
 segment-of-requires : tie.Need-segment-of-requires
 segment-of-requires c κs = search needs
 
--- src/lib.rt:176:41
 sixty-segment-requires : tie.Need-sixty-segment-requires
 sixty-segment-requires c κs = search needs
 
--- src/lib.rt:178:37
 enum-told-2 : tie.Need-enum-told-2
 enum-told-2 c = search needs
 
--- src/lib.rt:178:17
 draft-of-requires : tie.Need-draft-of-requires
 draft-of-requires c κs = search needs
 
--- src/lib.rt:177:30
 simple-requires : tie.Need-simple-requires
 simple-requires c κs = search needs
 
--- src/lib.rt:160:1
 returns : tie.Need-returns
 unfolding sixtyPlace
 returns c =
@@ -73,7 +51,6 @@ returns c =
     (rw (p .found)
     (rw (← p .here))))
 
--- src/lib.rt:160:1
 returns-2 : tie.Need-returns-2
 unfolding sixtyPlace
 returns-2 c =
@@ -84,7 +61,6 @@ returns-2 c =
     (rw (p .found)
     (rw (← p .here)))))
 
--- src/lib.rt:160:1
 returns-3 : tie.Need-returns-3
 unfolding sixtyPlace
 returns-3 c =

@@ -6,33 +6,19 @@ use Rattle.part97.specs.Part97.{sixtySegment, isData, generalLimit}
 use borrow.Author.Needs.{needs}
 use Rattle.sixty_97_303.proofs.sixty_segment.Statement.{statement}
 use Rattle.sixty_97_303.proofs.sixty_segment.Tie as tie
-use Rattle.sixty_97_303.proofs.sixty_segment.Reads as reads
-use Rattle.sixty_97_303.proofs.sixty_segment.Lts as lts
-use Rattle.advice_97_313.proofs.above.Reads as above-reads
-use Rattle.decision.proofs.simple.Reads as simple-reads
-use Rattle.drafts.proofs.draft_inside.Reads as draft-inside-reads
-use Rattle.layout.proofs.general_of.Reads as general-of-reads
-use Rattle.sixty_97_303.proofs.allowed_on_sixty.Reads as allowed-on-sixty-reads
-use Rattle.sixty_97_303.proofs.too_wide.Reads as too-wide-reads
-use Rattle.table.proofs.data_of.Reads as data-of-reads
 
--- src/lib.rt:145:34
 general-of-requires : tie.Need-general-of-requires
 general-of-requires c κs = search needs
 
--- src/lib.rt:145:9
 data-of-requires : tie.Need-data-of-requires
 data-of-requires c κs = search needs
 
--- src/lib.rt:146:9
 draft-inside-requires : tie.Need-draft-inside-requires
 draft-inside-requires c κs = search needs
 
--- src/lib.rt:147:8
 too-wide-requires : tie.Need-too-wide-requires
 too-wide-requires c κs = search needs
 
--- src/lib.rt:148:9
 simple-requires : tie.Need-simple-requires
 simple-requires c κs = search needs
 
@@ -40,7 +26,6 @@ simple-requires c κs = search needs
 asked : (c : tie.After-too-wide) → c .too-wide .result ≡ (isData (c .before .before .before .before .before .before .args .c .kind) && lt (generalLimit (c .before .before .before .before .before .before .args .s .now) .«max_bandwidth_hz») (c .before .before .before .before .before .before .args .c .width))
 asked c = rw (c .too-wide .ensures) (rw (c .before .before .data-of .ensures) (rw (c .before .before .before .general-of .ensures)))
 
--- src/lib.rt:148:9
 returns : tie.Need-returns
 unfolding sixtySegment
 returns c =
@@ -51,15 +36,12 @@ returns c =
     (rw (← asked (c .before .before))
     (rw (c .before .if1 .taken))))))
 
--- src/lib.rt:150:9
 above-requires : tie.Need-above-requires
 above-requires c κs = search needs
 
--- src/lib.rt:156:5
 allowed-on-sixty-requires : tie.Need-allowed-on-sixty-requires
 allowed-on-sixty-requires c κs = search needs
 
--- src/lib.rt:138:1
 returns-2 : tie.Need-returns-2
 unfolding sixtySegment
 returns-2 c =

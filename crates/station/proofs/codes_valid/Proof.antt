@@ -1,28 +1,19 @@
-use native.Mathlib.Omega.{arith}
-use borrow.Author.Tests.{lt-ltb, lt-leb, le-ltb, le-leb, eq-eqb, ne-eqb, not-true, not-false}
+-- `station::codes_valid` meets its contract: on each way to a return, the tests and what the calls ensure say which case of the definition holds.
+use borrow.Author.Tests.{lt-leb, le-leb}
 use Rattle.station.specs.Station.{codesValid}
 use borrow.Author.Needs.{needs}
 use Rattle.station.proofs.codes_valid.Statement.{statement}
 use Rattle.station.proofs.codes_valid.Tie as tie
-use Rattle.station.proofs.codes_valid.Reads as reads
-use Rattle.station.proofs.codes_valid.Lts as lts
-use Rattle.station.proofs.control_valid.Reads as control-valid-reads
-use Rattle.station.proofs.license_valid.Reads as license-valid-reads
-use Rattle.station.proofs.sideband_valid.Reads as sideband-valid-reads
 
--- src/lib.rt:65:13
 control-valid-requires : tie.Need-control-valid-requires
 control-valid-requires c κs = search needs
 
--- src/lib.rt:66:17
 license-valid-requires : tie.Need-license-valid-requires
 license-valid-requires c κs = search needs
 
--- src/lib.rt:67:21
 sideband-valid-requires : tie.Need-sideband-valid-requires
 sideband-valid-requires c κs = search needs
 
--- src/lib.rt:61:1
 returns : tie.Need-returns
 unfolding codesValid
 returns c =
@@ -36,7 +27,6 @@ returns c =
     (rw (le-leb _ _ (c .before .before .before .if5 .taken))
     (rw (le-leb _ _ (c .before .if6 .taken))))))))))
 
--- src/lib.rt:61:1
 returns-2 : tie.Need-returns-2
 unfolding codesValid
 returns-2 c =
@@ -50,7 +40,6 @@ returns-2 c =
     (rw (le-leb _ _ (c .before .before .if5 .taken))
     (rw (lt-leb _ _ (c .if6 .left))))))))))
 
--- src/lib.rt:61:1
 returns-3 : tie.Need-returns-3
 unfolding codesValid
 returns-3 c =
@@ -63,7 +52,6 @@ returns-3 c =
     (rw (c .before .before .if4 .taken)
     (rw (lt-leb _ _ (c .if5 .left)))))))))
 
--- src/lib.rt:61:1
 returns-4 : tie.Need-returns-4
 unfolding codesValid
 returns-4 c =
@@ -75,7 +63,6 @@ returns-4 c =
     (rw (← c .before .sideband-valid .ensures)
     (rw (c .if4 .left)))))))
 
--- src/lib.rt:61:1
 returns-5 : tie.Need-returns-5
 unfolding codesValid
 returns-5 c =
@@ -85,7 +72,6 @@ returns-5 c =
     (rw (← c .before .license-valid .ensures)
     (rw (c .if3 .left)))))
 
--- src/lib.rt:61:1
 returns-6 : tie.Need-returns-6
 unfolding codesValid
 returns-6 c =
@@ -93,7 +79,6 @@ returns-6 c =
     (rw (← c .before .control-valid .ensures)
     (rw (c .if2 .left)))
 
--- src/lib.rt:61:1
 returns-7 : tie.Need-returns-7
 unfolding codesValid
 returns-7 c =

@@ -1,27 +1,18 @@
-use native.Mathlib.Omega.{arith}
-use borrow.Author.Tests.{lt-ltb, lt-leb, le-ltb, le-leb, eq-eqb, ne-eqb, not-true, not-false}
+-- `station::figures_valid` meets its contract: on each way to a return, the tests and what the calls ensure say which case of the definition holds.
 use Rattle.station.specs.Station.{figuresValid}
 use borrow.Author.Needs.{needs}
 use Rattle.station.proofs.figures_valid.Statement.{statement}
 use Rattle.station.proofs.figures_valid.Tie as tie
-use Rattle.station.proofs.figures_valid.Reads as reads
-use Rattle.station.proofs.figures_valid.Lts as lts
-use Rattle.figures.proofs.in_size.Reads as in-size-reads
-use Rattle.station.proofs.figure_valid.Reads as figure-valid-reads
 
--- src/lib.rt:80:5
 in-size-requires : tie.Need-in-size-requires
 in-size-requires c κs = search needs
 
--- src/lib.rt:81:13
 figure-valid-requires : tie.Need-figure-valid-requires
 figure-valid-requires c κs = search needs
 
--- src/lib.rt:81:54
 figure-valid-requires-2 : tie.Need-figure-valid-requires-2
 figure-valid-requires-2 c κs = search needs
 
--- src/lib.rt:77:1
 returns : tie.Need-returns
 unfolding figuresValid
 returns c =
@@ -31,7 +22,6 @@ returns c =
     (rw (c .before .if2 .taken)
     (rw (c .figure-valid2 .ensures)))))
 
--- src/lib.rt:77:1
 returns-2 : tie.Need-returns-2
 unfolding figuresValid
 returns-2 c =
@@ -40,7 +30,6 @@ returns-2 c =
     (rw (← c .before .figure-valid .ensures)
     (rw (c .if2 .left))))
 
--- src/lib.rt:77:1
 returns-3 : tie.Need-returns-3
 unfolding figuresValid
 returns-3 c =

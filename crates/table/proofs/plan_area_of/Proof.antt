@@ -1,17 +1,11 @@
-use native.Mathlib.Omega.{arith}
-use borrow.Author.Tests.{lt-ltb, lt-leb, le-ltb, le-leb, eq-eqb, ne-eqb, not-true, not-false}
+-- `table::plan_area_of` meets its contract: on each way to a return, the tests and what the calls ensure say which case of the definition holds.
 use borrow.Author.Needs.{needs}
 use Rattle.table.proofs.plan_area_of.Statement.{statement}
 use Rattle.table.proofs.plan_area_of.Tie as tie
-use Rattle.table.proofs.plan_area_of.Reads as reads
-use Rattle.table.proofs.plan_area_of.Lts as lts
-use Rattle.table.proofs.span_of.Reads as span-of-reads
 
--- src/lib.rt:220:16
 span-of-requires : tie.Need-span-of-requires
 span-of-requires c κs = search needs
 
--- src/lib.rt:216:1
 returns : tie.Need-returns
 returns c =
     rw (c .span-of .ensures)

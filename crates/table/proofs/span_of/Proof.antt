@@ -1,21 +1,14 @@
-use native.Mathlib.Omega.{arith}
-use borrow.Author.Tests.{lt-ltb, lt-leb, le-ltb, le-leb, eq-eqb, ne-eqb, not-true, not-false}
+-- `table::span_of` meets its contract: on each way to a return, the tests and what the calls ensure say which case of the definition holds.
 use borrow.Author.Needs.{needs}
 use Rattle.table.proofs.span_of.Statement.{statement}
 use Rattle.table.proofs.span_of.Tie as tie
-use Rattle.table.proofs.span_of.Reads as reads
-use Rattle.table.proofs.span_of.Lts as lts
-use Rattle.figures.proofs.figure.Reads as figure-reads
 
--- src/lib.rt:119:17
 figure-requires : tie.Need-figure-requires
 figure-requires c κs = search needs
 
--- src/lib.rt:120:18
 figure-requires-2 : tie.Need-figure-requires-2
 figure-requires-2 c κs = search needs
 
--- src/lib.rt:115:1
 returns : tie.Need-returns
 returns c =
     rw (← c .before .figure .ensures)

@@ -1,30 +1,21 @@
-use native.Mathlib.Omega.{arith}
-use borrow.Author.Tests.{lt-ltb, lt-leb, le-ltb, le-leb, eq-eqb, ne-eqb, not-true, not-false}
+-- `tidy::tidy_table` meets its contract: on each way to a return, the tests and what the calls ensure say which case of the definition holds.
 use Rattle.tidy.specs.Tidy.{tidyTable}
 use borrow.Author.Needs.{needs}
 use Rattle.tidy.proofs.tidy_table.Statement.{statement}
 use Rattle.tidy.proofs.tidy_table.Tie as tie
-use Rattle.tidy.proofs.tidy_table.Reads as reads
-use Rattle.tidy.proofs.tidy_table.Lts as lts
-use Rattle.find.proofs.homeless.Reads as homeless-reads
-use Rattle.tidy.proofs.two_share.Reads as two-share-reads
 
--- src/lib.rt:52:8
 homeless-requires : tie.Need-homeless-requires
 homeless-requires c κs = search needs
 
--- src/lib.rt:53:9
 returns : tie.Need-returns
 unfolding tidyTable
 returns c =
     rw (← c .before .homeless .ensures)
     (rw (c .if1 .taken))
 
--- src/lib.rt:55:8
 two-share-requires : tie.Need-two-share-requires
 two-share-requires c κs = search needs
 
--- src/lib.rt:56:9
 returns-2 : tie.Need-returns-2
 unfolding tidyTable
 returns-2 c =
@@ -33,11 +24,9 @@ returns-2 c =
     (rw (← c .before .two-share .ensures)
     (rw (c .if2 .taken))))
 
--- src/lib.rt:58:8
 two-share-requires-2 : tie.Need-two-share-requires-2
 two-share-requires-2 c κs = search needs
 
--- src/lib.rt:59:9
 returns-3 : tie.Need-returns-3
 unfolding tidyTable
 returns-3 c =
@@ -48,11 +37,9 @@ returns-3 c =
     (rw (← c .before .two-share2 .ensures)
     (rw (c .if3 .taken))))))
 
--- src/lib.rt:61:6
 two-share-requires-3 : tie.Need-two-share-requires-3
 two-share-requires-3 c κs = search needs
 
--- src/lib.rt:48:1
 returns-4 : tie.Need-returns-4
 unfolding tidyTable
 returns-4 c =

@@ -1,3 +1,4 @@
+-- `tidy::two_share` meets its contract: on each way to a return, the tests and what the calls ensure say which case of the definition holds.
 use Prim.Native.Nat.{_+_, _*_, _-_, _≤_}
 use mathlib.Core.Path.{_≡_, ap}
 use lib.ListN.{length}
@@ -7,16 +8,8 @@ use Rattle.layout.specs.Form.{table-within}
 use Rattle.scan.specs.First.{Passed, isAt, passed-none, passed-step, some-here, some-none}
 use Rattle.tidy.specs.Tidy.{twoShare, sharesEarlier}
 use native.Mathlib.Omega.{arith}
-use borrow.Author.Tests.{lt-ltb, lt-leb, le-ltb, le-leb, eq-eqb, ne-eqb, not-true, not-false}
 use Rattle.tidy.proofs.two_share.Statement.{statement}
 use Rattle.tidy.proofs.two_share.Tie as tie
-use Rattle.tidy.proofs.two_share.Reads as reads
-use Rattle.tidy.proofs.two_share.Lts as lts
-use Rattle.find.proofs.find_from.Reads as find-from-reads
-use Rattle.layout.proofs.count_of.Reads as count-of-reads
-use Rattle.layout.proofs.record_at.Reads as record-at-reads
-use Rattle.layout.proofs.start_of.Reads as start-of-reads
-use Rattle.tidy.proofs.pair_question.Reads as pair-question-reads
 
 abbrev Inv-loop : tie.InvT-loop
 Inv-loop s t classes start count j₀ j = Passed (sharesEarlier s t classes) count j
@@ -35,47 +28,36 @@ asked c =
     (rw (c .before .before .record-at .ensures)
     (rw (c .before .before .before .before .before .before .start-of .ensures))))
 
--- src/lib.rt:33:9
 start-of-requires : tie.Need-start-of-requires Inv-loop μ-loop
 start-of-requires c κs = omega (arith, c .before .pre .0 .sized)
 
--- src/lib.rt:34:17
 count-of-requires : tie.Need-count-of-requires Inv-loop μ-loop
 count-of-requires c κs = omega (arith, c .before .before .pre .0 .sized)
 
--- src/lib.rt:34:17
 cast-count : tie.Need-cast-count Inv-loop μ-loop
 cast-count c = omega arith
 
--- src/lib.rt:36:5
 loop-holds : tie.Need-loop-holds Inv-loop μ-loop
 loop-holds c = passed-none _ _
 
--- src/lib.rt:37:46
 mul-record-at : tie.Need-mul-record-at Inv-loop μ-loop
 mul-record-at c = omega (arith, within (c .before .before .before .before .before))
 
--- src/lib.rt:37:38
 add-record-at : tie.Need-add-record-at Inv-loop μ-loop
 add-record-at c = omega (arith, within (c .before .before .before .before .before))
 
--- src/lib.rt:37:13
 record-at-requires : tie.Need-record-at-requires Inv-loop μ-loop
 record-at-requires c κs = omega (arith, within (c .before .before .before .before .before))
 
--- src/lib.rt:38:50
 pair-question-requires : tie.Need-pair-question-requires Inv-loop μ-loop
 pair-question-requires c κs = search needs
 
--- src/lib.rt:38:13
 find-from-requires : tie.Need-find-from-requires Inv-loop μ-loop
 find-from-requires c κs = omega (arith, within (c .before .before .before .before .before .before .before))
 
--- src/lib.rt:40:13
 enum-told : tie.Need-enum-told Inv-loop μ-loop
 enum-told c = search needs
 
--- src/lib.rt:40:13
 returns : tie.Need-returns Inv-loop μ-loop
 unfolding twoShare
 returns c =
@@ -85,20 +67,16 @@ returns c =
 enum-told-2 : tie.Need-enum-told-2 Inv-loop μ-loop
 enum-told-2 c = search needs
 
--- src/lib.rt:42:9
 add-j : tie.Need-add-j Inv-loop μ-loop
 add-j c = omega arith
 
--- src/lib.rt:36:5
 loop-less : tie.Need-loop-less Inv-loop μ-loop
 loop-less c = omega arith
 
--- src/lib.rt:36:5
 loop-again : tie.Need-loop-again Inv-loop μ-loop
 loop-again c =
     passed-step _ _ _ (c .before .before .before .before .before .loop-test .taken) (c .before .before .before .before .before .before .loop .inv) (rw (← asked (c .before .before)) (ap isAt (c .enum-told2 .given .1)))
 
--- src/lib.rt:29:1
 returns-2 : tie.Need-returns-2 Inv-loop μ-loop
 unfolding twoShare
 returns-2 c = rw (← c .before .before .count-of .ensures) (some-none _ _ _ (c .loop-test .left) (c .before .loop .inv))

@@ -1,3 +1,4 @@
+-- `verdict::evaluate_refusals` meets its contract: on each way to a return, the tests and what the calls ensure say which case of the definition holds.
 use mathlib.Core.Path.{_≡_, sym, _∙_}
 use Rattle.codes.specs.Refusal.{refusalOf, refusal-next, refusal-stays}
 use Rattle.entry.specs.Entry.{entryTests, entryOf}
@@ -5,46 +6,34 @@ use Rattle.verdict.specs.Verdict.{besideValid, edgeTests}
 use borrow.Author.Needs.{needs}
 use Rattle.verdict.proofs.evaluate_refusals.Statement.{statement}
 use Rattle.verdict.proofs.evaluate_refusals.Tie as tie
-use Rattle.verdict.proofs.evaluate_refusals.Reads as reads
-use Rattle.verdict.proofs.evaluate_refusals.Lts as lts
-use Rattle.entry.proofs.admit.Reads as admit-reads
-use Rattle.entry.proofs.edges_valid.Reads as edges-valid-reads
-use Rattle.verdict.proofs.beside_valid.Reads as beside-valid-reads
 
 -- what the front of the call said
 said :
-  (c : tie.After-admit)
-  → refusalOf (entryTests (c .before .before .before .args .r) (besideValid (c .before .before .before .args .kind) (c .before .before .before .args .direction)) (c .before .before .before .args .image .now)) ≡ c .admit .result
+    (c : tie.After-admit)
+    → refusalOf (entryTests (c .before .before .before .args .r) (besideValid (c .before .before .before .args .kind) (c .before .before .before .args .direction)) (c .before .before .before .args .image .now)) ≡ c .admit .result
 unfolding entryOf
 said c = sym (rw (c .admit .ensures) (rw (c .before .beside-valid .ensures)))
 
--- src/lib.rt:141:27
 beside-valid-requires : tie.Need-beside-valid-requires
 beside-valid-requires c κs = search needs
 
--- src/lib.rt:141:11
 admit-requires : tie.Need-admit-requires
 admit-requires c κs = search needs
 
--- src/lib.rt:142:26
 enum-known-n : tie.Need-enum-known-n
 enum-known-n c = search needs
 
--- src/lib.rt:144:16
 enum-told : tie.Need-enum-told
 enum-told c = search needs
 
--- src/lib.rt:144:16
 edges-valid-requires : tie.Need-edges-valid-requires
 edges-valid-requires c κs = search needs
 
--- src/lib.rt:138:1
 returns : tie.Need-returns
 returns c =
     let a = c .before .before .before .before .before .before .args in
     sym (refusal-stays (entryTests (a .r) (besideValid (a .kind) (a .direction)) (a .image .now)) (edgeTests (a .e)) _ (said (c .before .before .before) ∙ c .before .n .given .1))
 
--- src/lib.rt:138:1
 returns-2 : tie.Need-returns-2
 returns-2 c =
     let a = c .before .before .before .before .before .before .before .args in
@@ -52,7 +41,6 @@ returns-2 c =
     (refusal-next (entryTests (a .r) (besideValid (a .kind) (a .direction)) (a .image .now)) (edgeTests (a .e)) (said (c .before .before .before .before) ∙ c .before .before .enum-told .given .1)
     ∙ rw (← c .before .edges-valid .ensures) (rw (c .if1 .taken)))
 
--- src/lib.rt:138:1
 returns-3 : tie.Need-returns-3
 returns-3 c =
     let a = c .before .before .before .before .before .before .before .args in

@@ -1,3 +1,4 @@
+-- `verdict::ruled` meets its contract: on each way to a return, the tests and what the calls ensure say which case of the definition holds.
 use mathlib.Core.Bool.{true}
 use mathlib.Core.Path.{_≡_, _∙_}
 use lib.Dec.{eqb}
@@ -7,113 +8,85 @@ use Rattle.verdict.specs.Laws.{ruled-region, ruled-control, ruled-licens
 use borrow.Author.Needs.{needs}
 use Rattle.verdict.proofs.ruled.Statement.{statement}
 use Rattle.verdict.proofs.ruled.Tie as tie
-use Rattle.verdict.proofs.ruled.Reads as reads
-use Rattle.verdict.proofs.ruled.Lts as lts
-use Rattle.decision.proofs.simple.Reads as simple-reads
-use Rattle.judge.proofs.judge_case.Reads as judge-case-reads
-use Rattle.layout.proofs.general_of.Reads as general-of-reads
-use Rattle.verdict.proofs.case_of.Reads as case-of-reads
 
 -- the station's region is the table's
 here : (c : tie.Else1) → eqb (c .before .before .before .before .before .args .s .«itu_region») (generalOf (c .before .before .before .before .before .args .image .now) .region) ≡ true
 here c = rw (← c .before .before .before .general-of .ensures) (eq-eqb _ _ (c .if1 .left))
 
--- src/lib.rt:72:9
 general-of-requires : tie.Need-general-of-requires
 general-of-requires c κs = search needs
 
--- src/lib.rt:74:9
 simple-requires : tie.Need-simple-requires
 simple-requires c κs = search needs
 
--- src/lib.rt:74:9
 returns : tie.Need-returns
 returns c =
     c .simple .ensures
     ∙ ruled-region _ _ _ _ _ _ _ (rw (← c .before .before .before .before .general-of .ensures) (ne-eqb _ _ (c .before .if1 .taken)))
 
--- src/lib.rt:79:28
 enum-known-control-set : tie.Need-enum-known-control-set
 enum-known-control-set c = search needs
 
--- src/lib.rt:80:41
 enum-told : tie.Need-enum-told
 enum-told c = search needs
 
--- src/lib.rt:80:9
 simple-requires-2 : tie.Need-simple-requires-2
 simple-requires-2 c κs = search needs
 
--- src/lib.rt:80:9
 returns-2 : tie.Need-returns-2
 returns-2 c =
     c .simple2 .ensures ∙ ruled-control _ _ _ _ _ _ _ (here (c .before .before .before)) (c .before .enum-told .given .1)
 
--- src/lib.rt:82:28
 enum-known-license-set : tie.Need-enum-known-license-set
 enum-known-license-set c = search needs
 
--- src/lib.rt:83:41
 enum-told-2 : tie.Need-enum-told-2
 enum-told-2 c = search needs
 
--- src/lib.rt:83:9
 simple-requires-3 : tie.Need-simple-requires-3
 simple-requires-3 c κs = search needs
 
--- src/lib.rt:83:9
 returns-3 : tie.Need-returns-3
 returns-3 c =
     c .simple3 .ensures
     ∙ ruled-license _ _ _ _ _ _ _ (here (c .before .before .before .before .before .before)) _ (c .before .before .before .before .control-set .given .1) (c .before .enum-told2 .given .1)
 
--- src/lib.rt:85:33
 enum-known-sideband-set : tie.Need-enum-known-sideband-set
 enum-known-sideband-set c = search needs
 
--- src/lib.rt:86:41
 enum-told-3 : tie.Need-enum-told-3
 enum-told-3 c = search needs
 
--- src/lib.rt:86:9
 simple-requires-4 : tie.Need-simple-requires-4
 simple-requires-4 c κs = search needs
 
--- src/lib.rt:86:9
 returns-4 : tie.Need-returns-4
 returns-4 c =
     c .simple4 .ensures
     ∙ ruled-sideband _ _ _ _ _ _ _ (here (c .before .before .before .before .before .before .before .before .before)) _ (c .before .before .before .before .before .before .before .control-set .given .1) _ (c .before .before .before .before .license-set .given .1)
     (c .before .enum-told3 .given .1)
 
--- src/lib.rt:88:23
 enum-known-dial : tie.Need-enum-known-dial
 enum-known-dial c = search needs
 
--- src/lib.rt:89:41
 enum-told-4 : tie.Need-enum-told-4
 enum-told-4 c = search needs
 
--- src/lib.rt:89:9
 simple-requires-5 : tie.Need-simple-requires-5
 simple-requires-5 c κs = search needs
 
--- src/lib.rt:89:9
 returns-5 : tie.Need-returns-5
 returns-5 c =
     c .simple5 .ensures
     ∙ ruled-dial _ _ _ _ _ _ _ (here (c .before .before .before .before .before .before .before .before .before .before .before .before)) _ (c .before .before .before .before .before .before .before .before .before .before .control-set .given .1) _ (c .before .before .before .before .before .before .before .license-set .given .1) _
     (c .before .before .before .before .sideband-set .given .1) (c .before .enum-told4 .given .1)
 
--- src/lib.rt:91:9
 case-of-requires : tie.Need-case-of-requires
 case-of-requires c κs = search needs
 
--- src/lib.rt:92:5
 judge-case-requires : tie.Need-judge-case-requires
 judge-case-requires c κs = c .before .before .before .before .before .before .before .before .before .before .before .before .before .before .before .before .before .before .pre
 
--- src/lib.rt:68:1
 returns-6 : tie.Need-returns-6
 returns-6 c =
     rw (c .judge-case .ensures)

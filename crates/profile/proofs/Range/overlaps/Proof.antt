@@ -1,16 +1,11 @@
-use native.Mathlib.Omega.{arith}
-use borrow.Author.Tests.{lt-ltb, lt-leb, le-ltb, le-leb, eq-eqb, ne-eqb, not-true, not-false}
+-- `profile::Range::overlaps` meets its contract: on each way to a return, the tests and what the calls ensure say which case of the definition holds.
 use Rattle.profile.proofs.Range.overlaps.Statement.{statement}
 use Rattle.profile.proofs.Range.overlaps.Tie as tie
-use Rattle.profile.proofs.Range.overlaps.Reads as reads
-use Rattle.profile.proofs.Range.overlaps.Lts as lts
 
--- src/lib.rt:54:5
 returns : tie.Need-returns
 returns c =
     rw (c .before .before .if1 .taken)
 
--- src/lib.rt:54:5
 returns-2 : tie.Need-returns-2
 returns-2 c =
     rw (c .if1 .left)
