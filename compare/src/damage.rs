@@ -104,7 +104,7 @@ fn spoil_table(rng: &mut Rng, w: &World, t: &mut Table) {
     let a_record = |rng: &mut Rng, t: &Table, table: usize| {
         (!t.tables[table].is_empty()).then(|| rng.below(t.tables[table].len()))
     };
-    match rng.below(14) {
+    match rng.below(16) {
         // 7 to 10
         n @ 0..=3 => {
             let table = [BANDS, SEGMENTS, AUTOMATIC, PRIVILEGES][n];
@@ -189,10 +189,21 @@ fn spoil_table(rng: &mut Rng, w: &World, t: &mut Table) {
             }
         }
         // 5: a record in a table that may belong to an absent part
-        _ => {
+        13 => {
             let table = rng.pick(&[CHANNELS, PLAN_DATA, PLAN_AVOID]);
             t.tables[table].push(Record { low: 1.0, ..Record::default() });
         }
+        // 5: a field of the general block, which may belong to an absent part
+        _ => match rng.below(10) {
+            0 => t.reading = rng.below(5) as u8,
+            1 => t.channel_band ^= 1 << rng.below(8),
+            2 => t.sideband = rng.below(4) as u8,
+            3 => t.emissions ^= 1 << rng.below(5),
+            4 => t.region ^= 1 << rng.below(8),
+            5 => t.elsewhere_limit = 1.0,
+            6 => t.offset = 1.0,
+            _ => t.rules[rng.below(6)] ^= 1 << rng.below(16),
+        },
     }
 }
 
@@ -262,11 +273,16 @@ fn spoil_bytes(rng: &mut Rng, image: &mut Vec<u8>) {
             }
         }
         7 => {
-            // eight counts of 256 more: 32 times the sum is 65,536 more, nought in 16 bits
-            for t in 0..8 {
-                let at = end + 2 * t;
-                let to = u16_at(image, at).wrapping_add(256);
-                image[at..at + 2].copy_from_slice(&to.to_le_bytes());
+            // counts of 2,048 more in all: 32 times that is 65,536, nought in 16 bits
+            let sum: u16 = (0..9).map(|t| u16_at(image, end + 2 * t) & 0x1ff).sum();
+            let first = rng.below(9);
+            for t in 0..9 {
+                let count: u16 = if t == first { sum.min(256) } else { 256 };
+                image[end + 2 * t..end + 2 * t + 2].copy_from_slice(&count.to_le_bytes());
+            }
+            if rng.chance(50) {
+                let far = end as u32 + 65_536;
+                image[end + 18..end + 22].copy_from_slice(&far.to_le_bytes());
             }
         }
         8 => {

@@ -253,6 +253,9 @@ fn readings(run: &mut Run) {
     let mut a = asked(run, t, 4, 0, 0.0, (0.0, 5.0));
     a.gives("3: byte 44 = 1, upper: blocked 24", 88.0, 2, 24);
     a.lists("3: lists 88–88", &[(20.0, 75.0), (88.0, 88.0)]);
+    let mut a = asked(run, sixty(), 4, 0, 0.0, (0.0, 5.0));
+    a.gives("3: the verdict allows the tolerance", 87.0, 0, 24);
+    a.lists("3: a channel row is one dial", &[(20.0, 75.0), (88.0, 88.0)]);
     // 4
     let mut t = sixty();
     t.tables[CHANNELS].push(centre(500.0));
@@ -264,10 +267,35 @@ fn readings(run: &mut Run) {
     t.data_limit = 1.0;
     let mut a = asked(run, t, 4, 0, 0.0, (0.0, 5.0));
     a.gives("5: general limit 1, dial 88, 0–5 is legal 24", 88.0, 0, 24);
+    let mut t = sixty();
+    (t.tables[SEGMENTS][0].flags, t.tables[SEGMENTS][0].figure) = (1, 3.0);
+    let mut a = asked(run, t, 4, 0, 0.0, (0.0, 5.0));
+    a.gives("5: the 60 m segment tests the general limit", 30.0, 0, 25);
+    a.lists("5: the list the segment's own", &[(88.0, 88.0)]);
     // 6
     let mut a = asked(run, sixty(), 4, 0, 0.0, (-10.0, 10.0));
     a.kind = 1;
     a.gives("6: CW, dial 90, −10–10 is legal 24", 90.0, 0, 24);
+    a.kind = 2;
+    a.gives("6: a test emission is judged as data is", 90.0, 2, 24);
+    // 7, and 10: rule 6 is answered for every class
+    let mut t = small();
+    let first = Record { class: 4, flags: 1, emissions: 2, ..span(0.0, 100.0) };
+    t.tables[PRIVILEGES].insert(0, first);
+    let mut a = asked(run, t, 4, 0, 0.0, (0.0, 5.0));
+    let d = a.gives("7: the verdict goes by the first holding privilege", 30.0, 2, 15);
+    if d.rule != 6 {
+        wrong("10: §97.307(f)(9) is answered for every class", &d.text());
+    }
+    a.lists("7: the list by any that allows data", &[(20.0, 75.0)]);
+    let mut t = small();
+    t.tables[SEGMENTS][0].band = 2;
+    t.tables[AUTOMATIC].push(span(0.0, 100.0));
+    t.tables[EXCLUDED].push(Record { band: 2, rule: 20, ..Record::default() });
+    let mut a = asked(run, t, 4, 0, 0.0, (0.0, 5.0));
+    a.s.control = 2;
+    a.gives("7: exclusion goes by the band's number in the verdict", 30.0, 0, 17);
+    a.lists("7: by the segment's in the list", &[]);
     // 8
     let mut t = small();
     t.tables[PRIVILEGES][0].high = 20.0;
