@@ -1,0 +1,151 @@
+-- The ceiling: rungs are climbed from the slowest on, each judged as data with its control frame and every slower one, up to the
+-- first that is blocked. A climb is a fold of a one-rung step on a record by value.
+use Prim.Native.Nat.{ℕ, zero, suc, _+_, _*_, _/_, _%_}
+use mathlib.Core.Bool.{Bool, true, false, not, cond, _||_}
+use mathlib.Core.List.{List, [], _∷_, _++_}
+use lib.Dec.{eqb, ltb}
+use lib.ListN.{length, getD}
+use lib.Ieee.{Float, nan}
+use Rattle.figures.specs.Figure.{limit40, inSize}
+use Rattle.codes.specs.Read.{directionValid, directionOf}
+use Rattle.codes.specs.Refusal.{Test, test, refusalOf}
+use Rattle.codes.specs.declared.Checked.{Checked}
+use Rattle.codes.specs.declared.Checked.the-variants.{Accepted, Refused}
+use Rattle.codes.specs.declared.EmissionKind.the-variants.{Data}
+use Rattle.codes.specs.declared.Direction.{Direction}
+use Rattle.profile.specs.Range.{range}
+use Rattle.occupancy.specs.Edges.{unionOf}
+use Rattle.occupancy.specs.declared.Edges.{Edges}
+use Rattle.scan.specs.First.{some}
+use Rattle.station.specs.Station.{situationOf}
+use Rattle.station.specs.declared.StationRecord.{StationRecord}
+use Rattle.station.specs.declared.Situation.{Situation}
+use Rattle.layout.specs.Bytes.{byteAt}
+use Rattle.entry.specs.Entry.{entryTests, edgesValid, edgesRead}
+use Rattle.decision.specs.Decision.{refusedOf}
+use Rattle.decision.specs.declared.Verdict.{Verdict}
+use Rattle.decision.specs.declared.Verdict.the-variants.{Legal, Warning, Blocked}
+use Rattle.decision.specs.declared.Decision.{Decision}
+use Rattle.verdict.specs.Verdict.{decideOf}
+use Rattle.ceiling.specs.declared.Rung.{Rung}
+use Rattle.ceiling.specs.declared.Rung.the-variants.{Fastest, NoRung}
+use Rattle.ceiling.specs.declared.Envelope.{Envelope}
+use Rattle.ceiling.specs.declared.Envelope.the-variants.{Reached, Unreached}
+use Rattle.ceiling.specs.declared.Climb.{Climb}
+use Rattle.ceiling.specs.declared.CeilingAnswer.{CeilingAnswer}
+
+-- a figure of the rungs
+abbrev pub figureAt : List Float → ℕ → Float
+figureAt l i = getD l i nan
+
+-- "Rungs are a lent run of f64, four figures a rung (power, spectral)": the edges of rung k, as they are read
+unfoldable pub rungOf : List Float → ℕ → Edges
+rungOf l k =
+    edgesRead
+    (record {
+      power = range (figureAt l (4 * k)) (figureAt l (4 * k + 1));
+      spectral = range (figureAt l (4 * k + 2)) (figureAt l (4 * k + 3));
+    })
+
+-- "with a floor byte each (1 joins the floor control edges, 0 the ordinary ones)"
+abbrev pub controlOf : Edges → Edges → ℕ → Edges
+controlOf ordinary floor mark = cond (eqb mark 1) floor ordinary
+
+-- rung k with its control frame
+unfoldable pub burstOf : Edges → Edges → List Float → List ℕ → ℕ → Edges
+burstOf ordinary floor rungs floors k = unionOf (rungOf rungs k) (controlOf ordinary floor (byteAt floors k))
+
+-- "The envelope gathers rung and control edges."
+abbrev pub joinedOf : Envelope → Edges → Edges
+joinedOf (Reached e) more = unionOf e more
+joinedOf Unreached more = more
+
+abbrev pub isBlocked : Verdict → Bool
+isBlocked Legal = false
+isBlocked Warning = false
+isBlocked Blocked = true
+
+-- an absent decision: that of refusal 0, which no input meets
+abbrev pub noDecision : Decision
+noDecision = refusedOf 0
+
+-- below the first rung
+unfoldable pub startOf : Climb
+startOf = record { envelope = Unreached; rung = NoRung; limited = false; limit = noDecision }
+
+-- a climb that rung k ends, and one that goes on from it
+unfoldable pub endedOf : Rung → Edges → Decision → Climb
+endedOf rung e d = record { envelope = Reached e; rung = rung; limited = true; limit = d }
+
+unfoldable pub wentOn : ℕ → Edges → Climb
+wentOn k e = record { envelope = Reached e; rung = Fastest k; limited = false; limit = noDecision }
+
+-- a climb after the decision on rung k's envelope
+unfoldable pub judgedOf : Climb → ℕ → Edges → Decision → Climb
+judgedOf c k e d = cond (isBlocked (d .verdict)) (endedOf (c .rung) e d) (wentOn k e)
+
+-- how an envelope is judged: as data, by the verdict's own definition
+unfoldable pub judgeBy : List ℕ → Situation → Direction → Edges → Decision
+judgeBy table s direction e = decideOf table s (s .policy) (s .dial) Data direction e
+
+-- rung k judged, with what it adds to the envelope
+unfoldable pub rungJudged : (Edges → Decision) → Climb → ℕ → Edges → Climb
+rungJudged judge c k more = judgedOf c k (joinedOf (c .envelope) more) (judge (joinedOf (c .envelope) more))
+
+-- one rung more; a climb that is over stays as it is
+unfoldable pub stepOf : (Edges → Decision) → Climb → ℕ → Edges → Climb
+stepOf judge c k more = cond (c .limited) c (rungJudged judge c k more)
+
+-- the climb over the first n rungs
+unfoldable pub climbed : (Edges → Decision) → (ℕ → Edges) → ℕ → Climb
+climbed judge burst zero = startOf
+climbed judge burst (suc n) = stepOf judge (climbed judge burst n) n (burst n)
+
+-- "15 an edge not finite or above 2^40 in size": every figure of the rungs, also past the last whole four, and both control frames
+abbrev pub unsizedAt : List Float → ℕ → Bool
+unsizedAt rungs i = not (inSize limit40 (figureAt rungs i))
+
+abbrev pub anyUnsized : List Float → Bool
+anyUnsized rungs = some (unsizedAt rungs) (length rungs)
+
+unfoldable pub badEdges : Edges → Edges → List Float → Bool
+badEdges ordinary floor rungs = anyUnsized rungs || (not (edgesValid ordinary) || not (edgesValid floor))
+
+-- "16 rungs not in fours, over 256, or floor bytes not one each of 0 or 1"
+abbrev pub unmarkedAt : List ℕ → ℕ → Bool
+unmarkedAt floors i = ltb 1 (byteAt floors i)
+
+abbrev pub anyUnmarked : List ℕ → Bool
+anyUnmarked floors = some (unmarkedAt floors) (length floors)
+
+unfoldable pub badRungs : List Float → List ℕ → Bool
+badRungs rungs floors =
+    not (eqb (length rungs % 4) 0) || (ltb 256 (length rungs / 4) || (not (eqb (length floors) (length rungs / 4)) || anyUnmarked floors))
+
+-- "Order: 20, 21, 22, 1 to 14, 15, 16 …"
+abbrev pub rungTests : Edges → Edges → List Float → List ℕ → List Test
+rungTests ordinary floor rungs floors = test 15 (badEdges ordinary floor rungs) ∷ test 16 (badRungs rungs floors) ∷ []
+
+abbrev pub ceilingTests : StationRecord → ℕ → Edges → Edges → List ℕ → List Float → List ℕ → List Test
+ceilingTests r direction ordinary floor l rungs floors = entryTests r (directionValid direction) l ++ rungTests ordinary floor rungs floors
+
+-- the answer of a climb, or the refusal: "its number, … all else absent"
+abbrev pub unlessRefused : Checked → Climb → CeilingAnswer
+unlessRefused Accepted c = record { refusal = Accepted; rung = c .rung; limited = c .limited; limit = c .limit }
+unlessRefused (Refused n) c = record { refusal = Refused n; rung = NoRung; limited = false; limit = noDecision }
+
+-- `ceiling`: "No rungs: rung and limit are both absent under every policy."
+unfoldable pub ceilingOf : StationRecord → ℕ → Edges → Edges → List ℕ → List Float → List ℕ → CeilingAnswer
+ceilingOf r direction ordinary floor l rungs floors =
+    unlessRefused (refusalOf (ceilingTests r direction ordinary floor l rungs floors))
+    (climbed (judgeBy l (situationOf r) (directionOf direction)) (burstOf (edgesRead ordinary) (edgesRead floor) rungs floors)
+    (length rungs / 4))
+
+-- "rung or none": the number of the case, ours (0 none, 1 a rung), and the rung, 0 where there is none
+abbrev pub rungNumber : Rung → ℕ
+rungNumber (Fastest k) = 1
+rungNumber NoRung = 0
+
+abbrev pub rungIndex : Rung → ℕ
+rungIndex (Fastest k) = k
+rungIndex NoRung = 0

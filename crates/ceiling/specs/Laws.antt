@@ -1,0 +1,90 @@
+-- The climb by its laws, for the loop that makes it.
+use Prim.Native.Nat.{ℕ, zero, suc, _+_, _/_, _%_, _<_, _≤_, _-_}
+use mathlib.Core.Bool.{Bool, true, false, not, cond, _||_, true≢false}
+use mathlib.Core.List.{List}
+use mathlib.Core.Path.{_≡_, refl, sym, ap, _∙_}
+use native.Mathlib.Omega.{arith}
+use borrow.Author.Tests.{eqb-true}
+use lib.Dec.{eqb, ltb}
+use lib.ListN.{length}
+use lib.Ieee.{Float}
+use Rattle.codes.specs.Read.{directionValid}
+use Rattle.codes.specs.Refusal.{refusalOf, refusal-both, none-fails}
+use Rattle.codes.specs.declared.Checked.the-variants.{Accepted}
+use Rattle.station.specs.declared.StationRecord.{StationRecord}
+use Rattle.entry.specs.Entry.{entryTests}
+use Rattle.occupancy.specs.declared.Edges.{Edges}
+use Rattle.scan.specs.First.{cond-yes, cond-not}
+use Rattle.decision.specs.declared.Decision.{Decision}
+use Rattle.ceiling.specs.Ceiling.{startOf, rungJudged, stepOf, climbed, anyUnmarked, badRungs, rungTests, ceilingTests}
+use Rattle.ceiling.specs.declared.Climb.{Climb}
+
+-- What a loop over n rungs knows at rung i: c is the climb so far, and it goes on.
+pub record Climbing (judge : Edges → Decision) (burst : ℕ → Edges) (n i : ℕ) (c : Climb) : Type 0 where
+  pub within : i ≤ n
+  pub is : c ≡ climbed judge burst i
+  pub free : c .limited ≡ false
+
+module _ (judge : Edges → Decision) (burst : ℕ → Edges) where
+  one-more : (i : ℕ) → climbed judge burst (i + 1) ≡ stepOf judge (climbed judge burst i) i (burst i)
+  unfolding climbed
+  one-more i = let e : i + 1 ≡ suc i = omega arith in rw e
+
+  step-free : (c : Climb) (k : ℕ) (more : Edges) → c .limited ≡ false → stepOf judge c k more ≡ rungJudged judge c k more
+  unfolding stepOf
+  step-free c k more e = cond-not c (rungJudged judge c k more) e
+
+  step-over : (c : Climb) (k : ℕ) (more : Edges) → c .limited ≡ true → stepOf judge c k more ≡ c
+  unfolding stepOf
+  step-over c k more e = cond-yes c (rungJudged judge c k more) e
+
+  -- A climb that is over stays as it is.
+  stays : (d k : ℕ) → climbed judge burst k .limited ≡ true → climbed judge burst (d + k) ≡ climbed judge burst k
+  stays zero k h = let e : zero + k ≡ k = omega arith in ap (climbed judge burst) e
+  stays (suc d) k h =
+      let e : suc d + k ≡ d + k + 1 = omega arith in
+      ap (climbed judge burst) e ∙ one-more (d + k) ∙ ap (λ (c : Climb). stepOf judge c (d + k) (burst (d + k))) (stays d k h)
+      ∙ step-over (climbed judge burst k) (d + k) (burst (d + k)) h
+
+  module _ (n : ℕ) where
+    pub climbing-start : (c : Climb) → c ≡ startOf → Climbing judge burst n 0 c
+    unfolding climbed startOf
+    climbing-start c e = record { within = omega arith; is = e; free = ap (λ (x : Climb). x .limited) e }
+
+    module _ (i : ℕ) (c x : Climb) (p : Climbing judge burst n i c) where
+      -- x is the climb after one rung more
+      turned : x ≡ rungJudged judge c i (burst i) → x ≡ climbed judge burst (i + 1)
+      turned e =
+          e ∙ sym (step-free c i (burst i) (p .free)) ∙ ap (λ (y : Climb). stepOf judge y i (burst i)) (p .is) ∙ sym (one-more i)
+
+      pub climbing-again : i < n → x ≡ rungJudged judge c i (burst i) → x .limited ≡ false → Climbing judge burst n (i + 1) x
+      climbing-again h e f = record { within = omega arith; is = turned e; free = f }
+
+      pub climb-over : i < n → x ≡ rungJudged judge c i (burst i) → x .limited ≡ true → x ≡ climbed judge burst n
+      climb-over h e f =
+          let t = turned e in
+          let q : n - (i + 1) + (i + 1) ≡ n = omega arith in
+          t ∙ sym (stays (n - (i + 1)) (i + 1) (sym (ap (λ (y : Climb). y .limited) t) ∙ f)) ∙ ap (climbed judge burst) q
+
+    pub climb-done : (i : ℕ) (c : Climb) → Climbing judge burst n i c → n ≤ i → c ≡ climbed judge burst n
+    climb-done i c p h = let q : i ≡ n = omega (arith, p .within) in p .is ∙ ap (climbed judge burst) q
+
+-- Accepted, a call has one floor byte for each rung.
+one-each : (rungs : List Float) (floors : List ℕ) → badRungs rungs floors ≡ false → length floors ≡ length rungs / 4
+unfolding badRungs
+one-each rungs floors e =
+    eqb-true _ _ (go (eqb (length rungs % 4) 0) (ltb 256 (length rungs / 4)) (eqb (length floors) (length rungs / 4)) (anyUnmarked floors) e)
+  where
+    go : (a b c d : Bool) → not a || (b || (not c || d)) ≡ false → c ≡ true
+    go false b c d q = absurd (true≢false q)
+    go true true c d q = absurd (true≢false q)
+    go true false false d q = absurd (true≢false q)
+    go true false true d q = refl
+
+pub rungs-marked :
+    (r : StationRecord) (direction : ℕ) (ordinary floor : Edges) (l : List ℕ) (rungs : List Float) (floors : List ℕ)
+    → refusalOf (ceilingTests r direction ordinary floor l rungs floors) ≡ Accepted → length floors ≡ length rungs / 4
+rungs-marked r direction ordinary floor l rungs floors e =
+    let n = none-fails (rungTests ordinary floor rungs floors)
+    (refusal-both (entryTests r (directionValid direction) l) (rungTests ordinary floor rungs floors) e .1) in
+    one-each rungs floors (n .1 .0)

@@ -1,0 +1,317 @@
+// The ceiling: the fastest rung that may be sent, and the verdict on the first that may not. A public call. It uses figures,
+// codes, occupancy, profile, station, entry, decision and verdict.
+use codes::Checked;
+use codes::Direction;
+use codes::EmissionKind;
+use decision::Decision;
+use decision::Verdict;
+use occupancy::Edges;
+use profile::Range;
+use station::Situation;
+use station::StationRecord;
+ghost use Prim.Native.Nat.{_+_, _*_, _<_, _/_};
+ghost use mathlib.Core.Path.{_≡_};
+ghost use mathlib.Core.Bool.{_||_};
+ghost use lib.ListN.{length};
+ghost use Rattle.codes.specs.Read.{directionValid};
+ghost use Rattle.codes.specs.Refusal.{refusalOf};
+ghost use Rattle.codes.specs.declared.Policy.the-variants.{Rules};
+ghost use Rattle.layout.specs.Form.{Whole};
+ghost use Rattle.ceiling.specs.Ceiling.{figureAt, isBlocked, rungOf, controlOf, burstOf, joinedOf, startOf, judgeBy, judgedOf, rungJudged, climbed, anyUnsized, anyUnmarked, badEdges, badRungs, ceilingTests, ceilingOf};
+
+// The fastest rung allowed.
+pub enum Rung {
+    Fastest(usize),
+    NoRung,
+}
+
+// What the rungs so far occupy, with their control frames.
+pub enum Envelope {
+    Reached(Edges),
+    Unreached,
+}
+
+// A climb: the rungs judged so far, and the decision on the first that is blocked. Where there is none, `limit` is that of
+// refusal 0, which no input meets.
+pub struct Climb {
+    pub envelope: Envelope,
+    pub rung: Rung,
+    pub limited: bool,
+    pub limit: Decision,
+}
+
+pub struct CeilingAnswer {
+    pub refusal: Checked,
+    pub rung: Rung,
+    // Whether a rung is blocked; then `limit` is the whole decision on its envelope, and else absent as in a climb.
+    pub limited: bool,
+    pub limit: Decision,
+}
+
+pub fn figure_at(s: &[f64], at: usize) -> f64
+    requires { ⌜ at < length (now s) ⌝ }
+    ensures { λ x. ⌜ x ≡ figureAt (now (s .entry)) at ⌝ }
+{
+    s[at]
+}
+
+// Whether some figure is not finite or above 2^40 in size.
+fn any_unsized(rungs: &[f64]) -> bool
+    ensures { λ x. ⌜ x ≡ anyUnsized (now (rungs .entry)) ⌝ }
+{
+    let mut i: usize = 0;
+    while i < rungs.len() {
+        if !figures::in_size(figures::LIMIT, figure_at(rungs, i)) {
+            return true;
+        }
+        i += 1;
+    }
+    false
+}
+
+// Whether some floor byte is neither 0 nor 1.
+fn any_unmarked(floors: &[u8]) -> bool
+    ensures { λ x. ⌜ x ≡ anyUnmarked (now (floors .entry)) ⌝ }
+{
+    let mut i: usize = 0;
+    while i < floors.len() {
+        if layout::byte_at(floors, i) > 1 {
+            return true;
+        }
+        i += 1;
+    }
+    false
+}
+
+// Refusal 15: an edge.
+fn bad_edges(ordinary: Edges, floor: Edges, rungs: &[f64]) -> bool
+    ensures { λ x. ⌜ x ≡ badEdges ordinary floor (now (rungs .entry)) ⌝ }
+{
+    if any_unsized(rungs) {
+        return true;
+    }
+    if !entry::edges_valid(ordinary) {
+        return true;
+    }
+    !entry::edges_valid(floor)
+}
+
+// Refusal 16: the rungs and their floor bytes.
+fn bad_rungs(rungs: &[f64], floors: &[u8]) -> bool
+    ensures { λ x. ⌜ x ≡ badRungs (now (rungs .entry)) (now (floors .entry)) ⌝ }
+{
+    if rungs.len() % 4 != 0 {
+        return true;
+    }
+    if rungs.len() / 4 > 256 {
+        return true;
+    }
+    if floors.len() != rungs.len() / 4 {
+        return true;
+    }
+    any_unmarked(floors)
+}
+
+// The refusals in order: 20 to 22, 1 to 14, 15, 16.
+fn ceiling_refusals(
+    r: StationRecord,
+    direction: u8,
+    ordinary: Edges,
+    floor: Edges,
+    image: &[u8],
+    rungs: &[f64],
+    floors: &[u8],
+) -> Checked
+    ensures { λ x. ⌜ x ≡ refusalOf (ceilingTests r direction ordinary floor (now (image .entry)) (now (rungs .entry)) (now (floors .entry))) ⌝ }
+{
+    match entry::admit(r, direction <= 2, image) {
+        Checked::Refused(n) => Checked::Refused(n),
+        Checked::Accepted => {
+            if bad_edges(ordinary, floor, rungs) {
+                return Checked::Refused(15);
+            }
+            if bad_rungs(rungs, floors) {
+                return Checked::Refused(16);
+            }
+            Checked::Accepted
+        }
+    }
+}
+
+// The edges of rung k.
+fn rung_edges(rungs: &[f64], k: usize) -> Edges
+    requires { ⌜ 4 * k + 3 < length (now rungs) ⌝ }
+    ensures { λ x. ⌜ x ≡ rungOf (now (rungs .entry)) k ⌝ }
+{
+    let at = 4 * k;
+    let power = Range {
+        low_hz: figure_at(rungs, at),
+        high_hz: figure_at(rungs, at + 1),
+    };
+    let spectral = Range {
+        low_hz: figure_at(rungs, at + 2),
+        high_hz: figure_at(rungs, at + 3),
+    };
+    entry::edges_read(Edges { power, spectral })
+}
+
+// The control frame that goes with a rung, by its floor byte.
+fn control_edges(ordinary: Edges, floor: Edges, mark: u8) -> Edges
+    ensures { λ x. ⌜ x ≡ controlOf ordinary floor mark ⌝ }
+{
+    if mark == 1 { floor } else { ordinary }
+}
+
+// Rung k with its control frame.
+fn burst(ordinary: Edges, floor: Edges, rungs: &[f64], floors: &[u8], k: usize) -> Edges
+    requires { ⌜ (4 * k + 3 < length (now rungs)) × (k < length (now floors)) ⌝ }
+    ensures { λ x. ⌜ x ≡ burstOf ordinary floor (now (rungs .entry)) (now (floors .entry)) k ⌝ }
+{
+    let rung = rung_edges(rungs, k);
+    let control = control_edges(ordinary, floor, layout::byte_at(floors, k));
+    rung.union(control)
+}
+
+// An envelope, with one burst more.
+fn joined(envelope: Envelope, more: Edges) -> Edges
+    ensures { λ x. ⌜ x ≡ joinedOf envelope more ⌝ }
+{
+    match envelope {
+        Envelope::Reached(e) => e.union(more),
+        Envelope::Unreached => more,
+    }
+}
+
+fn is_blocked(v: Verdict) -> bool
+    ensures { λ x. ⌜ x ≡ isBlocked v ⌝ }
+{
+    match v {
+        Verdict::Legal => false,
+        Verdict::Warning => false,
+        Verdict::Blocked => true,
+    }
+}
+
+// Below the first rung.
+fn start() -> Climb
+    ensures { λ x. ⌜ x ≡ startOf ⌝ }
+{
+    Climb {
+        envelope: Envelope::Unreached,
+        rung: Rung::NoRung,
+        limited: false,
+        limit: decision::refused(0),
+    }
+}
+
+// A climb after the decision on rung k's envelope.
+fn judged(c: Climb, k: usize, e: Edges, d: Decision) -> Climb
+    ensures { λ x. ⌜ x ≡ judgedOf c k e d ⌝ }
+{
+    let verdict = d.verdict;
+    let rung = c.rung;
+    if is_blocked(verdict) {
+        Climb {
+            envelope: Envelope::Reached(e),
+            rung,
+            limited: true,
+            limit: d,
+        }
+    } else {
+        Climb {
+            envelope: Envelope::Reached(e),
+            rung: Rung::Fastest(k),
+            limited: false,
+            limit: decision::refused(0),
+        }
+    }
+}
+
+// One rung more: its envelope is judged as data.
+fn judge_rung(
+    image: &[u8],
+    s: Situation,
+    direction: Direction,
+    c: Climb,
+    k: usize,
+    more: Edges,
+) -> Climb
+    requires { ⌜ (s .policy ≡ Rules → Whole (now image)) ⌝ }
+    ensures { λ x. ⌜ x ≡ rungJudged (judgeBy (now (image .entry)) s direction) c k more ⌝ }
+{
+    let policy = s.policy;
+    let dial = s.dial;
+    let before = c.envelope;
+    let e = joined(before, more);
+    let d = verdict::decide(image, s, policy, dial, EmissionKind::Data, direction, e);
+    judged(c, k, e, d)
+}
+
+// The climb over all rungs. It ends at the first that is blocked.
+fn climb_all(
+    image: &[u8],
+    s: Situation,
+    direction: Direction,
+    ordinary: Edges,
+    floor: Edges,
+    rungs: &[f64],
+    floors: &[u8],
+) -> Climb
+    requires { ⌜ (s .policy ≡ Rules → Whole (now image)) × (length (now floors) ≡ length (now rungs) / 4) ⌝ }
+    ensures { λ x. ⌜ x ≡ climbed (judgeBy (now (image .entry)) s direction) (burstOf ordinary floor (now (rungs .entry)) (now (floors .entry))) (length (now (rungs .entry)) / 4) ⌝ }
+{
+    let count = rungs.len() / 4;
+    let mut c = start();
+    let mut i: usize = 0;
+    while i < count {
+        let more = burst(ordinary, floor, rungs, floors, i);
+        c = judge_rung(image, s, direction, c, i, more);
+        if c.limited {
+            return c;
+        }
+        i += 1;
+    }
+    c
+}
+
+// The fastest rung that may be sent, every slower one with it, and the verdict on the first that may not.
+pub fn ceiling(
+    r: StationRecord,
+    direction: u8,
+    ordinary: Edges,
+    floor: Edges,
+    image: &[u8],
+    rungs: &[f64],
+    floors: &[u8],
+) -> CeilingAnswer
+    ensures { λ x. ⌜ x ≡ ceilingOf r direction ordinary floor (now (image .entry)) (now (rungs .entry)) (now (floors .entry)) ⌝ }
+{
+    match ceiling_refusals(r, direction, ordinary, floor, image, rungs, floors) {
+        Checked::Refused(n) => CeilingAnswer {
+            refusal: Checked::Refused(n),
+            rung: Rung::NoRung,
+            limited: false,
+            limit: decision::refused(0),
+        },
+        Checked::Accepted => {
+            let s = station::situation_of(r);
+            let c = climb_all(
+                image,
+                s,
+                codes::direction_of(direction),
+                entry::edges_read(ordinary),
+                entry::edges_read(floor),
+                rungs,
+                floors,
+            );
+            let rung = c.rung;
+            let limit = c.limit;
+            CeilingAnswer {
+                refusal: Checked::Accepted,
+                rung,
+                limited: c.limited,
+                limit,
+            }
+        }
+    }
+}

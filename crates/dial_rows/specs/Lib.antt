@@ -1,0 +1,3 @@
+pub mod Dials
+pub mod Laws
+pub mod Sound

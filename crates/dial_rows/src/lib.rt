@@ -1,0 +1,363 @@
+// The rows of a dial list, segment by segment, privilege by privilege, automatic segment by automatic segment, and then the 60 m
+// channels: each offered to lent bytes, and counted. It uses codes, profile, air, layout, table, find, automatic_97_221 and rows.
+use air::DialRange;
+use codes::ControlMode;
+use codes::Direction;
+use codes::EmissionKind;
+use codes::LicenseClass;
+use codes::Sideband;
+use find::Question;
+use layout::General;
+use layout::Record;
+use profile::DataLimit;
+use profile::Range;
+use profile::Shared;
+use rows::SafeDial;
+use table::Channels;
+use table::Privilege;
+use table::Segment;
+ghost use mathlib.Core.Path.{_≡_};
+ghost use Prim.Native.Nat.{_+_, _≤_, _<_};
+ghost use Rattle.profile.specs.Range.{holdsOf};
+ghost use Rattle.layout.specs.Form.{Whole};
+ghost use Rattle.rows.specs.Pour.{Poured};
+ghost use Rattle.dial_rows.specs.Dials.{requestOf, pieceRows, onShared, automaticRows, cutRows, mayUse, privilegeRows, tooWide, excludedBand, privilegesRows, segmentRows, dataRows, centreSpan, channelFound, isUpper, channelsOpen, channelRow, channelRows, openRows};
+
+// What a list is made for: the signal as it is read, and what the general block says of it.
+pub struct Request {
+    // The licence class's number.
+    pub class: u8,
+    pub sideband: Sideband,
+    pub audio: Range,
+    pub width_hz: f64,
+    pub margin_hz: f64,
+    // 97.221 applies.
+    pub automatic: bool,
+    // 97.221(c) lets the signal outside the automatic segments.
+    pub elsewhere_ok: bool,
+    // The general limit.
+    pub data: DataLimit,
+    // The rule for automatic segments.
+    pub segments_rule: u16,
+}
+
+pub fn request_of(
+    g: General,
+    license: LicenseClass,
+    sideband: Sideband,
+    control: ControlMode,
+    direction: Direction,
+    margin_hz: f64,
+    audio: Range,
+) -> Request
+    ensures { λ q. ⌜ q ≡ requestOf g license sideband control direction «margin_hz» audio ⌝ }
+{
+    let width = air::width(audio);
+    Request {
+        class: codes::class_code(license),
+        sideband,
+        audio,
+        width_hz: width,
+        margin_hz,
+        automatic: automatic_97_221::applies(control, direction),
+        elsewhere_ok: automatic_97_221::elsewhere_allows(table::elsewhere_of(g), width, direction),
+        data: table::data_of(g),
+        segments_rule: g.automatic_rule,
+    }
+}
+
+// Offers the row of a piece. Each function from here on takes the count of rows so far and returns it with its own.
+fn piece_row(rows: &mut [u8], n: usize, q: Request, band: u8, rule: u16, piece: Range) -> usize
+    requires { ⌜ n < 0x1_0000_0000 ⌝ }
+    ensures { λ r. ⌜ Poured (now (rows .entry)) n (now (rows .exit)) r (pieceRows q band rule piece) ⌝ }
+{
+    let sideband = q.sideband;
+    let audio = q.audio;
+    match air::dial_range(piece, sideband, audio, q.margin_hz) {
+        DialRange::Dials(ends) => {
+            let row = SafeDial {
+                band,
+                segment: piece,
+                rule,
+                dial_low_hz: ends.low_hz,
+                dial_high_hz: ends.high_hz,
+            };
+            rows::offer(rows, n, row);
+            n + 1
+        }
+        DialRange::NoDial => n,
+    }
+}
+
+// The same of the stretch that two ranges share.
+fn shared_row(rows: &mut [u8], n: usize, q: Request, band: u8, rule: u16, shared: Shared) -> usize
+    requires { ⌜ n < 0x1_0000_0000 ⌝ }
+    ensures { λ r. ⌜ Poured (now (rows .entry)) n (now (rows .exit)) r (onShared shared (pieceRows q band rule)) ⌝ }
+{
+    match shared {
+        Shared::Stretch(piece) => piece_row(rows, n, q, band, rule, piece),
+        Shared::Nothing => n,
+    }
+}
+
+// The rows of a piece inside each automatic segment.
+fn automatic_rows(
+    image: &[u8],
+    rows: &mut [u8],
+    n: usize,
+    q: Request,
+    band: u8,
+    piece: Range,
+) -> usize
+    requires { ⌜ (Whole (now image)) × (n + 256 ≤ 0x1_0000_0000) ⌝ }
+    ensures { λ r. ⌜ Poured (now (rows .entry)) n (now (rows .exit)) r (automaticRows (now (image .entry)) q band piece) ⌝ }
+{
+    let start = layout::start_of(image, layout::AUTOMATIC);
+    let count = layout::count_of(image, layout::AUTOMATIC) as usize;
+    let rule = q.segments_rule;
+    let mut held = n;
+    let mut i: usize = 0;
+    while i < count {
+        let r = layout::record_at(image, start + layout::RECORD_SIZE * i);
+        let shared = profile::intersect(piece, table::span_of(r));
+        held = shared_row(rows, held, q, band, rule, shared);
+        i += 1;
+    }
+    held
+}
+
+// The rows of the piece that a segment and a privilege share.
+fn cut_rows(image: &[u8], rows: &mut [u8], n: usize, q: Request, s: Segment, piece: Range) -> usize
+    requires { ⌜ (Whole (now image)) × (n + 256 ≤ 0x1_0000_0000) ⌝ }
+    ensures { λ r. ⌜ Poured (now (rows .entry)) n (now (rows .exit)) r (cutRows (now (image .entry)) q s piece) ⌝ }
+{
+    if q.automatic {
+        if q.elsewhere_ok {
+            return piece_row(rows, n, q, s.band, s.rule, piece);
+        }
+        return automatic_rows(image, rows, n, q, s.band, piece);
+    }
+    piece_row(rows, n, q, s.band, s.rule, piece)
+}
+
+// Whether a privilege is the class's and allows data.
+fn may_use(q: Request, p: Privilege) -> bool
+    ensures { λ r. ⌜ r ≡ mayUse q p ⌝ }
+{
+    let emissions = p.emissions;
+    p.class == q.class && profile::allows(emissions, EmissionKind::Data)
+}
+
+// The rows of a segment under one privilege.
+fn privilege_rows(
+    image: &[u8],
+    rows: &mut [u8],
+    n: usize,
+    q: Request,
+    s: Segment,
+    p: Privilege,
+) -> usize
+    requires { ⌜ (Whole (now image)) × (n + 256 ≤ 0x1_0000_0000) ⌝ }
+    ensures { λ r. ⌜ Poured (now (rows .entry)) n (now (rows .exit)) r (privilegeRows (now (image .entry)) q s p) ⌝ }
+{
+    if may_use(q, p) {
+        let a = s.range;
+        let b = p.range;
+        match profile::intersect(a, b) {
+            Shared::Stretch(piece) => cut_rows(image, rows, n, q, s, piece),
+            Shared::Nothing => n,
+        }
+    } else {
+        n
+    }
+}
+
+// Whether the signal is too wide for a segment.
+fn too_wide(q: Request, s: Segment) -> bool
+    ensures { λ r. ⌜ r ≡ tooWide q s ⌝ }
+{
+    let own = s.own;
+    let second = s.second;
+    let general = q.data;
+    let limit = profile::data_limit(own, second, general);
+    limit.max_bandwidth_hz < q.width_hz
+}
+
+// Whether 97.221 keeps the signal out of a segment's band.
+fn excluded(image: &[u8], q: Request, s: Segment) -> bool
+    requires { ⌜ Whole (now image) ⌝ }
+    ensures { λ r. ⌜ r ≡ excludedBand (now (image .entry)) q s ⌝ }
+{
+    if q.automatic {
+        return find::some_in(image, layout::EXCLUDED, Question::OfBand(s.band));
+    }
+    false
+}
+
+// The rows of a segment under every privilege.
+fn privileges_rows(image: &[u8], rows: &mut [u8], n: usize, q: Request, s: Segment) -> usize
+    requires { ⌜ (Whole (now image)) × (n + 65536 ≤ 0x1_0000_0000) ⌝ }
+    ensures { λ r. ⌜ Poured (now (rows .entry)) n (now (rows .exit)) r (privilegesRows (now (image .entry)) q s) ⌝ }
+{
+    let start = layout::start_of(image, layout::PRIVILEGES);
+    let count = layout::count_of(image, layout::PRIVILEGES) as usize;
+    let mut held = n;
+    let mut i: usize = 0;
+    while i < count {
+        let r = layout::record_at(image, start + layout::RECORD_SIZE * i);
+        held = privilege_rows(image, rows, held, q, s, table::privilege_of(r));
+        i += 1;
+    }
+    held
+}
+
+// The rows of a segment: none where the signal is too wide or kept out.
+fn segment_rows(image: &[u8], rows: &mut [u8], n: usize, q: Request, s: Segment) -> usize
+    requires { ⌜ (Whole (now image)) × (n + 65536 ≤ 0x1_0000_0000) ⌝ }
+    ensures { λ r. ⌜ Poured (now (rows .entry)) n (now (rows .exit)) r (segmentRows (now (image .entry)) q s) ⌝ }
+{
+    if too_wide(q, s) {
+        return n;
+    }
+    if excluded(image, q, s) {
+        return n;
+    }
+    privileges_rows(image, rows, n, q, s)
+}
+
+// The rows of every data segment.
+pub fn data_rows(image: &[u8], rows: &mut [u8], q: Request) -> usize
+    requires { ⌜ Whole (now image) ⌝ }
+    ensures { λ r. ⌜ Poured (now (rows .entry)) 0 (now (rows .exit)) r (dataRows (now (image .entry)) q) ⌝ }
+{
+    let start = layout::start_of(image, layout::SEGMENTS);
+    let count = layout::count_of(image, layout::SEGMENTS) as usize;
+    let mut held: usize = 0;
+    let mut i: usize = 0;
+    while i < count {
+        let r = layout::record_at(image, start + layout::RECORD_SIZE * i);
+        held = segment_rows(image, rows, held, q, table::segment_of(r));
+        i += 1;
+    }
+    held
+}
+
+fn is_upper(sideband: Sideband) -> bool
+    ensures { λ r. ⌜ r ≡ isUpper sideband ⌝ }
+{
+    match sideband {
+        Sideband::Usb => true,
+        Sideband::Lsb => false,
+    }
+}
+
+// Whether channels are asked for at all.
+fn channels_open(q: Request) -> bool
+    ensures { λ r. ⌜ r ≡ channelsOpen q ⌝ }
+{
+    let sideband = q.sideband;
+    if q.automatic {
+        return false;
+    }
+    if q.width_hz <= q.data.max_bandwidth_hz {
+        return is_upper(sideband);
+    }
+    false
+}
+
+// Whether a range holds a channel's centre.
+fn centre_held(range: Range, r: Record) -> bool
+    ensures { λ x. ⌜ x ≡ holdsOf range (centreSpan r) ⌝ }
+{
+    let center = table::centre_of(r);
+    range.holds(Range {
+        low_hz: center,
+        high_hz: center,
+    })
+}
+
+// Whether one channel lies under one privilege of the class that allows data.
+fn channel_found(image: &[u8], q: Request) -> bool
+    requires { ⌜ Whole (now image) ⌝ }
+    ensures { λ r. ⌜ r ≡ channelFound (now (image .entry)) q ⌝ }
+{
+    let from = layout::start_of(image, layout::PRIVILEGES);
+    let privileges = layout::count_of(image, layout::PRIVILEGES) as usize;
+    let start = layout::start_of(image, layout::CHANNELS);
+    let channels = layout::count_of(image, layout::CHANNELS) as usize;
+    let mut found = false;
+    let mut i: usize = 0;
+    'search: while i < privileges {
+        let r = layout::record_at(image, from + layout::RECORD_SIZE * i);
+        let p = table::privilege_of(r);
+        if may_use(q, p) {
+            let range = p.range;
+            let mut k: usize = 0;
+            while k < channels {
+                let c = layout::record_at(image, start + layout::RECORD_SIZE * k);
+                if centre_held(range, c) {
+                    found = true;
+                    break 'search;
+                }
+                k += 1;
+            }
+        }
+        i += 1;
+    }
+    found
+}
+
+// Offers the row of a channel.
+fn channel_row(rows: &mut [u8], n: usize, q: Request, c: Channels, center_hz: f64) -> usize
+    requires { ⌜ n < 0x1_0000_0000 ⌝ }
+    ensures { λ r. ⌜ Poured (now (rows .entry)) n (now (rows .exit)) r (channelRow q c «center_hz») ⌝ }
+{
+    let sideband = q.sideband;
+    let audio = q.audio;
+    let dial = center_hz - c.carrier_offset_hz;
+    let range = profile::channel_range(c.width_hz, center_hz);
+    let guarded = air::guarded(q.margin_hz, air::rf_range(dial, sideband, audio));
+    if range.holds(guarded) {
+        let row = SafeDial {
+            band: c.band,
+            segment: range,
+            rule: c.rule,
+            dial_low_hz: dial,
+            dial_high_hz: dial,
+        };
+        rows::offer(rows, n, row);
+        return n + 1;
+    }
+    n
+}
+
+// The rows of every channel.
+fn channel_rows(image: &[u8], rows: &mut [u8], n: usize, q: Request, c: Channels) -> usize
+    requires { ⌜ (Whole (now image)) × (n + 256 ≤ 0x1_0000_0000) ⌝ }
+    ensures { λ r. ⌜ Poured (now (rows .entry)) n (now (rows .exit)) r (channelRows (now (image .entry)) q c) ⌝ }
+{
+    let start = layout::start_of(image, layout::CHANNELS);
+    let count = layout::count_of(image, layout::CHANNELS) as usize;
+    let mut held = n;
+    let mut i: usize = 0;
+    while i < count {
+        let r = layout::record_at(image, start + layout::RECORD_SIZE * i);
+        held = channel_row(rows, held, q, c, table::centre_of(r));
+        i += 1;
+    }
+    held
+}
+
+// The same where channels are asked for and one is found.
+pub fn open_rows(image: &[u8], rows: &mut [u8], n: usize, q: Request, c: Channels) -> usize
+    requires { ⌜ (Whole (now image)) × (n + 256 ≤ 0x1_0000_0000) ⌝ }
+    ensures { λ r. ⌜ Poured (now (rows .entry)) n (now (rows .exit)) r (openRows (now (image .entry)) q c) ⌝ }
+{
+    if channels_open(q) {
+        if channel_found(image, q) {
+            return channel_rows(image, rows, n, q, c);
+        }
+        return n;
+    }
+    n
+}

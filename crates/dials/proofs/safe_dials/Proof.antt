@@ -1,0 +1,96 @@
+use mathlib.Core.Path.{sym, _∙_}
+use borrow.Author.Tests.{eq-eqb, ne-eqb}
+use Rattle.entry.specs.Entry.{entry-whole}
+use mathlib.Core.Path.{refl}
+use mathlib.Core.List.{[]}
+use Rattle.codes.specs.Read.{directionValid, directionOf}
+use Rattle.station.specs.Station.{situationOf}
+use Rattle.entry.specs.Entry.{edgesRead}
+use Rattle.dials.specs.List.{situationRows, listRows, Filled}
+use Rattle.dials.specs.Answer.{filled-none, safe-refused, safe-edges, safe-filled, rows-free, rows-rules}
+use borrow.Author.Needs.{needs}
+use Rattle.dials.proofs.safe_dials.Statement.{statement}
+use Rattle.dials.proofs.safe_dials.Tie as tie
+
+-- the list of the station and the edges as they are read
+asked :
+    (c : tie.After-situation-list)
+    → Filled (situationRows (c .before .before .before .before .before .before .before .before .before .before .before .before .before .before .args .image .now) (situationOf (c .before .before .before .before .before .before .before .before .before .before .before .before .before .before .args .r)) (directionOf (c .before .before .before .before .before .before .before .before .before .before .before .before .before .before .args .direction)) (edgesRead (c .before .before .before .before .before .before .before .before .before .before .before .before .before .before .args .e))) (c .before .before .before .before .before .before .before .before .before .before .before .before .before .before .args .rows .now) (c .situation-list .last .1 .0) (c .situation-list .result)
+asked c =
+    rw (c .before .before .before .before .situation-of .ensures) at
+    (rw (c .before .before .before .edges-read .ensures) at
+    (rw (c .before .direction-of .ensures) at
+    (c .situation-list .ensures)))
+
+admit-requires : tie.Need-admit-requires
+admit-requires c κs = search needs
+
+enum-known-n : tie.Need-enum-known-n
+enum-known-n c = search needs
+
+enum-told : tie.Need-enum-told
+enum-told c = search needs
+
+edges-valid-requires : tie.Need-edges-valid-requires
+edges-valid-requires c κs = search needs
+
+situation-of-requires : tie.Need-situation-of-requires
+situation-of-requires c κs = search needs
+
+edges-read-requires : tie.Need-edges-read-requires
+edges-read-requires c κs = search needs
+
+direction-of-requires : tie.Need-direction-of-requires
+direction-of-requires c κs = search needs
+
+situation-list-requires : tie.Need-situation-list-requires
+situation-list-requires c κs =
+    entry-whole (c .before .before .before .before .before .before .before .before .before .before .before .before .before .args .r) (directionValid (c .before .before .before .before .before .before .before .before .before .before .before .before .before .args .direction)) (c .before .before .before .before .before .before .before .before .before .before .before .before .before .args .image .now)
+    (sym (c .before .before .before .before .before .before .before .before .before .before .admit .ensures) ∙ c .before .before .before .before .before .before .before .before .enum-told .given .1)
+    (eq-eqb _ _ (c .before .before .before .before .if2 .taken))
+
+same-length : tie.Need-same-length
+same-length c = search needs
+
+returns : tie.Need-returns
+returns c =
+    safe-filled (c .before .before .before .before .before .before .before .before .before .before .before .before .before .before .before .before .args .r) (c .before .before .before .before .before .before .before .before .before .before .before .before .before .before .before .before .args .direction) (c .before .before .before .before .before .before .before .before .before .before .before .before .before .before .before .before .args .e) (c .before .before .before .before .before .before .before .before .before .before .before .before .before .before .before .before .args .image .now) (c .before .before .before .before .before .before .before .before .before .before .before .before .before .before .before .before .args .rows .now) (listRows (c .before .before .before .before .before .before .before .before .before .before .before .before .before .before .before .before .args .r) (c .before .before .before .before .before .before .before .before .before .before .before .before .before .before .before .before .args .direction) (c .before .before .before .before .before .before .before .before .before .before .before .before .before .before .before .before .args .e) (c .before .before .before .before .before .before .before .before .before .before .before .before .before .before .before .before .args .image .now)) _ _
+    (sym (c .before .before .before .before .before .before .before .before .before .before .before .enum-told .given .1) ∙ c .before .before .before .before .before .before .before .before .before .before .before .before .before .admit .ensures)
+    (sym (c .before .before .before .before .before .before .before .before .before .before .edges-valid .ensures) ∙ c .before .before .before .before .before .before .before .before .before .if1 .taken)
+    refl
+    (rw (rows-rules (c .before .before .before .before .before .before .before .before .before .before .before .before .before .before .before .before .args .r) (c .before .before .before .before .before .before .before .before .before .before .before .before .before .before .before .before .args .direction) (c .before .before .before .before .before .before .before .before .before .before .before .before .before .before .before .before .args .e) (c .before .before .before .before .before .before .before .before .before .before .before .before .before .before .before .before .args .image .now) (c .before .before .before .before .before .before .before .before .before .before .before .before .before .before .before .before .args .rows .now) (eq-eqb _ _ (c .before .before .before .before .before .before .before .if2 .taken))) (asked (c .before .before)))
+
+returns-2 : tie.Need-returns-2
+returns-2 c =
+    safe-filled (c .before .before .before .before .before .before .before .before .before .args .r) (c .before .before .before .before .before .before .before .before .before .args .direction) (c .before .before .before .before .before .before .before .before .before .args .e) (c .before .before .before .before .before .before .before .before .before .args .image .now) (c .before .before .before .before .before .before .before .before .before .args .rows .now) [] _ _
+    (sym (c .before .before .before .before .enum-told .given .1) ∙ c .before .before .before .before .before .before .admit .ensures)
+    (sym (c .before .before .before .edges-valid .ensures) ∙ c .before .before .if1 .taken)
+    (rows-free (c .before .before .before .before .before .before .before .before .before .args .r) (c .before .before .before .before .before .before .before .before .before .args .direction) (c .before .before .before .before .before .before .before .before .before .args .e) (c .before .before .before .before .before .before .before .before .before .args .image .now) (c .before .before .before .before .before .before .before .before .before .args .rows .now) (ne-eqb _ _ (c .if2 .left)))
+    (filled-none _)
+
+returns-3 : tie.Need-returns-3
+returns-3 c = safe-refused (c .before .before .before .before .before .before .args .r) (c .before .before .before .before .before .before .args .direction) (c .before .before .before .before .before .before .args .e) (c .before .before .before .before .before .before .args .image .now) (c .before .before .before .before .before .before .args .rows .now) _ (sym (c .before .n .given .1) ∙ c .before .before .before .admit .ensures)
+
+returns-4 : tie.Need-returns-4
+returns-4 c =
+    safe-edges (c .before .before .before .before .before .before .before .args .r) (c .before .before .before .before .before .before .before .args .direction) (c .before .before .before .before .before .before .before .args .e) (c .before .before .before .before .before .before .before .args .image .now) (c .before .before .before .before .before .before .before .args .rows .now)
+    (sym (c .before .before .enum-told .given .1) ∙ c .before .before .before .before .admit .ensures)
+    (sym (c .before .edges-valid .ensures) ∙ c .if1 .left)
+
+pub safe-dials-spec : {M : Type 1} → statement M
+safe-dials-spec =
+    tie.close
+    (tie.spec
+    admit-requires
+    enum-known-n
+    enum-told
+    edges-valid-requires
+    situation-of-requires
+    edges-read-requires
+    direction-of-requires
+    situation-list-requires
+    same-length
+    returns
+    returns-2
+    returns-3
+    returns-4)

@@ -1,0 +1,173 @@
+-- The answer case by case, as the code comes to it.
+use Prim.Native.Nat.{ℕ, _*_, _/_, _<_, _≤_}
+use mathlib.Core.Bool.{Bool, true, false, not, cond}
+use mathlib.Core.List.{List, [], _∷_, _++_, append-nil}
+use mathlib.Core.Path.{_≡_, refl, sym, ap, _∙_}
+use native.Mathlib.Omega.{arith}
+use lib.ListN.{length, take, drop}
+use lib.Seq.{length-take-le, drop-length}
+use borrow.Author.Tests.{lt-ltb, le-ltb}
+use Rattle.codes.specs.Read.{directionValid, directionOf}
+use Rattle.codes.specs.Refusal.{Test, test, refusalOf, refusal-next, refusal-stays}
+use Rattle.codes.specs.declared.LicenseClass.{LicenseClass}
+use Rattle.codes.specs.declared.Sideband.{Sideband}
+use Rattle.codes.specs.declared.ControlMode.{ControlMode}
+use Rattle.codes.specs.declared.Direction.{Direction}
+use Rattle.codes.specs.declared.Control.the-variants.{ControlIs, NoControl}
+use Rattle.codes.specs.declared.License.the-variants.{LicenseIs, NoLicense}
+use Rattle.codes.specs.declared.SidebandSet.the-variants.{SidebandIs, NoSideband}
+use Rattle.codes.specs.declared.Checked.{Checked}
+use Rattle.codes.specs.declared.Checked.the-variants.{Accepted, Refused}
+use Rattle.occupancy.specs.declared.Edges.{Edges}
+use Rattle.station.specs.Station.{underRules, situationOf}
+use Rattle.station.specs.declared.StationRecord.{StationRecord}
+use Rattle.station.specs.declared.Situation.{Situation}
+use Rattle.entry.specs.Entry.{entryTests, entryOf, edgesValid, edgesRead}
+use Rattle.rows.specs.Rows.{rowSize, insertAll, sorted, encodeAll}
+use Rattle.rows.specs.Each.{Every}
+use Rattle.rows.specs.Pour.{pour}
+use Rattle.rows.specs.Back.{LowFits, pour-all}
+use Rattle.rows.specs.declared.SafeDial.{SafeDial}
+use Rattle.dials.specs.List.{withSideband, withLicense, withControl, knownRows, situationRows, listRows, lentTests, listTests, Listed, Filled, SafeDials}
+use Rattle.dials.specs.declared.DialList.{DialList}
+use Rattle.dials.specs.declared.DialList.the-variants.{Rows, Refused as NoList}
+
+listed-as :
+    (c d : Checked) (xs ys : List SafeDial) (lent left : List ℕ) (a : DialList) → c ≡ d → xs ≡ ys → Listed d ys lent left a
+    → Listed c xs lent left a
+listed-as c d xs ys lent left a e f h = rw e (rw f h)
+
+-- no bytes were lent for the count
+pub none-left : (l : List ℕ) → length l ≡ 0 → l ≡ []
+none-left [] e = refl
+none-left (x ∷ l) e = absurd (omega arith)
+
+-- ---- rows counted, and then refused or written
+
+pub filled-none : (lent : List ℕ) → Filled [] lent lent (Rows 0)
+unfolding encodeAll insertAll
+filled-none lent =
+    listed-as (refusalOf (lentTests [] lent)) Accepted [] [] lent lent (Rows 0)
+    (rw (le-ltb (length lent / rowSize) 0 (omega arith)))
+    refl
+    (record { answered = refl; bytes = refl })
+
+pub filled-long : (xs : List SafeDial) (lent : List ℕ) → length lent / rowSize < length xs → Filled xs lent lent (NoList 23)
+filled-long xs lent h =
+    listed-as (refusalOf (lentTests xs lent)) (Refused 23) xs xs lent lent (NoList 23)
+    (rw (lt-ltb (length lent / rowSize) (length xs) h))
+    refl
+    (record { answered = refl; bytes = refl })
+
+pub filled-fit :
+    (xs : List SafeDial) (lent part : List ℕ) (n : ℕ) → Every LowFits xs → n ≡ length xs → n ≤ length lent / rowSize
+    → part ≡ pour (take (n * rowSize) lent) 0 xs → Filled xs lent (part ++ drop (n * rowSize) lent) (Rows n)
+filled-fit xs lent part n f e h p =
+    let room : n * rowSize ≤ length lent = omega arith in
+    let t : length (take (n * rowSize) lent) ≡ n * rowSize = length-take-le (n * rowSize) lent room in
+    let k : length xs * rowSize ≡ length (take (n * rowSize) lent) = omega arith in
+    let w : part ≡ encodeAll (sorted xs) =
+    p ∙ pour-all (take (n * rowSize) lent) xs f (omega arith)
+    ∙ ap (λ (i : ℕ). encodeAll (sorted xs) ++ drop i (take (n * rowSize) lent)) k
+    ∙ ap (λ (m : List ℕ). encodeAll (sorted xs) ++ m) (drop-length (take (n * rowSize) lent))
+    ∙ append-nil (encodeAll (sorted xs)) in
+    listed-as (refusalOf (lentTests xs lent)) Accepted xs xs lent (part ++ drop (n * rowSize) lent) (Rows n)
+    (rw (le-ltb (length lent / rowSize) (length xs) (omega arith)))
+    refl
+    (record {
+      answered = ap Rows e;
+      bytes = ap (λ (m : List ℕ). m ++ drop (n * rowSize) lent) w ∙ ap (λ (i : ℕ). encodeAll (sorted xs) ++ drop (i * rowSize) lent) e;
+    })
+
+-- ---- a station as it is read
+
+module _ (l : List ℕ) (s : Situation) (d : Direction) (e : Edges) where
+  pub no-sideband : s .sideband ≡ NoSideband → situationRows l s d e ≡ []
+  unfolding situationRows
+  no-sideband p =
+      ap
+      (λ x. withSideband x
+      (λ sideband. withLicense (s .license)
+      (λ license. withControl (s .control)
+      (λ control. knownRows l s d e sideband license control)))) p
+
+  with-sideband :
+      (x : Sideband) → s .sideband ≡ SidebandIs x
+      → situationRows l s d e ≡ withLicense (s .license) (λ license. withControl (s .control) (λ control. knownRows l s d e x license control))
+  unfolding situationRows
+  with-sideband x p =
+      ap
+      (λ y. withSideband y
+      (λ sideband. withLicense (s .license)
+      (λ license. withControl (s .control)
+      (λ control. knownRows l s d e sideband license control)))) p
+
+  pub no-license : (x : Sideband) → s .sideband ≡ SidebandIs x → s .license ≡ NoLicense → situationRows l s d e ≡ []
+  no-license x p q = with-sideband x p ∙ ap (λ y. withLicense y (λ license. withControl (s .control) (λ control. knownRows l s d e x license control))) q
+
+  with-license :
+      (x : Sideband) (c : LicenseClass) → s .sideband ≡ SidebandIs x → s .license ≡ LicenseIs c
+      → situationRows l s d e ≡ withControl (s .control) (λ control. knownRows l s d e x c control)
+  with-license x c p q = with-sideband x p ∙ ap (λ y. withLicense y (λ license. withControl (s .control) (λ control. knownRows l s d e x license control))) q
+
+  pub no-control :
+      (x : Sideband) (c : LicenseClass) → s .sideband ≡ SidebandIs x → s .license ≡ LicenseIs c → s .control ≡ NoControl
+      → situationRows l s d e ≡ []
+  no-control x c p q r = with-license x c p q ∙ ap (λ y. withControl y (λ control. knownRows l s d e x c control)) r
+
+  pub all-known :
+      (x : Sideband) (c : LicenseClass) (m : ControlMode) → s .sideband ≡ SidebandIs x → s .license ≡ LicenseIs c → s .control ≡ ControlIs m
+      → situationRows l s d e ≡ knownRows l s d e x c m
+  all-known x c m p q r = with-license x c p q ∙ ap (λ y. withControl y (λ control. knownRows l s d e x c control)) r
+
+pub filled-empty : (xs : List SafeDial) (lent : List ℕ) → xs ≡ [] → Filled xs lent lent (Rows 0)
+filled-empty xs lent e = rw e (filled-none lent)
+
+pub filled-as : (xs ys : List SafeDial) (lent left : List ℕ) (a : DialList) → xs ≡ ys → Filled ys lent left a → Filled xs lent left a
+filled-as xs ys lent left a e h = rw e h
+
+-- ---- the whole call
+
+module _ (r : StationRecord) (direction : ℕ) (e : Edges) (l lent : List ℕ) where
+  rest : List Test
+  rest = test 15 (not (edgesValid e)) ∷ lentTests (listRows r direction e l) lent
+
+  pub safe-refused : (n : ℕ) → Refused n ≡ entryOf r (directionValid direction) l → SafeDials r direction e l lent lent (NoList n)
+  unfolding entryOf
+  safe-refused n h =
+      listed-as (refusalOf (listTests r direction e l lent)) (Refused n) (listRows r direction e l) (listRows r direction e l) lent lent (NoList n)
+      (refusal-stays (entryTests r (directionValid direction) l) (test 15 (not (edgesValid e)) ∷ lentTests (listRows r direction e l) lent) n (sym h))
+      refl
+      (record { answered = refl; bytes = refl })
+
+  -- past the refusals of the entry
+  past : Accepted ≡ entryOf r (directionValid direction) l → (b : Bool) → edgesValid e ≡ b
+      → refusalOf (listTests r direction e l lent) ≡ refusalOf (test 15 (not b) ∷ lentTests (listRows r direction e l) lent)
+  unfolding entryOf
+  past h b v =
+      refusal-next (entryTests r (directionValid direction) l) (test 15 (not (edgesValid e)) ∷ lentTests (listRows r direction e l) lent) (sym h)
+      ∙ ap (λ (b : Bool). refusalOf (test 15 (not b) ∷ lentTests (listRows r direction e l) lent)) v
+
+  pub safe-edges : Accepted ≡ entryOf r (directionValid direction) l → edgesValid e ≡ false → SafeDials r direction e l lent lent (NoList 15)
+  safe-edges h v =
+      listed-as (refusalOf (listTests r direction e l lent)) (Refused 15) (listRows r direction e l) (listRows r direction e l) lent lent (NoList 15)
+      (past h false v)
+      refl
+      (record { answered = refl; bytes = refl })
+
+  pub safe-filled :
+      (xs : List SafeDial) (left : List ℕ) (a : DialList) → Accepted ≡ entryOf r (directionValid direction) l → edgesValid e ≡ true
+      → listRows r direction e l ≡ xs → Filled xs lent left a → SafeDials r direction e l lent left a
+  safe-filled xs left a h v x f =
+      listed-as (refusalOf (listTests r direction e l lent)) (refusalOf (lentTests xs lent)) (listRows r direction e l) xs lent left a
+      (past h true v ∙ ap (λ (m : List SafeDial). refusalOf (lentTests m lent)) x)
+      x
+      f
+
+  pub rows-free : underRules r ≡ false → listRows r direction e l ≡ []
+  unfolding listRows
+  rows-free u = ap (λ (b : Bool). cond b (situationRows l (situationOf r) (directionOf direction) (edgesRead e)) []) u
+
+  pub rows-rules : underRules r ≡ true → listRows r direction e l ≡ situationRows l (situationOf r) (directionOf direction) (edgesRead e)
+  unfolding listRows
+  rows-rules u = ap (λ (b : Bool). cond b (situationRows l (situationOf r) (directionOf direction) (edgesRead e)) []) u

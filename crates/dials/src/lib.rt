@@ -1,0 +1,105 @@
+// The dial list: the dials that keep a signal inside the rules, as rows in lent bytes. A public call. It uses codes, occupancy, station,
+// layout, table, entry, rows and dial_rows.
+use codes::Checked;
+use codes::Control;
+use codes::Direction;
+use codes::License;
+use codes::SidebandSet;
+use dial_rows::Request;
+use occupancy::Edges;
+use station::Situation;
+use station::StationRecord;
+use table::ChannelBand;
+ghost use mathlib.Core.List.{_++_};
+ghost use Rattle.layout.specs.Form.{Whole};
+ghost use Rattle.rows.specs.Pour.{Poured};
+ghost use Rattle.dial_rows.specs.Dials.{dataRows, bandRows};
+ghost use Rattle.dials.specs.List.{situationRows, Filled, SafeDials};
+
+// A list of so many rows, or the number of the refusal.
+pub enum DialList {
+    Rows(usize),
+    Refused(u8),
+}
+
+// Every row, one after the other, into bytes that may have room for them or not; and their count.
+fn gather(image: &[u8], rows: &mut [u8], q: Request, band: ChannelBand) -> usize
+    requires { ⌜ Whole (now image) ⌝ }
+    ensures { λ r. ⌜ Poured (now (rows .entry)) 0 (now (rows .exit)) r (dataRows (now (image .entry)) q ++ bandRows (now (image .entry)) q band) ⌝ }
+{
+    let n = dial_rows::data_rows(image, rows, q);
+    match band {
+        ChannelBand::On(c) => dial_rows::open_rows(image, rows, n, q, c),
+        ChannelBand::NoChannels => n,
+    }
+}
+
+// Counts the rows, refuses a list longer than the whole rows lent, and writes the rows where they fit.
+fn fill(image: &[u8], rows: &mut [u8], q: Request, band: ChannelBand) -> DialList
+    requires { ⌜ Whole (now image) ⌝ }
+    ensures { λ a. ⌜ Filled (dataRows (now (image .entry)) q ++ bandRows (now (image .entry)) q band) (now (rows .entry)) (now (rows .exit)) a ⌝ }
+{
+    let none: usize = 0;
+    let count = gather(image, &mut rows[..none], q, band);
+    if rows.len() / rows::ROW_SIZE < count {
+        return DialList::Refused(23);
+    }
+    let room = count * rows::ROW_SIZE;
+    gather(image, &mut rows[..room], q, band);
+    DialList::Rows(count)
+}
+
+// The list for a station and edges as they are read, under Rules.
+fn situation_list(
+    image: &[u8],
+    rows: &mut [u8],
+    s: Situation,
+    direction: Direction,
+    e: Edges,
+) -> DialList
+    requires { ⌜ Whole (now image) ⌝ }
+    ensures { λ a. ⌜ Filled (situationRows (now (image .entry)) s direction e) (now (rows .entry)) (now (rows .exit)) a ⌝ }
+{
+    let sideband_set = s.sideband;
+    let SidebandSet::SidebandIs(sideband) = sideband_set else {
+        return DialList::Rows(0);
+    };
+    let license_set = s.license;
+    let License::LicenseIs(license) = license_set else {
+        return DialList::Rows(0);
+    };
+    let control_set = s.control;
+    let Control::ControlIs(control) = control_set else {
+        return DialList::Rows(0);
+    };
+    let g = layout::general_of(image);
+    let audio = e.range(table::reading_of(g));
+    let q = dial_rows::request_of(g, license, sideband, control, direction, s.margin_hz, audio);
+    fill(image, rows, q, table::channels_of(g))
+}
+
+// The dials that keep a signal of these edges inside the rules, with the margin to spare, in a stable order by lower dial.
+pub fn safe_dials(
+    r: StationRecord,
+    direction: u8,
+    e: Edges,
+    image: &[u8],
+    rows: &mut [u8],
+) -> DialList
+    ensures { λ a. ⌜ SafeDials r direction e (now (image .entry)) (now (rows .entry)) (now (rows .exit)) a ⌝ }
+{
+    match entry::admit(r, direction <= 2, image) {
+        Checked::Refused(n) => DialList::Refused(n),
+        Checked::Accepted => {
+            if entry::edges_valid(e) {
+                if r.policy == 2 {
+                    let s = station::situation_of(r);
+                    let read = entry::edges_read(e);
+                    return situation_list(image, rows, s, codes::direction_of(direction), read);
+                }
+                return DialList::Rows(0);
+            }
+            DialList::Refused(15)
+        }
+    }
+}

@@ -1,0 +1,77 @@
+use Prim.Native.Nat.{_+_, _*_, _-_}
+use mathlib.Core.Path.{_≡_}
+use Rattle.figures.specs.Figure.{totalLess, figureOf}
+use Rattle.layout.specs.Bytes.{u64At}
+use native.Mathlib.Omega.{arith}
+use borrow.Author.Needs.{needs}
+use Rattle.rows.specs.Turns.{Placing, place-none, place-here, place-step, place-end}
+use Rattle.rows.proofs.place.Statement.{statement}
+use Rattle.rows.proofs.place.Tie as tie
+
+abbrev Inv-loop : tie.InvT-loop
+Inv-loop rows count dial-low-hz i₀ i = Placing dial-low-hz count rows i
+
+abbrev μ-loop : tie.MeasureT-loop
+μ-loop rows count dial-low-hz i₀ i = count - i
+
+-- what a turn asked of row i
+asked :
+    (c : tie.After-total-less Inv-loop μ-loop)
+    → c .total-less .result ≡ totalLess (c .before .before .before .before .before .before .args .dial-low-hz) (figureOf (u64At (c .before .before .before .before .before .before .args .rows .now) (c .before .before .before .before .loop .i * 36 + 16)))
+asked c =
+    rw (c .total-less .ensures)
+    (rw (c .before .figure .ensures)
+    (rw (c .before .before .u64-at .ensures)))
+
+loop-holds : tie.Need-loop-holds Inv-loop μ-loop
+loop-holds c = place-none _ _ _
+
+mul-u64-at : tie.Need-mul-u64-at Inv-loop μ-loop
+mul-u64-at c = omega arith
+
+add-u64-at : tie.Need-add-u64-at Inv-loop μ-loop
+add-u64-at c = omega arith
+
+u64-at-requires : tie.Need-u64-at-requires Inv-loop μ-loop
+u64-at-requires c κs = omega arith
+
+figure-requires : tie.Need-figure-requires Inv-loop μ-loop
+figure-requires c κs = search needs
+
+total-less-requires : tie.Need-total-less-requires Inv-loop μ-loop
+total-less-requires c κs = search needs
+
+returns : tie.Need-returns Inv-loop μ-loop
+returns c =
+    place-here _ _ _ _ (c .before .before .before .before .loop-test .taken) (c .before .before .before .before .before .loop .inv) (rw (← asked (c .before)) (c .if1 .taken))
+
+add-i : tie.Need-add-i Inv-loop μ-loop
+add-i c = omega arith
+
+loop-less : tie.Need-loop-less Inv-loop μ-loop
+loop-less c = omega arith
+
+loop-again : tie.Need-loop-again Inv-loop μ-loop
+loop-again c =
+    place-step _ _ _ _ (c .before .before .before .before .loop-test .taken) (c .before .before .before .before .before .loop .inv) (rw (← asked (c .before)) (c .if1 .left))
+
+returns-2 : tie.Need-returns-2 Inv-loop μ-loop
+returns-2 c = place-end _ _ _ _ (c .loop-test .left) (c .before .loop .inv)
+
+pub place-spec : {M : Type 1} → statement M
+place-spec =
+    tie.close
+    (tie.spec
+    Inv-loop
+    μ-loop
+    loop-holds
+    mul-u64-at
+    add-u64-at
+    u64-at-requires
+    figure-requires
+    total-less-requires
+    returns
+    add-i
+    loop-less
+    loop-again
+    returns-2)

@@ -1,0 +1,54 @@
+use Prim.Native.Nat.{_-_}
+use native.Mathlib.Omega.{arith}
+use Rattle.rows.specs.Turns.{Putting, put-none, put-step, put-done}
+use Rattle.rows.proofs.put.Statement.{statement}
+use Rattle.rows.proofs.put.Tie as tie
+
+abbrev Inv-loop : tie.InvT-loop
+Inv-loop rows₀ at width x rest₀ k₀ rows rest k = Putting rows₀ at width x rows rest k
+
+abbrev μ-loop : tie.MeasureT-loop
+μ-loop rows₀ at width x rest₀ k₀ rows rest k = width - k
+
+loop-holds : tie.Need-loop-holds Inv-loop μ-loop
+loop-holds c = put-none _ _ _ _
+
+cast-rows : tie.Need-cast-rows Inv-loop μ-loop
+cast-rows c = omega arith
+
+add-rows : tie.Need-add-rows Inv-loop μ-loop
+add-rows c = omega arith
+
+slice-write-rows : tie.Need-slice-write-rows Inv-loop μ-loop
+slice-write-rows c = omega arith
+
+add-k : tie.Need-add-k Inv-loop μ-loop
+add-k c = omega arith
+
+loop-less : tie.Need-loop-less Inv-loop μ-loop
+loop-less c = omega arith
+
+loop-again : tie.Need-loop-again Inv-loop μ-loop
+loop-again c = put-step _ _ _ _ _ _ _ (c .before .loop .inv) (c .loop-test .taken)
+
+same-length : tie.Need-same-length Inv-loop μ-loop
+same-length c = c .before .loop .inv .same
+
+returns : tie.Need-returns Inv-loop μ-loop
+returns c = put-done _ _ _ _ _ _ _ (c .before .loop .inv) (c .loop-test .left)
+
+pub put-spec : {M : Type 1} → statement M
+put-spec =
+    tie.close
+    (tie.spec
+    Inv-loop
+    μ-loop
+    loop-holds
+    cast-rows
+    add-rows
+    slice-write-rows
+    add-k
+    loop-less
+    loop-again
+    same-length
+    returns)

@@ -1,0 +1,241 @@
+-- With room for all, rows that were offered one after the other stand in their order, and the bytes past them as they were; and rows are
+-- read back from their bytes as they were written.
+use Prim.Native.Nat.{ℕ, suc, _+_, _*_, _-_, _/_, _≤_}
+use mathlib.Core.Bool.{Bool, true, false, cond}
+use mathlib.Core.List.{List, [], _∷_, _++_, append-assoc}
+use mathlib.Core.Path.{_≡_, refl, sym, ap, _∙_}
+use native.Mathlib.Omega.{arith}
+use lib.Dec.{T}
+use lib.ListN.{length, take, drop, set, length-append, length-drop}
+use lib.Seq.{sets, sets-eq, drop-drop, drop-at, take-at, drop-append-add, length-take-le}
+use lib.Ieee.{Float, binary64, fits, toBits}
+use lib.Ieee.Bits.{ofBits-toBits, toBits-lt}
+use borrow.Author.Tests.{lt-ltb}
+use Rattle.figures.specs.Figure.{totalLess, figureOf}
+use Rattle.layout.specs.Bytes.{u64At}
+use Rattle.rows.specs.Rows.{rowSize, insertRow, insertAll, sorted, little, figureBytes, figuresOf, encodeRow, encodeAll, lowAt}
+use Rattle.rows.specs.Held.{placeAt, insertFrom, insertAt, offerAt}
+use Rattle.rows.specs.Turns.{u64-drop, length-little, length-row}
+use Rattle.rows.specs.Each.{Every}
+use Rattle.rows.specs.Pour.{pour, u64-little}
+use Rattle.rows.specs.declared.SafeDial.{SafeDial}
+
+-- ---- a figure, read back
+
+figure-back : (x : Float) (t : List ℕ) → T (fits binary64 x) → figureOf (u64At (figureBytes x ++ t) 0) ≡ x
+figure-back x t h = rw (u64-little (toBits binary64 x) t (toBits-lt binary64 x h)) (ofBits-toBits binary64 x h)
+
+-- a figure that stands after k bytes
+pub figure-after : (x : Float) (p t : List ℕ) (k : ℕ) → length p ≡ k → T (fits binary64 x) → figureOf (u64At (p ++ (figureBytes x ++ t)) k) ≡ x
+figure-after x p t k e h =
+    let a : k ≡ k + 0 = omega arith in
+    let d : drop k (p ++ (figureBytes x ++ t)) ≡ figureBytes x ++ t = drop-at p (figureBytes x ++ t) k e in
+    ap (λ (i : ℕ). figureOf (u64At (p ++ (figureBytes x ++ t)) i)) a
+    ∙ ap figureOf (sym (u64-drop (p ++ (figureBytes x ++ t)) k 0))
+    ∙ ap (λ (m : List ℕ). figureOf (u64At m 0)) d
+    ∙ figure-back x t h
+
+unfoldable pub tailOf : SafeDial → List ℕ
+tailOf x = x .band ∷ 0 ∷ little 2 (x .rule)
+
+-- a row's bytes with what follows, opened at its figures
+pub parts :
+    (x : SafeDial) (t : List ℕ)
+    → encodeRow x ++ t
+    ≡ figureBytes (x .segment .«low_hz») ++ (figureBytes (x .segment .«high_hz») ++ (figureBytes (x .«dial_low_hz»)
+    ++ (figureBytes (x .«dial_high_hz») ++ (tailOf x ++ t))))
+unfolding encodeRow figuresOf tailOf
+parts x t = simp append-assoc
+
+pub eight : (x : Float) → length (figureBytes x) ≡ 8
+eight x = length-little 8 (toBits binary64 x)
+
+pub two-figures : (a b : Float) → length (figureBytes a ++ figureBytes b) ≡ 16
+two-figures a b = length-append (figureBytes a) (figureBytes b) ∙ (let p : length (figureBytes a) ≡ 8 = eight a in let q : length (figureBytes b) ≡ 8 = eight b in omega arith)
+
+pub low-back : (x : SafeDial) (t : List ℕ) → T (fits binary64 (x .«dial_low_hz»)) → lowAt (encodeRow x ++ t) 0 ≡ x .«dial_low_hz»
+low-back x t h =
+    rw (parts x t)
+    (rw (← append-assoc (figureBytes (x .segment .«low_hz»)) (figureBytes (x .segment .«high_hz»)) (figureBytes (x .«dial_low_hz») ++ (figureBytes (x .«dial_high_hz») ++ (tailOf x ++ t))))
+    (figure-after (x .«dial_low_hz») (figureBytes (x .segment .«low_hz») ++ figureBytes (x .segment .«high_hz»)) (figureBytes (x .«dial_high_hz») ++ (tailOf x ++ t)) 16 (two-figures (x .segment .«low_hz») (x .segment .«high_hz»)) h))
+
+-- ---- a row put in its place
+
+-- a lower dial is a figure that a double holds
+abbrev pub LowFits : SafeDial → Type 0
+LowFits x = T (fits binary64 (x .«dial_low_hz»))
+
+pub opened : (x : SafeDial) (ys : List SafeDial) → encodeAll (x ∷ ys) ≡ encodeRow x ++ encodeAll ys
+unfolding encodeAll
+opened x ys = refl
+
+-- where a row goes among others: after some, before the rest
+record Split (x : SafeDial) (held : List SafeDial) (rest : List ℕ) : Type 0 where
+  before : List SafeDial
+  after : List SafeDial
+  whole : held ≡ before ++ after
+  placed : placeAt (x .«dial_low_hz») (length held) (encodeAll held ++ rest) ≡ length before
+  put : insertRow x held ≡ before ++ (x ∷ after)
+
+split : (x : SafeDial) (held : List SafeDial) (rest : List ℕ) → Every LowFits held → Split x held rest
+unfolding placeAt insertRow
+split x [] rest f = record { before = []; after = []; whole = refl; placed = refl; put = refl }
+split x (y ∷ ys) rest f =
+    go (totalLess (x .«dial_low_hz») (y .«dial_low_hz»)) refl (split x ys rest (f .1))
+  where
+    bytes : encodeAll (y ∷ ys) ++ rest ≡ encodeRow y ++ (encodeAll ys ++ rest)
+    bytes = ap (λ (m : List ℕ). m ++ rest) (opened y ys) ∙ append-assoc (encodeRow y) (encodeAll ys) rest
+
+    asked : lowAt (encodeAll (y ∷ ys) ++ rest) 0 ≡ y .«dial_low_hz»
+    asked = rw bytes (low-back y (encodeAll ys ++ rest) (f .0))
+
+    next : drop rowSize (encodeAll (y ∷ ys) ++ rest) ≡ encodeAll ys ++ rest
+    next = rw bytes (drop-at (encodeRow y) (encodeAll ys ++ rest) rowSize (length-row y))
+
+    go :
+        (b : Bool) → totalLess (x .«dial_low_hz») (y .«dial_low_hz») ≡ b → Split x ys rest
+        → Split x (y ∷ ys) rest
+    go true e s =
+        record {
+          before = [];
+          after = y ∷ ys;
+          whole = refl;
+          placed = rw asked (rw e);
+          put = rw e;
+        }
+    go false e s =
+        record {
+          before = y ∷ s .before;
+          after = s .after;
+          whole = ap (λ (m : List SafeDial). y ∷ m) (s .whole);
+          placed = rw asked (rw e (rw next (ap suc (s .placed))));
+          put = rw e (ap (λ (m : List SafeDial). y ∷ m) (s .put));
+        }
+
+encode-append : (xs ys : List SafeDial) → encodeAll (xs ++ ys) ≡ encodeAll xs ++ encodeAll ys
+unfolding encodeAll
+encode-append [] ys = refl
+encode-append (x ∷ xs) ys = rw (encode-append xs ys) (sym (append-assoc (encodeRow x) (encodeAll xs) (encodeAll ys)))
+
+pub length-encode : (xs : List SafeDial) → length (encodeAll xs) ≡ length xs * rowSize
+unfolding encodeAll
+length-encode [] = refl
+length-encode (x ∷ xs) =
+    let a : length (encodeAll xs) ≡ length xs * rowSize = length-encode xs in
+    let b : length (encodeRow x) ≡ rowSize = length-row x in
+    length-append (encodeRow x) (encodeAll xs) ∙ omega arith
+
+sets-past : (a l v : List ℕ) (k : ℕ) → sets (a ++ l) (length a + k) v ≡ a ++ sets l k v
+sets-past [] l v k = let e : 0 + k ≡ k = omega arith in rw e
+sets-past (x ∷ a) l v k =
+    let e : suc (length a) + k ≡ suc (length a + k) = omega arith in
+    rw e (lift v (a ++ l) (length a + k) ∙ ap (λ (m : List ℕ). x ∷ m) (sets-past a l v k))
+  where
+    lift : (v l : List ℕ) (k : ℕ) → sets (x ∷ l) (suc k) v ≡ x ∷ sets l k v
+    lift [] l k = refl
+    lift (w ∷ v) l k = lift v (set l k w) (suc k)
+
+-- b moved up by a row, and a row put before it
+gap-front : (b c v : List ℕ) → length v ≡ rowSize → rowSize ≤ length c → sets (sets (b ++ c) rowSize b) 0 v ≡ v ++ (b ++ drop rowSize c)
+gap-front b c v hv hc =
+    let n : length (b ++ c) ≡ length b + length c = length-append b c in
+    let m : rowSize + length b ≡ length b + rowSize = omega arith in
+    let d : drop (rowSize + length b) (b ++ c) ≡ drop rowSize c = ap (λ (k : ℕ). drop k (b ++ c)) m ∙ drop-append-add b c rowSize in
+    let s : sets (b ++ c) rowSize b ≡ take rowSize (b ++ c) ++ (b ++ drop rowSize c) =
+    sets-eq b (b ++ c) rowSize (omega arith)
+    ∙ ap (λ (r : List ℕ). take rowSize (b ++ c) ++ b ++ r) d
+    ∙ append-assoc (take rowSize (b ++ c)) b (drop rowSize c) in
+    let t : length (take rowSize (b ++ c)) ≡ rowSize = length-take-le rowSize (b ++ c) (omega arith) in
+    let w : length (take rowSize (b ++ c) ++ (b ++ drop rowSize c)) ≡ length (take rowSize (b ++ c)) + length (b ++ drop rowSize c) = length-append (take rowSize (b ++ c)) (b ++ drop rowSize c) in
+    let z : 0 + length v ≡ rowSize = omega arith in
+    rw s
+    (sets-eq v (take rowSize (b ++ c) ++ (b ++ drop rowSize c)) 0 (omega arith)
+    ∙ ap (λ (k : ℕ). v ++ drop k (take rowSize (b ++ c) ++ (b ++ drop rowSize c))) z
+    ∙ ap (λ (r : List ℕ). v ++ r) (drop-at (take rowSize (b ++ c)) (b ++ drop rowSize c) rowSize t))
+
+gap :
+    (a b c v : List ℕ) → length v ≡ rowSize → rowSize ≤ length c
+    → sets (sets (a ++ (b ++ c)) (length a + rowSize) b) (length a) v ≡ a ++ (v ++ (b ++ drop rowSize c))
+gap a b c v hv hc =
+    let z : length a ≡ length a + 0 = omega arith in
+    ap (λ (m : List ℕ). sets m (length a) v) (sets-past a (b ++ c) b rowSize)
+    ∙ ap (λ (k : ℕ). sets (a ++ sets (b ++ c) rowSize b) k v) z
+    ∙ sets-past a (sets (b ++ c) rowSize b) v 0
+    ∙ ap (λ (m : List ℕ). a ++ m) (gap-front b c v hv hc)
+
+insert-held :
+    (x : SafeDial) (held : List SafeDial) (rest : List ℕ) → Every LowFits held → rowSize ≤ length rest
+    → insertAt x (length held) (encodeAll held ++ rest) ≡ encodeAll (insertRow x held) ++ drop rowSize rest
+unfolding insertAt insertFrom
+insert-held x held rest f h = go (split x held rest f)
+  where
+    go : Split x held rest → insertAt x (length held) (encodeAll held ++ rest) ≡ encodeAll (insertRow x held) ++ drop rowSize rest
+    go s =
+        let a = encodeAll (s .before) in
+        let b = encodeAll (s .after) in
+        let at = length (s .before) * rowSize in
+        let to = length held * rowSize in
+        let la : length a ≡ at = length-encode (s .before) in
+        let lb : length b ≡ length (s .after) * rowSize = length-encode (s .after) in
+        let n : length held ≡ length (s .before) + length (s .after) = ap length (s .whole) ∙ length-append (s .before) (s .after) in
+        let l : encodeAll held ++ rest ≡ a ++ (b ++ rest) =
+        ap (λ (m : List SafeDial). encodeAll m ++ rest) (s .whole) ∙ ap (λ (m : List ℕ). m ++ rest) (encode-append (s .before) (s .after)) ∙ append-assoc a b rest in
+        let moved : take (to - at) (drop at (a ++ (b ++ rest))) ≡ b =
+        ap (λ (m : List ℕ). take (to - at) m) (drop-at a (b ++ rest) at la) ∙ take-at b rest (to - at) (omega arith) in
+        let put : encodeAll (insertRow x held) ≡ a ++ (encodeRow x ++ b) =
+        ap encodeAll (s .put) ∙ encode-append (s .before) (x ∷ s .after) ∙ ap (λ (m : List ℕ). a ++ m) (opened x (s .after)) in
+        ap (λ (p : ℕ). insertFrom x (p * rowSize) to (encodeAll held ++ rest)) (s .placed)
+        ∙ ap (λ (m : List ℕ). insertFrom x at to m) l
+        ∙ ap (λ (m : List ℕ). sets (sets (a ++ (b ++ rest)) (at + rowSize) m) at (encodeRow x)) moved
+        ∙ ap (λ (k : ℕ). sets (sets (a ++ (b ++ rest)) (k + rowSize) b) k (encodeRow x)) (sym la)
+        ∙ gap a b rest (encodeRow x) (length-row x) h
+        ∙ ap (λ (m : List ℕ). a ++ m) (sym (append-assoc (encodeRow x) b (drop rowSize rest)))
+        ∙ sym (append-assoc a (encodeRow x ++ b) (drop rowSize rest))
+        ∙ ap (λ (m : List ℕ). m ++ drop rowSize rest) (sym put)
+
+pub every-insert : (P : SafeDial → Type 0) (x : SafeDial) (held : List SafeDial) → P x → Every P held → Every P (insertRow x held)
+unfolding insertRow
+every-insert P x [] p q = (p, tt)
+every-insert P x (y ∷ ys) p q = go (totalLess (x .«dial_low_hz») (y .«dial_low_hz»)) (every-insert P x ys p (q .1))
+  where
+    go : (b : Bool) → Every P (insertRow x ys) → Every P (cond b (x ∷ (y ∷ ys)) (y ∷ insertRow x ys))
+    go true r = (p, q)
+    go false r = (q .0, r)
+
+pub length-insert : (x : SafeDial) (held : List SafeDial) → length (insertRow x held) ≡ suc (length held)
+unfolding insertRow
+length-insert x [] = refl
+length-insert x (y ∷ ys) = go (totalLess (x .«dial_low_hz») (y .«dial_low_hz»)) (length-insert x ys)
+  where
+    go : (b : Bool) → length (insertRow x ys) ≡ suc (length ys) → length (cond b (x ∷ (y ∷ ys)) (y ∷ insertRow x ys)) ≡ suc (suc (length ys))
+    go true r = refl
+    go false r = ap suc r
+
+offer-held :
+    (x : SafeDial) (held : List SafeDial) (rest : List ℕ) → Every LowFits held → rowSize ≤ length rest
+    → offerAt x (length held) (encodeAll held ++ rest) ≡ encodeAll (insertRow x held) ++ drop rowSize rest
+unfolding offerAt
+offer-held x held rest f h =
+    let a : length (encodeAll held ++ rest) ≡ length (encodeAll held) + length rest = length-append (encodeAll held) rest in
+    let b : length (encodeAll held) ≡ length held * rowSize = length-encode held in
+    rw (lt-ltb (length held) (length (encodeAll held ++ rest) / rowSize) (omega arith)) (insert-held x held rest f h)
+
+pour-held :
+    (ys held : List SafeDial) (rest : List ℕ) → Every LowFits held → Every LowFits ys → length ys * rowSize ≤ length rest
+    → pour (encodeAll held ++ rest) (length held) ys ≡ encodeAll (insertAll held ys) ++ drop (length ys * rowSize) rest
+unfolding pour insertAll
+pour-held [] held rest f g h = refl
+pour-held (y ∷ ys) held rest f g h =
+    let n : suc (length ys) * rowSize ≡ rowSize + length ys * rowSize = omega arith in
+    let d : length (drop rowSize rest) ≡ length rest - rowSize = length-drop rowSize rest in
+    ap (λ (m : List ℕ). pour m (suc (length held)) ys) (offer-held y held rest f (omega arith))
+    ∙ ap (λ (k : ℕ). pour (encodeAll (insertRow y held) ++ drop rowSize rest) k ys) (sym (length-insert y held))
+    ∙ pour-held ys (insertRow y held) (drop rowSize rest) (every-insert LowFits y held (g .0) f) (g .1) (omega arith)
+    ∙ ap (λ (m : List ℕ). encodeAll (insertAll (insertRow y held) ys) ++ m) (drop-drop (length ys * rowSize) rowSize rest ∙ ap (λ (k : ℕ). drop k rest) (sym n))
+
+-- Rows that all have room: they stand first, in their order, and every byte after them is as it was.
+pub pour-all :
+    (l : List ℕ) (xs : List SafeDial) → Every LowFits xs → length xs * rowSize ≤ length l
+    → pour l 0 xs ≡ encodeAll (sorted xs) ++ drop (length xs * rowSize) l
+unfolding encodeAll
+pour-all l xs f h = pour-held xs [] l tt f h

@@ -1,0 +1,8 @@
+pub mod Rows
+pub mod Held
+pub mod Turns
+pub mod Each
+pub mod Pour
+pub mod Back
+pub mod Order
+pub mod Read

@@ -1,0 +1,233 @@
+-- What the loops over bytes know at each turn.
+use Prim.Native.Nat.{ℕ, zero, suc, _+_, _*_, _-_, _/_, _%_, _<_, _≤_}
+use mathlib.Core.Bool.{Bool, true, false, cond}
+use mathlib.Core.List.{List, [], _∷_, _++_}
+use mathlib.Core.Path.{_≡_, refl, sym, ap, _∙_}
+use native.Mathlib.Omega.{arith}
+use native.Mathlib.Nat.{add-assoc}
+use lib.ListN.{length, getD, take, drop, set, length-set, length-append}
+use lib.Seq.{sets, set-comm, getD-set-other, getD-drop, drop-cons, drop-drop}
+use lib.Ieee.{Float}
+use Rattle.figures.specs.Figure.{totalLess, figureOf}
+use Rattle.layout.specs.Bytes.{u16At, u32At, u64At}
+use Rattle.rows.specs.Rows.{rowSize, little, figureBytes, figuresOf, encodeRow, lowAt}
+use Rattle.rows.specs.declared.SafeDial.{SafeDial}
+use Rattle.rows.specs.Held.{placeAt}
+
+-- ---- a number put byte by byte
+
+pub record Putting (l₀ : List ℕ) (at width x : ℕ) (l : List ℕ) (rest k : ℕ) : Type 0 where
+  pub within : k ≤ width
+  pub same : length l ≡ length l₀
+  pub left : sets l (at + k) (little (width - k) rest) ≡ sets l₀ at (little width x)
+
+module _ (l₀ : List ℕ) (at width x : ℕ) where
+  pub put-none : Putting l₀ at width x l₀ x 0
+  put-none =
+      let a : at + 0 ≡ at = omega arith in
+      let b : width - 0 ≡ width = omega arith in
+      record { within = omega arith; same = refl; left = rw a (rw b) }
+
+  pub put-step :
+      (l : List ℕ) (rest k : ℕ) → Putting l₀ at width x l rest k → k < width
+      → Putting l₀ at width x (set l (at + k) (rest % 256)) (rest / 256) (k + 1)
+  unfolding little
+  put-step l rest k p h =
+      let a : at + (k + 1) ≡ suc (at + k) = omega arith in
+      let b : width - k ≡ suc (width - (k + 1)) = omega arith in
+      record {
+        within = omega arith;
+        same = length-set l (at + k) (rest % 256) ∙ p .same;
+        left = rw a (rw b at (p .left));
+      }
+
+  pub put-done : (l : List ℕ) (rest k : ℕ) → Putting l₀ at width x l rest k → width ≤ k → l ≡ sets l₀ at (little width x)
+  unfolding little
+  put-done l rest k p h =
+      let b : width - k ≡ 0 = omega arith in
+      rw b at (p .left)
+
+-- ---- bytes moved up by a row
+
+sets-set : {A : Type 0} (vs l : List A) (j i : ℕ) (v : A) → i < j → set (sets l j vs) i v ≡ sets (set l i v) j vs
+sets-set [] l j i v h = refl
+sets-set (w ∷ vs) l j i v h =
+    sets-set vs (set l j w) (suc j) i v (omega arith)
+    ∙ ap (λ (m : List _). sets m (suc j) vs) (set-comm l j i w v (λ e. omega arith))
+
+sets-below : {A : Type 0} (vs l : List A) (j i : ℕ) (d : A) → i < j → getD (sets l j vs) i d ≡ getD l i d
+sets-below [] l j i d h = refl
+sets-below (w ∷ vs) l j i d h =
+    sets-below vs (set l j w) (suc j) i d (omega arith)
+    ∙ getD-set-other l j i w d (λ e. omega arith)
+
+pub record Shifting (l₀ : List ℕ) (from to : ℕ) (l : List ℕ) (k : ℕ) : Type 0 where
+  pub above : from ≤ k
+  pub below : k ≤ to
+  pub same : length l ≡ length l₀
+  pub held : l ≡ sets l₀ (k + rowSize) (take (to - k) (drop k l₀))
+
+module _ (l₀ : List ℕ) (from to : ℕ) where
+  pub shift-none : from ≤ to → Shifting l₀ from to l₀ to
+  shift-none h =
+      let a : to - to ≡ 0 = omega arith in
+      record { above = h; below = omega arith; same = refl; held = rw a }
+
+  pub shift-step :
+      (l : List ℕ) (k : ℕ) → Shifting l₀ from to l k → from < k → to + rowSize ≤ length l₀
+      → Shifting l₀ from to (set l (k - 1 + rowSize) (getD l (k - 1) 0)) (k - 1)
+  shift-step l k p h fit =
+      let j = k - 1 in
+      let e : k ≡ suc j = omega arith in
+      let q : to - j ≡ suc (to - k) = omega arith in
+      let b : j < length l₀ = omega (arith, p .below) in
+      let r : k + rowSize ≡ suc (j + rowSize) = omega arith in
+      let v : getD l j 0 ≡ getD l₀ j 0 =
+      ap (λ (m : List ℕ). getD m j 0) (p .held) ∙ sets-below (take (to - k) (drop k l₀)) l₀ (k + rowSize) j 0 (omega arith) in
+      let d : drop j l₀ ≡ getD l₀ j 0 ∷ drop k l₀ = drop-cons l₀ j 0 b ∙ ap (λ (n : ℕ). getD l₀ j 0 ∷ drop n l₀) (sym e) in
+      let w : take (to - j) (drop j l₀) ≡ getD l₀ j 0 ∷ take (to - k) (drop k l₀) =
+      ap (λ (n : ℕ). take n (drop j l₀)) q ∙ ap (λ (m : List ℕ). take (suc (to - k)) m) d in
+      let s : set l (j + rowSize) (getD l j 0) ≡ sets (set l₀ (j + rowSize) (getD l₀ j 0)) (k + rowSize) (take (to - k) (drop k l₀)) =
+      ap (λ (x : ℕ). set l (j + rowSize) x) v
+      ∙ ap (λ (m : List ℕ). set m (j + rowSize) (getD l₀ j 0)) (p .held)
+      ∙ sets-set (take (to - k) (drop k l₀)) l₀ (k + rowSize) (j + rowSize) (getD l₀ j 0) (omega arith) in
+      record {
+        above = omega arith;
+        below = omega (arith, p .below);
+        same = length-set l (j + rowSize) (getD l j 0) ∙ p .same;
+        held =
+            s ∙ ap (λ (n : ℕ). sets (set l₀ (j + rowSize) (getD l₀ j 0)) n (take (to - k) (drop k l₀))) r
+            ∙ ap (λ (m : List ℕ). sets l₀ (j + rowSize) m) (sym w);
+      }
+
+  pub shift-done : (l : List ℕ) (k : ℕ) → Shifting l₀ from to l k → k ≤ from → l ≡ sets l₀ (from + rowSize) (take (to - from) (drop from l₀))
+  shift-done l k p h =
+      let e : k ≡ from = omega (arith, p .above) in
+      rw e at (p .held)
+
+-- ---- the place of a row
+
+pub u16-drop : (l : List ℕ) (m k : ℕ) → u16At (drop m l) k ≡ u16At l (m + k)
+unfolding u16At
+u16-drop l m k = rw (getD-drop m l k 0, getD-drop m l (k + 1) 0, add-assoc m k 1)
+
+u32-drop : (l : List ℕ) (m k : ℕ) → u32At (drop m l) k ≡ u32At l (m + k)
+unfolding u32At
+u32-drop l m k = rw (u16-drop l m k, u16-drop l m (k + 2), add-assoc m k 2)
+
+pub u64-drop : (l : List ℕ) (m k : ℕ) → u64At (drop m l) k ≡ u64At l (m + k)
+unfolding u64At
+u64-drop l m k = rw (u32-drop l m k, u32-drop l m (k + 4), add-assoc m k 4)
+
+pub record Placing (key : Float) (n : ℕ) (l : List ℕ) (i : ℕ) : Type 0 where
+  pub within : i ≤ n
+  pub rest : placeAt key n l ≡ i + placeAt key (n - i) (drop (i * rowSize) l)
+
+module _ (key : Float) (n : ℕ) (l : List ℕ) where
+  pub place-none : Placing key n l 0
+  place-none =
+      let a : n - 0 ≡ n = omega arith in
+      let b : (m : ℕ) → 0 + m ≡ m = λ m. omega arith in
+      record { within = omega arith; rest = rw a (sym (b (placeAt key n l))) }
+
+  -- the row at i, asked
+  turn :
+      (i : ℕ) → i < n
+      → placeAt key (n - i) (drop (i * rowSize) l)
+      ≡ cond (totalLess key (figureOf (u64At l (i * rowSize + 16)))) 0 (suc (placeAt key (n - (i + 1)) (drop ((i + 1) * rowSize) l)))
+  unfolding placeAt
+  turn i h =
+      let e : n - i ≡ suc (n - (i + 1)) = omega arith in
+      let f : (i + 1) * rowSize ≡ i * rowSize + rowSize = omega arith in
+      rw e (rw f (rw (u64-drop l (i * rowSize) 16, drop-drop rowSize (i * rowSize) l)))
+
+  pub place-here :
+      (i : ℕ) → i < n → Placing key n l i → totalLess key (figureOf (u64At l (i * rowSize + 16))) ≡ true → i ≡ placeAt key n l
+  place-here i h p e =
+      let t : placeAt key (n - i) (drop (i * rowSize) l) ≡ 0 =
+      turn i h ∙ ap (λ (b : Bool). cond b 0 (suc (placeAt key (n - (i + 1)) (drop ((i + 1) * rowSize) l)))) e in
+      omega (arith, p .rest)
+
+  pub place-step :
+      (i : ℕ) → i < n → Placing key n l i → totalLess key (figureOf (u64At l (i * rowSize + 16))) ≡ false → Placing key n l (i + 1)
+  place-step i h p e =
+      let t : placeAt key (n - i) (drop (i * rowSize) l) ≡ suc (placeAt key (n - (i + 1)) (drop ((i + 1) * rowSize) l)) =
+      turn i h ∙ ap (λ (b : Bool). cond b 0 (suc (placeAt key (n - (i + 1)) (drop ((i + 1) * rowSize) l)))) e in
+      record { within = omega arith; rest = omega (arith, p .rest) }
+
+  pub place-end : (i : ℕ) → n ≤ i → Placing key n l i → n ≡ placeAt key n l
+  unfolding placeAt
+  place-end i h p =
+      let e : n - i ≡ 0 = omega arith in
+      let t : placeAt key (n - i) (drop (i * rowSize) l) ≡ 0 = rw e in
+      omega (arith, p .rest, p .within)
+
+pub place-le : (key : Float) (n : ℕ) (l : List ℕ) → placeAt key n l ≤ n
+unfolding placeAt
+place-le key zero l = omega arith
+place-le key (suc n) l = go (totalLess key (lowAt l 0)) (place-le key n (drop rowSize l))
+  where
+    go : (b : Bool) → placeAt key n (drop rowSize l) ≤ n → cond b 0 (suc (placeAt key n (drop rowSize l))) ≤ suc n
+    go true h = omega arith
+    go false h = omega arith
+
+-- ---- field after field
+
+pub length-little : (w x : ℕ) → length (little w x) ≡ w
+unfolding little
+length-little zero x = refl
+length-little (suc w) x = ap suc (length-little w (x / 256))
+
+pub sets-append : {A : Type 0} (a b l : List A) (at : ℕ) → sets (sets l at a) (at + length a) b ≡ sets l at (a ++ b)
+sets-append [] b l at = let e : at + 0 ≡ at = omega arith in rw e
+sets-append (x ∷ a) b l at =
+    let e : at + suc (length a) ≡ suc at + length a = omega arith in
+    ap (λ (n : ℕ). sets (sets (set l at x) (suc at) a) n b) e ∙ sets-append a b (set l at x) (suc at)
+
+sets-next : (a b l : List ℕ) (at n : ℕ) → at + length a ≡ n → sets (sets l at a) n b ≡ sets l at (a ++ b)
+sets-next a b l at n e = ap (λ (m : ℕ). sets (sets l at a) m b) (sym e) ∙ sets-append a b l at
+
+sets-four :
+    (a b c d l : List ℕ) (at : ℕ) → length a ≡ 8 → length b ≡ 8 → length c ≡ 8
+    → sets (sets (sets (sets l at a) (at + 8) b) (at + 16) c) (at + 24) d ≡ sets l at (a ++ (b ++ (c ++ d)))
+sets-four a b c d l at ha hb hc =
+    let k : at + 8 + length b ≡ at + 16 = omega arith in
+    let m : at + 16 + length c ≡ at + 24 = omega arith in
+    sets-next c d (sets (sets l at a) (at + 8) b) (at + 16) (at + 24) m
+    ∙ sets-next b (c ++ d) (sets l at a) (at + 8) (at + 16) k
+    ∙ sets-next a (b ++ (c ++ d)) l at (at + 8) (omega arith)
+
+sets-tail :
+    (f r l : List ℕ) (at b : ℕ) → length f ≡ 32
+    → sets (set (set (sets l at f) (at + 32) b) (at + 33) 0) (at + 34) r ≡ sets l at (f ++ (b ∷ 0 ∷ r))
+sets-tail f r l at b h =
+    let k : at + 33 ≡ suc (at + 32) = omega arith in
+    let m : at + 34 ≡ suc (suc (at + 32)) = omega arith in
+    let e : sets (sets l at f) (at + 32) (b ∷ 0 ∷ r) ≡ sets l at (f ++ (b ∷ 0 ∷ r)) = sets-next f (b ∷ 0 ∷ r) l at (at + 32) (omega arith) in
+    rw k (rw m e)
+
+pub length-figures : (x : SafeDial) → length (figuresOf x) ≡ 32
+unfolding figuresOf
+length-figures x = simp (length-append, length-little)
+
+pub length-row : (x : SafeDial) → length (encodeRow x) ≡ rowSize
+unfolding encodeRow
+length-row x = simp (length-append, length-figures, length-little)
+
+-- the four figures of a row, one after the other
+pub figures-set :
+    (x : SafeDial) (l : List ℕ) (at : ℕ)
+    → sets (sets (sets (sets l at (figureBytes (x .segment .«low_hz»))) (at + 8) (figureBytes (x .segment .«high_hz»))) (at + 16)
+    (figureBytes (x .«dial_low_hz»))) (at + 24) (figureBytes (x .«dial_high_hz»))
+    ≡ sets l at (figuresOf x)
+unfolding figuresOf
+figures-set x l at =
+    sets-four (figureBytes (x .segment .«low_hz»)) (figureBytes (x .segment .«high_hz»)) (figureBytes (x .«dial_low_hz»))
+    (figureBytes (x .«dial_high_hz»)) l at (length-little 8 _) (length-little 8 _) (length-little 8 _)
+
+-- and what follows them
+pub row-set :
+    (x : SafeDial) (l : List ℕ) (at : ℕ)
+    → sets (set (set (sets l at (figuresOf x)) (at + 32) (x .band)) (at + 33) 0) (at + 34) (little 2 (x .rule)) ≡ sets l at (encodeRow x)
+unfolding encodeRow
+row-set x l at = sets-tail (figuresOf x) (little 2 (x .rule)) l at (x .band) (length-figures x)

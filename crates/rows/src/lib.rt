@@ -1,0 +1,115 @@
+// Rows of a dial list in lent bytes: 36 bytes a row, in a stable order by lower dial. Every offset of a row stands here.
+// It uses figures, profile and layout.
+use profile::Range;
+ghost use mathlib.Core.Path.{_≡_};
+ghost use Prim.Native.Nat.{_+_, _*_, _-_, _≤_, _<_};
+ghost use lib.ListN.{length, take, drop};
+ghost use lib.Seq.{sets};
+ghost use lib.Ieee.{binary64, toBits};
+ghost use Rattle.rows.specs.Rows.{little, figuresOf, encodeRow};
+ghost use Rattle.rows.specs.Held.{placeAt, insertAt, offerAt};
+
+pub const ROW_SIZE: usize = 36;
+
+// A range of dials, and the range on the air that it keeps to.
+pub struct SafeDial {
+    pub band: u8,
+    pub segment: Range,
+    pub rule: u16,
+    pub dial_low_hz: f64,
+    pub dial_high_hz: f64,
+}
+
+// A figure's bits. A NaN has many: it gets those that `toBits` says.
+fn bits(x: f64) -> u64
+    ensures { λ r. ⌜ r ≡ toBits binary64 x ⌝ }
+{
+    if x != x {
+        return 0x7ff8_0000_0000_0000;
+    }
+    f64::to_bits(x)
+}
+
+// A number, little-endian, in the width bytes from at on.
+fn put(rows: &mut [u8], at: usize, width: usize, x: u64)
+    requires { ⌜ at + width ≤ length (now rows) ⌝ }
+    ensures { λ r. ⌜ now (rows .exit) ≡ sets (now (rows .entry)) at (little width x) ⌝ }
+{
+    let mut rest = x;
+    let mut k: usize = 0;
+    while k < width {
+        rows[at + k] = (rest % 256) as u8;
+        rest = rest / 256;
+        k += 1;
+    }
+}
+
+// The four figures of a row.
+fn put_figures(rows: &mut [u8], at: usize, row: SafeDial)
+    requires { ⌜ at + 36 ≤ length (now rows) ⌝ }
+    ensures { λ r. ⌜ now (rows .exit) ≡ sets (now (rows .entry)) at (figuresOf row) ⌝ }
+{
+    put(rows, at, 8, bits(row.segment.low_hz));
+    put(rows, at + 8, 8, bits(row.segment.high_hz));
+    put(rows, at + 16, 8, bits(row.dial_low_hz));
+    put(rows, at + 24, 8, bits(row.dial_high_hz));
+}
+
+// A row, in the 36 bytes from at on.
+fn put_row(rows: &mut [u8], at: usize, row: SafeDial)
+    requires { ⌜ at + 36 ≤ length (now rows) ⌝ }
+    ensures { λ r. ⌜ now (rows .exit) ≡ sets (now (rows .entry)) at (encodeRow row) ⌝ }
+{
+    put_figures(rows, at, row);
+    rows[at + 32] = row.band;
+    rows[at + 33] = 0;
+    put(rows, at + 34, 2, row.rule as u64);
+}
+
+// The place of a lower dial among the first count rows: before the first row that lies above it.
+fn place(rows: &[u8], count: usize, dial_low_hz: f64) -> usize
+    requires { ⌜ count * 36 ≤ length (now rows) ⌝ }
+    ensures { λ r. ⌜ r ≡ placeAt «dial_low_hz» count (now (rows .entry)) ⌝ }
+{
+    let mut i: usize = 0;
+    while i < count {
+        let held = figures::figure(layout::u64_at(rows, i * ROW_SIZE + 16));
+        if figures::total_less(dial_low_hz, held) {
+            return i;
+        }
+        i += 1;
+    }
+    count
+}
+
+// Moves the bytes between two places up by a row, the last first.
+fn shift(rows: &mut [u8], from: usize, to: usize)
+    requires { ⌜ (from ≤ to) × (to + 36 ≤ length (now rows)) ⌝ }
+    ensures { λ r. ⌜ now (rows .exit) ≡ sets (now (rows .entry)) (from + 36) (take (to - from) (drop from (now (rows .entry)))) ⌝ }
+{
+    let mut k = to;
+    while from < k {
+        k -= 1;
+        rows[k + ROW_SIZE] = rows[k];
+    }
+}
+
+// Puts a row in its place among the first count rows.
+fn insert(rows: &mut [u8], count: usize, row: SafeDial)
+    requires { ⌜ count * 36 + 36 ≤ length (now rows) ⌝ }
+    ensures { λ r. ⌜ now (rows .exit) ≡ insertAt row count (now (rows .entry)) ⌝ }
+{
+    let end = count * ROW_SIZE;
+    let at = place(rows, count, row.dial_low_hz) * ROW_SIZE;
+    shift(rows, at, end);
+    put_row(rows, at, row);
+}
+
+// The same where there is room for one row more than count; else nothing.
+pub fn offer(rows: &mut [u8], count: usize, row: SafeDial)
+    ensures { λ r. ⌜ now (rows .exit) ≡ offerAt row count (now (rows .entry)) ⌝ }
+{
+    if count < rows.len() / ROW_SIZE {
+        insert(rows, count, row);
+    }
+}
