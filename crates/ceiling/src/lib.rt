@@ -1,5 +1,5 @@
 // The ceiling: the fastest rung that may be sent, and the verdict on the first that may not. A public call. It uses figures,
-// codes, occupancy, profile, station, entry, decision and verdict.
+// codes, occupancy, profile, station, layout, entry, decision and verdict; its definitions use scan too.
 use codes::Checked;
 use codes::Direction;
 use codes::EmissionKind;
@@ -11,9 +11,7 @@ use station::Situation;
 use station::StationRecord;
 ghost use Prim.Native.Nat.{_+_, _*_, _<_, _/_};
 ghost use mathlib.Core.Path.{_≡_};
-ghost use mathlib.Core.Bool.{_||_};
 ghost use lib.ListN.{length};
-ghost use Rattle.codes.specs.Read.{directionValid};
 ghost use Rattle.codes.specs.Refusal.{refusalOf};
 ghost use Rattle.codes.specs.declared.Policy.the-variants.{Rules};
 ghost use Rattle.layout.specs.Form.{Whole};
@@ -48,7 +46,7 @@ pub struct CeilingAnswer {
     pub limit: Decision,
 }
 
-pub fn figure_at(s: &[f64], at: usize) -> f64
+fn figure_at(s: &[f64], at: usize) -> f64
     requires { ⌜ at < length (now s) ⌝ }
     ensures { λ x. ⌜ x ≡ figureAt (now (s .entry)) at ⌝ }
 {
