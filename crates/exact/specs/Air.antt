@@ -31,19 +31,19 @@ module _ (dial low high margin : Float) (D : Figure dial) (L : Figure low) (H : 
   lsb-high = sub-eighths (D .eighths) (L .eighths) (omega arith)
 
   pub guarded-usb-low :
-    Eighths (guardedOf margin (rfRangeOf dial Usb (range low high)) .«low_hz») (up dial + up low + down margin) (down dial + down low + up margin)
+      Eighths (guardedOf margin (rfRangeOf dial Usb (range low high)) .«low_hz») (up dial + up low + down margin) (down dial + down low + up margin)
   guarded-usb-low = sub-eighths usb-low (M .eighths) (omega arith)
 
   pub guarded-usb-high :
-    Eighths (guardedOf margin (rfRangeOf dial Usb (range low high)) .«high_hz») (up dial + up high + up margin) (down dial + down high + down margin)
+      Eighths (guardedOf margin (rfRangeOf dial Usb (range low high)) .«high_hz») (up dial + up high + up margin) (down dial + down high + down margin)
   guarded-usb-high = add-eighths usb-high (M .eighths) (omega arith)
 
   pub guarded-lsb-low :
-    Eighths (guardedOf margin (rfRangeOf dial Lsb (range low high)) .«low_hz») (up dial + down high + down margin) (down dial + up high + up margin)
+      Eighths (guardedOf margin (rfRangeOf dial Lsb (range low high)) .«low_hz») (up dial + down high + down margin) (down dial + up high + up margin)
   guarded-lsb-low = sub-eighths lsb-low (M .eighths) (omega arith)
 
   pub guarded-lsb-high :
-    Eighths (guardedOf margin (rfRangeOf dial Lsb (range low high)) .«high_hz») (up dial + down low + up margin) (down dial + up low + down margin)
+      Eighths (guardedOf margin (rfRangeOf dial Lsb (range low high)) .«high_hz») (up dial + down low + up margin) (down dial + up low + down margin)
   guarded-lsb-high = add-eighths lsb-high (M .eighths) (omega arith)
 
 -- the width, and the ends of a dial range, for a piece from one figure to another
@@ -52,28 +52,28 @@ module _ (from to low high margin : Float) (P : Figure from) (Q : Figure to) (L 
   width = sub-eighths (H .eighths) (L .eighths) (omega arith)
 
   pub dial-usb-low :
-    Eighths (dialEndsOf (range from to) Usb (range low high) margin .«low_hz») (up from + down low + up margin) (down from + up low + down margin)
+      Eighths (dialEndsOf (range from to) Usb (range low high) margin .«low_hz») (up from + down low + up margin) (down from + up low + down margin)
   dial-usb-low = add-eighths (sub-eighths (P .eighths) (L .eighths) (omega arith)) (M .eighths) (omega arith)
 
   pub dial-usb-high :
-    Eighths (dialEndsOf (range from to) Usb (range low high) margin .«high_hz») (up to + down high + down margin) (down to + up high + up margin)
+      Eighths (dialEndsOf (range from to) Usb (range low high) margin .«high_hz») (up to + down high + down margin) (down to + up high + up margin)
   dial-usb-high = sub-eighths (sub-eighths (Q .eighths) (H .eighths) (omega arith)) (M .eighths) (omega arith)
 
   pub dial-lsb-low :
-    Eighths (dialEndsOf (range from to) Lsb (range low high) margin .«low_hz») (up from + up high + up margin) (down from + down high + down margin)
+      Eighths (dialEndsOf (range from to) Lsb (range low high) margin .«low_hz») (up from + up high + up margin) (down from + down high + down margin)
   dial-lsb-low = add-eighths (add-eighths (P .eighths) (H .eighths) (omega arith)) (M .eighths) (omega arith)
 
   pub dial-lsb-high :
-    Eighths (dialEndsOf (range from to) Lsb (range low high) margin .«high_hz») (up to + up low + down margin) (down to + down low + up margin)
+      Eighths (dialEndsOf (range from to) Lsb (range low high) margin .«high_hz») (up to + up low + down margin) (down to + down low + up margin)
   dial-lsb-high = sub-eighths (add-eighths (Q .eighths) (L .eighths) (omega arith)) (M .eighths) (omega arith)
 
 -- a distance, from a dial to an end of a row: the row's end is a sum of three figures
 pub distance :
-  (dial end : Float) (p q : ℕ) → Figure dial → Eighths end p q → p ≤ 3 * 2 ^ 43 → q ≤ 3 * 2 ^ 43
-  → Eighths (sub binary64 end dial) (p + down dial) (q + up dial)
+    (dial end : Float) (p q : ℕ) → Figure dial → Eighths end p q → p ≤ 3 * 2 ^ 43 → q ≤ 3 * 2 ^ 43
+    → Eighths (sub binary64 end dial) (p + down dial) (q + up dial)
 distance dial end p q D E a b = sub-eighths E (D .eighths) (omega arith)
 
 pub distance-above :
-  (dial end : Float) (p q : ℕ) → Figure dial → Eighths end p q → p ≤ 3 * 2 ^ 43 → q ≤ 3 * 2 ^ 43
-  → Eighths (sub binary64 dial end) (up dial + q) (down dial + p)
+    (dial end : Float) (p q : ℕ) → Figure dial → Eighths end p q → p ≤ 3 * 2 ^ 43 → q ≤ 3 * 2 ^ 43
+    → Eighths (sub binary64 dial end) (up dial + q) (down dial + p)
 distance-above dial end p q D E a b = sub-eighths (D .eighths) E (omega arith)
