@@ -29,6 +29,9 @@ use Rattle.decision.specs.declared.Decision.{Decision}
 use Rattle.part97.specs.Part97.{draftOf, draftInside, draftAutomatic, privilegedOf, noted, notesUpTo, anyNote, planSays, wantsPlan, guidanceOf, adviceOf, adviceWarns, advised, automaticElsewhere, automaticData, considered, nearestUpTo, overshootOf, outsideSegments, insideSegment, judgeData, allowedOnSixty, sixtyChannel, sixtySegment, sixtyPlace, sixtyEmission, sixtyKind, sixty, judgeOnBand, judgeInBand, touching, judge}
 use Rattle.verdict.specs.Verdict.{airOf, signalOf, caseOf, ruledOf, underRulesOf, unruledOf, decideOf, besideValid, evaluateOf}
 use Rattle.verdict.specs.Laws.{evaluate-accepted}
+use Rattle.ceiling.specs.Ceiling.{rungOf, burstOf, startOf, endedOf, wentOn, judgedOf, judgeBy, rungJudged, stepOf, climbed, badEdges, badRungs, ceilingOf}
+use Rattle.ceiling.specs.declared.CeilingAnswer.{CeilingAnswer}
+use Rattle.ceiling.specs.declared.Rung.the-variants.{Fastest}
 use Rattle.starred.specs.Practice.{practice, station, edges, usual}
 
 -- what document 01 states of a verdict
@@ -111,9 +114,9 @@ goes-on control direction e dial s v =
 more : {a b : Stated} {xs ys : List Stated} → a ≡ b → xs ≡ ys → a ∷ xs ≡ b ∷ ys
 more p q = ap₂ _∷_ p q
 
-pub starred : answers ≡ expected
+verdicts : answers ≡ expected
 unfolding evaluateOf decideOf unruledOf underRulesOf ruledOf caseOf signalOf airOf judge touching judgeInBand judgeOnBand sixty sixtyKind sixtyEmission sixtyPlace sixtySegment sixtyChannel allowedOnSixty judgeData insideSegment outsideSegments overshootOf nearestUpTo considered automaticData automaticElsewhere advised adviceWarns adviceOf guidanceOf planSays wantsPlan notesUpTo anyNote noted privilegedOf draftAutomatic draftInside draftOf refusedOf simpleOf finishOf noAdvice edgesRead edgesValid situationOf codesValid figuresValid checkOf codedBlock miscoded soundBlock unsound bare unlimited asks soundBits soundRecord codedOf codedGeneral recordsBefore recordAt generalOf u16At u32At u64At firstFrom lt le eq ne neg add sub mul div ofBits
-starred =
+verdicts =
     more (goes-on 0 0 usual (ofBits binary64 0x416abf8f00000000) refl refl)
     (more (goes-on 0 0 usual (ofBits binary64 0x416abf8efc000000) refl refl)
     (more (goes-on 0 0 usual (ofBits binary64 0x416afc4d00000000) refl refl)
@@ -127,3 +130,25 @@ starred =
     (more (goes-on 2 1 usual (ofBits binary64 0x416ae3ca00000000) refl refl)
     (more (goes-on 0 0 usual (ofBits binary64 0x4154559d80000000) refl refl)
     (more (goes-on 0 0 usual (ofBits binary64 0x4154559d88000000) refl refl) refl))))))))))))
+
+-- "Ceiling at 14,100,000, rungs 1,250–1,750, 1,000–2,000, 0–2,900, control 1,250–1,750: rung 1, limit too_wide."
+abbrev pub rungs : List Float
+rungs =
+    ofBits binary64 0x4093880000000000 ∷ ofBits binary64 0x409b580000000000 ∷ ofBits binary64 0x4093880000000000 ∷ ofBits binary64 0x409b580000000000 ∷ ofBits binary64 0x408f400000000000 ∷ ofBits binary64 0x409f400000000000 ∷ ofBits binary64 0x408f400000000000 ∷ ofBits binary64 0x409f400000000000 ∷ ofBits binary64 0x0 ∷ ofBits binary64 0x40a6a80000000000 ∷ ofBits binary64 0x0 ∷ ofBits binary64 0x40a6a80000000000 ∷ []
+
+abbrev pub climb : CeilingAnswer
+climb = ceilingOf (station 0 (ofBits binary64 0x416ae4c400000000)) 0 usual usual practice rungs (0 ∷ 0 ∷ 0 ∷ [])
+
+ceiling : (climb .rung ≡ Fastest 1) × (climb .limited ≡ true) × (stated (climb .limit) ≡ says Blocked TooWide NoOvershoot)
+unfolding rungOf burstOf startOf endedOf wentOn judgedOf judgeBy rungJudged stepOf climbed badEdges badRungs ceilingOf evaluateOf decideOf unruledOf underRulesOf ruledOf caseOf signalOf airOf judge touching judgeInBand judgeOnBand sixty sixtyKind sixtyEmission sixtyPlace sixtySegment sixtyChannel allowedOnSixty judgeData insideSegment outsideSegments overshootOf nearestUpTo considered automaticData automaticElsewhere advised adviceWarns adviceOf guidanceOf planSays wantsPlan notesUpTo anyNote noted privilegedOf draftAutomatic draftInside draftOf refusedOf simpleOf finishOf noAdvice edgesRead edgesValid situationOf codesValid figuresValid checkOf codedBlock miscoded soundBlock unsound bare unlimited asks soundBits soundRecord codedOf codedGeneral recordsBefore recordAt generalOf u16At u32At u64At firstFrom lt le eq ne neg add sub mul div ofBits
+ceiling = (refl, refl, refl)
+
+-- The starred cases, in one list: the verdicts, then the ceiling.
+pub record Starred : Type 0 where
+  pub verdicts : answers ≡ expected
+  pub rung : climb .rung ≡ Fastest 1
+  pub limited : climb .limited ≡ true
+  pub limit : stated (climb .limit) ≡ says Blocked TooWide NoOvershoot
+
+pub starred : Starred
+starred = record { verdicts = verdicts; rung = ceiling .0; limited = ceiling .1; limit = ceiling .2 }
