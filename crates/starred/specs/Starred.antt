@@ -32,6 +32,13 @@ use Rattle.verdict.specs.Laws.{evaluate-accepted}
 use Rattle.ceiling.specs.Ceiling.{rungOf, burstOf, startOf, endedOf, wentOn, judgedOf, judgeBy, rungJudged, stepOf, climbed, badEdges, badRungs, ceilingOf}
 use Rattle.ceiling.specs.declared.CeilingAnswer.{CeilingAnswer}
 use Rattle.ceiling.specs.declared.Rung.the-variants.{Fastest}
+use Rattle.dials.specs.List.{situationRows, listRows, listTests}
+use Rattle.dial_rows.specs.Dials.{requestOf, pieceRows, automaticRows, cutRows, privilegeRows, privilegesRows, segmentRows, dataRows, channelFound, channelRow, channelRows, openRows, rowsOf}
+use Rattle.rows.specs.Rows.{insertRow, insertAll, little, figuresOf, encodeRow, encodeAll, sorted}
+use Rattle.rows.specs.Each.{each}
+use Rattle.rows.specs.declared.SafeDial.{SafeDial}
+use lib.ListN.{length}
+use lib.Ieee.{toBits}
 use Rattle.starred.specs.Practice.{practice, station, edges, usual}
 
 -- what document 01 states of a verdict
@@ -143,12 +150,43 @@ ceiling : (climb .rung ≡ Fastest 1) × (climb .limited ≡ true) × (stated (c
 unfolding rungOf burstOf startOf endedOf wentOn judgedOf judgeBy rungJudged stepOf climbed badEdges badRungs ceilingOf evaluateOf decideOf unruledOf underRulesOf ruledOf caseOf signalOf airOf judge touching judgeInBand judgeOnBand sixty sixtyKind sixtyEmission sixtyPlace sixtySegment sixtyChannel allowedOnSixty judgeData insideSegment outsideSegments overshootOf nearestUpTo considered automaticData automaticElsewhere advised adviceWarns adviceOf guidanceOf planSays wantsPlan notesUpTo anyNote noted privilegedOf draftAutomatic draftInside draftOf refusedOf simpleOf finishOf noAdvice edgesRead edgesValid situationOf codesValid figuresValid checkOf codedBlock miscoded soundBlock unsound bare unlimited asks soundBits soundRecord codedOf codedGeneral recordsBefore recordAt generalOf u16At u32At u64At firstFrom lt le eq ne neg add sub mul div ofBits
 ceiling = (refl, refl, refl)
 
--- The starred cases, in one list: the verdicts, then the ceiling.
+-- "Automatic originating list: 14,093,800–14,097,700, then 14,099,300–14,110,200": the rows' bytes, with the pieces, band 20 and the
+-- automatic segments' rule
+abbrev pub listed : List SafeDial
+listed = listRows (station 2 (ofBits binary64 0x416ae4c400000000)) 0 usual practice
+
+abbrev pub row-bytes : List ℕ
+row-bytes =
+    0 ∷ 0 ∷ 0 ∷ 0 ∷ 83 ∷ 226 ∷ 106 ∷ 65 ∷ 0 ∷ 0 ∷ 0 ∷ 128 ∷ 133 ∷ 228 ∷ 106 ∷ 65 ∷ 0 ∷ 0 ∷ 0 ∷ 0 ∷ 189 ∷ 225 ∷ 106 ∷ 65 ∷ 0 ∷ 0 ∷ 0 ∷ 128 ∷ 164 ∷ 227 ∷ 106 ∷ 65 ∷ 20 ∷ 0 ∷ 9 ∷ 0
+    ∷ 0 ∷ 0 ∷ 0 ∷ 128 ∷ 2 ∷ 229 ∷ 106 ∷ 65 ∷ 0 ∷ 0 ∷ 0 ∷ 0 ∷ 160 ∷ 234 ∷ 106 ∷ 65 ∷ 0 ∷ 0 ∷ 0 ∷ 128 ∷ 108 ∷ 228 ∷ 106 ∷ 65 ∷ 0 ∷ 0 ∷ 0 ∷ 0 ∷ 191 ∷ 233 ∷ 106 ∷ 65 ∷ 20 ∷ 0 ∷ 9 ∷ 0 ∷ []
+
+rows : (length listed ≡ 2) × (encodeAll (sorted listed) ≡ row-bytes)
+unfolding situationRows listRows requestOf pieceRows automaticRows cutRows privilegeRows privilegesRows segmentRows dataRows channelFound channelRow channelRows openRows rowsOf insertRow insertAll little figuresOf encodeRow encodeAll each toBits evaluateOf decideOf unruledOf underRulesOf ruledOf caseOf signalOf airOf judge touching judgeInBand judgeOnBand sixty sixtyKind sixtyEmission sixtyPlace sixtySegment sixtyChannel allowedOnSixty judgeData insideSegment outsideSegments overshootOf nearestUpTo considered automaticData automaticElsewhere advised adviceWarns adviceOf guidanceOf planSays wantsPlan notesUpTo anyNote noted privilegedOf draftAutomatic draftInside draftOf refusedOf simpleOf finishOf noAdvice edgesRead edgesValid situationOf codesValid figuresValid checkOf codedBlock miscoded soundBlock unsound bare unlimited asks soundBits soundRecord codedOf codedGeneral recordsBefore recordAt generalOf u16At u32At u64At firstFrom lt le eq ne neg add sub mul div ofBits
+rows = (refl, refl)
+
+-- No test refuses that call with rows for two lent.
+fits : refusalOf (listTests (station 2 (ofBits binary64 0x416ae4c400000000)) 0 usual practice row-bytes) ≡ Accepted
+unfolding situationRows listRows requestOf pieceRows automaticRows cutRows privilegeRows privilegesRows segmentRows dataRows channelFound channelRow channelRows openRows rowsOf insertRow insertAll little figuresOf encodeRow encodeAll each toBits evaluateOf decideOf unruledOf underRulesOf ruledOf caseOf signalOf airOf judge touching judgeInBand judgeOnBand sixty sixtyKind sixtyEmission sixtyPlace sixtySegment sixtyChannel allowedOnSixty judgeData insideSegment outsideSegments overshootOf nearestUpTo considered automaticData automaticElsewhere advised adviceWarns adviceOf guidanceOf planSays wantsPlan notesUpTo anyNote noted privilegedOf draftAutomatic draftInside draftOf refusedOf simpleOf finishOf noAdvice edgesRead edgesValid situationOf codesValid figuresValid checkOf codedBlock miscoded soundBlock unsound bare unlimited asks soundBits soundRecord codedOf codedGeneral recordsBefore recordAt generalOf u16At u32At u64At firstFrom lt le eq ne neg add sub mul div ofBits
+fits = refl
+
+-- The starred cases, in one list: the verdicts, the ceiling, and the dial list that the call leaves in 72 lent bytes.
 pub record Starred : Type 0 where
   pub verdicts : answers ≡ expected
   pub rung : climb .rung ≡ Fastest 1
   pub limited : climb .limited ≡ true
   pub limit : stated (climb .limit) ≡ says Blocked TooWide NoOvershoot
+  pub fitted : refusalOf (listTests (station 2 (ofBits binary64 0x416ae4c400000000)) 0 usual practice row-bytes) ≡ Accepted
+  pub count : length listed ≡ 2
+  pub bytes : encodeAll (sorted listed) ≡ row-bytes
 
 pub starred : Starred
-starred = record { verdicts = verdicts; rung = ceiling .0; limited = ceiling .1; limit = ceiling .2 }
+starred =
+    record {
+      verdicts = verdicts;
+      rung = ceiling .0;
+      limited = ceiling .1;
+      limit = ceiling .2;
+      fitted = fits;
+      count = rows .0;
+      bytes = rows .1
+    }
