@@ -188,5 +188,5 @@ starred =
       limit = ceiling .2;
       fitted = fits;
       count = rows .0;
-      bytes = rows .1
+      bytes = rows .1;
     }

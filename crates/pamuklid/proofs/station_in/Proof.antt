@@ -1,0 +1,15 @@
+-- Field by field.
+use mathlib.Core.Path.{refl}
+use Rattle.pamuklid.specs.Flat.{recordOf}
+use Rattle.pamuklid.proofs.station_in.Statement.{statement}
+use Rattle.pamuklid.proofs.station_in.Tie as tie
+use Rattle.pamuklid.proofs.station_in.Reads as reads
+use Rattle.pamuklid.proofs.station_in.Lts as lts
+
+-- src/lib.rt:113:1
+returns : tie.Need-returns
+unfolding recordOf
+returns c = refl
+
+pub station-in-spec : {M : Type 1} → statement M
+station-in-spec = tie.close (tie.spec returns)

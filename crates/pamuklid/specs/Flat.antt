@@ -1,0 +1,166 @@
+-- The records of the boundary: the station record and the edges as they arrive, and an answer as it leaves, field by field.
+-- An absent part is all zero.
+use Prim.Native.Nat.{ℕ, _+_, _%_}
+use mathlib.Core.Bool.{Bool, cond}
+use lib.Ieee.{Float}
+use Rattle.figures.specs.Figure.{zeroHz}
+use Rattle.profile.specs.Range.{range}
+use Rattle.profile.specs.declared.Range.{Range}
+use Rattle.profile.specs.declared.RuleName.{RuleName}
+use Rattle.profile.specs.declared.RuleName.the-variants.{Named, Unnamed}
+use Rattle.occupancy.specs.declared.Edges.{Edges}
+use Rattle.station.specs.declared.StationRecord.{StationRecord}
+use Rattle.station.specs.declared.Figure.{Figure}
+use Rattle.station.specs.declared.Figure.the-variants.{Known, Absent}
+use Rattle.tidy.specs.declared.Tidiness.{Tidiness}
+use Rattle.tidy.specs.declared.Tidiness.the-variants.{Tidy, Untidy, NotJudged}
+use Rattle.decision.specs.Number.{verdictNumber, codeNumber, edgeNumber, overshootNumber, guidanceNumber}
+use Rattle.decision.specs.declared.Overshoot.{Overshoot}
+use Rattle.decision.specs.declared.Overshoot.the-variants.{Beyond, TooClose, NoOvershoot}
+use Rattle.decision.specs.declared.Guidance.{Guidance}
+use Rattle.decision.specs.declared.Guidance.the-variants.{Avoid, Inside, Outside, NoGuidance}
+use Rattle.decision.specs.declared.BandNumber.{BandNumber}
+use Rattle.decision.specs.declared.BandNumber.the-variants.{Band, NoBand}
+use Rattle.decision.specs.declared.JudgedSegment.{JudgedSegment}
+use Rattle.decision.specs.declared.JudgedSegment.the-variants.{Segment, NoSegment}
+use Rattle.decision.specs.declared.MaybeRange.{MaybeRange}
+use Rattle.decision.specs.declared.MaybeRange.the-variants.{Is, NoRange}
+use Rattle.decision.specs.declared.Decision.{Decision}
+use Rattle.numbers.specs.Refusal.{refusalNumber}
+use Rattle.pamuklid.specs.declared.FlatStation.{FlatStation}
+use Rattle.pamuklid.specs.declared.FlatEdges.{FlatEdges}
+use Rattle.pamuklid.specs.declared.FlatRange.{FlatRange}
+use Rattle.pamuklid.specs.declared.FlatSegment.{FlatSegment}
+use Rattle.pamuklid.specs.declared.FlatOvershoot.{FlatOvershoot}
+use Rattle.pamuklid.specs.declared.FlatGuidance.{FlatGuidance}
+use Rattle.pamuklid.specs.declared.FlatRule.{FlatRule}
+use Rattle.pamuklid.specs.declared.FlatBand.{FlatBand}
+use Rattle.pamuklid.specs.declared.FlatDecision.{FlatDecision}
+
+-- the station record that arrives, and one that leaves
+unfoldable pub recordOf : FlatStation → StationRecord
+recordOf s =
+    record {
+      policy = s .policy;
+      control = s .control;
+      license = s .license;
+      sideband = s .sideband;
+      «itu_region» = s .«itu_region»;
+      «band_plan» = s .«band_plan»;
+      «dial_known» = s .«dial_known»;
+      «power_known» = s .«power_known»;
+      «margin_hz» = s .«margin_hz»;
+      «dial_hz» = s .«dial_hz»;
+      «power_w» = s .«power_w»;
+    }
+
+unfoldable pub stationOf : StationRecord → FlatStation
+stationOf s =
+    record {
+      «margin_hz» = s .«margin_hz»;
+      «dial_hz» = s .«dial_hz»;
+      «power_w» = s .«power_w»;
+      policy = s .policy;
+      control = s .control;
+      license = s .license;
+      sideband = s .sideband;
+      «itu_region» = s .«itu_region»;
+      «band_plan» = s .«band_plan»;
+      «dial_known» = s .«dial_known»;
+      «power_known» = s .«power_known»;
+    }
+
+-- the edges that arrive
+unfoldable pub edgesOf : FlatEdges → Edges
+edgesOf e = record { power = range (e .«power_low») (e .«power_high»); spectral = range (e .«spectral_low») (e .«spectral_high») }
+
+-- the parts of an answer
+abbrev pub rangeFlat : MaybeRange → FlatRange
+rangeFlat (Is a) = record { low = a .«low_hz»; high = a .«high_hz»; known = 1 }
+rangeFlat NoRange = record { low = zeroHz; high = zeroHz; known = 0 }
+
+abbrev pub segmentFlat : JudgedSegment → FlatSegment
+segmentFlat (Segment a rule) = record { low = a .«low_hz»; high = a .«high_hz»; rule = rule; known = 1 }
+segmentFlat NoSegment = record { low = zeroHz; high = zeroHz; rule = 0; known = 0 }
+
+-- how far beyond an edge, and which edge
+abbrev pub beyondBy : Overshoot → Float
+beyondBy (Beyond by edge) = by
+beyondBy (TooClose edge) = zeroHz
+beyondBy NoOvershoot = zeroHz
+
+abbrev pub beyondEdge : Overshoot → ℕ
+beyondEdge (Beyond by edge) = edgeNumber edge
+beyondEdge (TooClose edge) = edgeNumber edge
+beyondEdge NoOvershoot = 0
+
+abbrev pub overshootFlat : Overshoot → FlatOvershoot
+overshootFlat o = record { «beyond_hz» = beyondBy o; edge = beyondEdge o; number = overshootNumber o }
+
+-- a plan record's index is below 256
+abbrev pub guidanceIndex : Guidance → ℕ
+guidanceIndex (Avoid i) = i % 65536
+guidanceIndex (Inside i) = i % 65536
+guidanceIndex Outside = 0
+guidanceIndex NoGuidance = 0
+
+abbrev pub guidanceFlat : Guidance → FlatGuidance
+guidanceFlat g = record { index = guidanceIndex g; number = guidanceNumber g }
+
+-- rule 0, "empty", is not absent
+abbrev pub ruleFlat : RuleName → FlatRule
+ruleFlat (Named rule) = record { rule = rule; known = 1 }
+ruleFlat Unnamed = record { rule = 0; known = 0 }
+
+abbrev pub bandFlat : BandNumber → FlatBand
+bandFlat (Band band) = record { band = band; known = 1 }
+bandFlat NoBand = record { band = 0; known = 0 }
+
+abbrev pub widthFlat : Figure → Float
+widthFlat (Known x) = x
+widthFlat Absent = zeroHz
+
+abbrev pub markOf : Bool → ℕ
+markOf b = cond b 1 0
+
+-- the tidy question's answer; an image's refusal is 1 to 14 (Laws)
+abbrev pub tidyNumber : Tidiness → ℕ
+tidyNumber Untidy = 0
+tidyNumber Tidy = 1
+tidyNumber (NotJudged n) = 100 + n
+
+-- an answer
+unfoldable pub flatOf : Decision → FlatDecision
+flatOf d =
+    record {
+      «segment_low» = segmentFlat (d .segment) .low;
+      «segment_high» = segmentFlat (d .segment) .high;
+      «automatic_low» = rangeFlat (d .«automatic_segment») .low;
+      «automatic_high» = rangeFlat (d .«automatic_segment») .high;
+      «audio_low» = rangeFlat (d .audio) .low;
+      «audio_high» = rangeFlat (d .audio) .high;
+      width = widthFlat (d .width);
+      «air_low» = rangeFlat (d .air) .low;
+      «air_high» = rangeFlat (d .air) .high;
+      «beyond_hz» = overshootFlat (d .overshoot) .«beyond_hz»;
+      rule = ruleFlat (d .rule) .rule;
+      «segment_rule» = segmentFlat (d .segment) .rule;
+      «guidance_index» = guidanceFlat (d .advice .guidance) .index;
+      refusal = refusalNumber (d .refusal);
+      verdict = verdictNumber (d .verdict);
+      code = codeNumber (d .code);
+      «rule_known» = ruleFlat (d .rule) .known;
+      «band_known» = bandFlat (d .band) .known;
+      band = bandFlat (d .band) .band;
+      «segment_known» = segmentFlat (d .segment) .known;
+      «automatic_known» = rangeFlat (d .«automatic_segment») .known;
+      «audio_known» = rangeFlat (d .audio) .known;
+      «air_known» = rangeFlat (d .air) .known;
+      overshoot = overshootFlat (d .overshoot) .number;
+      edge = overshootFlat (d .overshoot) .edge;
+      guidance = guidanceFlat (d .advice .guidance) .number;
+      «note_channel_power» = markOf (d .advice .sixty .«channel_power»);
+      «note_shared» = markOf (d .advice .sixty .shared);
+      «note_segment_power» = markOf (d .advice .sixty .«segment_power»);
+      notes = d .advice .notes;
+    }

@@ -1,0 +1,401 @@
+// The boundary to C: the public calls, exported, with flat structs of numbers. It uses codes, profile, occupancy, station,
+// image, tidy, decision, numbers and verdict.
+use codes::Checked;
+use decision::BandNumber;
+use decision::Decision;
+use decision::Guidance;
+use decision::JudgedSegment;
+use decision::MaybeRange;
+use decision::Overshoot;
+use occupancy::Edges;
+use profile::Range;
+use profile::RuleName;
+use station::Figure;
+use station::StationRecord;
+use tidy::Tidiness;
+ghost use mathlib.Core.Path.{_≡_};
+ghost use mathlib.Core.Bool.{cond};
+ghost use Rattle.image.specs.Check.{checkOf};
+ghost use Rattle.tidy.specs.Tidy.{tidyOf};
+ghost use Rattle.station.specs.Station.{freshOf};
+ghost use Rattle.verdict.specs.Verdict.{evaluateOf, unmeasuredOf};
+ghost use Rattle.numbers.specs.Refusal.{refusalNumber};
+ghost use Rattle.pamuklid.specs.Laws.{Numbered};
+ghost use Rattle.pamuklid.specs.Flat.{recordOf, stationOf, edgesOf, rangeFlat, segmentFlat, overshootFlat, guidanceFlat, ruleFlat, bandFlat, widthFlat, tidyNumber, flatOf};
+
+// The station record: codes and presence bytes as document 01 numbers them, figures whatever they are.
+#[repr(C)]
+pub struct FlatStation {
+    pub margin_hz: f64,
+    pub dial_hz: f64,
+    pub power_w: f64,
+    pub policy: u8,
+    pub control: u8,
+    pub license: u8,
+    pub sideband: u8,
+    pub itu_region: u8,
+    pub band_plan: u8,
+    pub dial_known: u8,
+    pub power_known: u8,
+}
+
+// The edges of a signal under both readings, hertz.
+#[repr(C)]
+pub struct FlatEdges {
+    pub power_low: f64,
+    pub power_high: f64,
+    pub spectral_low: f64,
+    pub spectral_high: f64,
+}
+
+// An answer. Absent parts are zero; a refusal has its number, verdict 2 and all else zero.
+#[repr(C)]
+pub struct FlatDecision {
+    pub segment_low: f64,
+    pub segment_high: f64,
+    pub automatic_low: f64,
+    pub automatic_high: f64,
+    pub audio_low: f64,
+    pub audio_high: f64,
+    pub width: f64,
+    pub air_low: f64,
+    pub air_high: f64,
+    pub beyond_hz: f64,
+    pub rule: u16,
+    pub segment_rule: u16,
+    pub guidance_index: u16,
+    pub refusal: u8,
+    pub verdict: u8,
+    pub code: u8,
+    pub rule_known: u8,
+    pub band_known: u8,
+    pub band: u8,
+    pub segment_known: u8,
+    pub automatic_known: u8,
+    pub audio_known: u8,
+    pub air_known: u8,
+    pub overshoot: u8,
+    pub edge: u8,
+    pub guidance: u8,
+    pub note_channel_power: u8,
+    pub note_shared: u8,
+    pub note_segment_power: u8,
+    pub notes: [u8; 256],
+}
+
+// The parts of an answer, each flat.
+pub struct FlatRange {
+    pub low: f64,
+    pub high: f64,
+    pub known: u8,
+}
+
+pub struct FlatSegment {
+    pub low: f64,
+    pub high: f64,
+    pub rule: u16,
+    pub known: u8,
+}
+
+pub struct FlatOvershoot {
+    pub beyond_hz: f64,
+    pub edge: u8,
+    pub number: u8,
+}
+
+pub struct FlatGuidance {
+    pub index: u16,
+    pub number: u8,
+}
+
+pub struct FlatRule {
+    pub rule: u16,
+    pub known: u8,
+}
+
+pub struct FlatBand {
+    pub band: u8,
+    pub known: u8,
+}
+
+fn station_in(s: FlatStation) -> StationRecord
+    ensures { λ r. ⌜ r ≡ recordOf s ⌝ }
+{
+    StationRecord {
+        policy: s.policy,
+        control: s.control,
+        license: s.license,
+        sideband: s.sideband,
+        itu_region: s.itu_region,
+        band_plan: s.band_plan,
+        dial_known: s.dial_known,
+        power_known: s.power_known,
+        margin_hz: s.margin_hz,
+        dial_hz: s.dial_hz,
+        power_w: s.power_w,
+    }
+}
+
+fn station_out(s: StationRecord) -> FlatStation
+    ensures { λ r. ⌜ r ≡ stationOf s ⌝ }
+{
+    FlatStation {
+        margin_hz: s.margin_hz,
+        dial_hz: s.dial_hz,
+        power_w: s.power_w,
+        policy: s.policy,
+        control: s.control,
+        license: s.license,
+        sideband: s.sideband,
+        itu_region: s.itu_region,
+        band_plan: s.band_plan,
+        dial_known: s.dial_known,
+        power_known: s.power_known,
+    }
+}
+
+fn edges_in(e: FlatEdges) -> Edges
+    ensures { λ r. ⌜ r ≡ edgesOf e ⌝ }
+{
+    let power = Range {
+        low_hz: e.power_low,
+        high_hz: e.power_high,
+    };
+    let spectral = Range {
+        low_hz: e.spectral_low,
+        high_hz: e.spectral_high,
+    };
+    Edges { power, spectral }
+}
+
+fn range_flat(m: MaybeRange) -> FlatRange
+    ensures { λ r. ⌜ r ≡ rangeFlat m ⌝ }
+{
+    match m {
+        MaybeRange::Is(a) => FlatRange {
+            low: a.low_hz,
+            high: a.high_hz,
+            known: 1,
+        },
+        MaybeRange::NoRange => FlatRange {
+            low: 0.0,
+            high: 0.0,
+            known: 0,
+        },
+    }
+}
+
+fn segment_flat(s: JudgedSegment) -> FlatSegment
+    ensures { λ r. ⌜ r ≡ segmentFlat s ⌝ }
+{
+    match s {
+        JudgedSegment::Segment(a, rule) => FlatSegment {
+            low: a.low_hz,
+            high: a.high_hz,
+            rule,
+            known: 1,
+        },
+        JudgedSegment::NoSegment => FlatSegment {
+            low: 0.0,
+            high: 0.0,
+            rule: 0,
+            known: 0,
+        },
+    }
+}
+
+fn overshoot_flat(o: Overshoot) -> FlatOvershoot
+    ensures { λ r. ⌜ r ≡ overshootFlat o ⌝ }
+{
+    let number = numbers::overshoot_number(o);
+    match o {
+        Overshoot::Beyond(by, edge) => FlatOvershoot {
+            beyond_hz: by,
+            edge: numbers::edge_number(edge),
+            number,
+        },
+        Overshoot::TooClose(edge) => FlatOvershoot {
+            beyond_hz: 0.0,
+            edge: numbers::edge_number(edge),
+            number,
+        },
+        Overshoot::NoOvershoot => FlatOvershoot {
+            beyond_hz: 0.0,
+            edge: 0,
+            number,
+        },
+    }
+}
+
+fn guidance_flat(g: Guidance) -> FlatGuidance
+    ensures { λ r. ⌜ r ≡ guidanceFlat g ⌝ }
+{
+    let number = numbers::guidance_number(g);
+    match g {
+        Guidance::Avoid(i) => FlatGuidance {
+            index: (i % 65536) as u16,
+            number,
+        },
+        Guidance::Inside(i) => FlatGuidance {
+            index: (i % 65536) as u16,
+            number,
+        },
+        Guidance::Outside => FlatGuidance { index: 0, number },
+        Guidance::NoGuidance => FlatGuidance { index: 0, number },
+    }
+}
+
+fn rule_flat(n: RuleName) -> FlatRule
+    ensures { λ r. ⌜ r ≡ ruleFlat n ⌝ }
+{
+    match n {
+        RuleName::Named(rule) => FlatRule { rule, known: 1 },
+        RuleName::Unnamed => FlatRule { rule: 0, known: 0 },
+    }
+}
+
+fn band_flat(b: BandNumber) -> FlatBand
+    ensures { λ r. ⌜ r ≡ bandFlat b ⌝ }
+{
+    match b {
+        BandNumber::Band(band) => FlatBand { band, known: 1 },
+        BandNumber::NoBand => FlatBand { band: 0, known: 0 },
+    }
+}
+
+fn width_flat(w: Figure) -> f64
+    ensures { λ r. ⌜ r ≡ widthFlat w ⌝ }
+{
+    match w {
+        Figure::Known(x) => x,
+        Figure::Absent => 0.0,
+    }
+}
+
+fn mark(b: bool) -> u8
+    ensures { λ r. ⌜ r ≡ cond b 1 0 ⌝ }
+{
+    if b { 1 } else { 0 }
+}
+
+// 0 untidy, 1 tidy, 100 and the refusal's number.
+fn tidy_number(t: Tidiness) -> u8
+    requires { ⌜ Numbered t ⌝ }
+    ensures { λ r. ⌜ r ≡ tidyNumber t ⌝ }
+{
+    match t {
+        Tidiness::Untidy => 0,
+        Tidiness::Tidy => 1,
+        Tidiness::NotJudged(n) => 100 + n,
+    }
+}
+
+// An answer, flat.
+fn flat(d: Decision) -> FlatDecision
+    ensures { λ r. ⌜ r ≡ flatOf d ⌝ }
+{
+    let refusal = d.refusal;
+    let verdict = d.verdict;
+    let code = d.code;
+    let rule = d.rule;
+    let band = d.band;
+    let judged = d.segment;
+    let automatic_segment = d.automatic_segment;
+    let audio_range = d.audio;
+    let width = d.width;
+    let air_range = d.air;
+    let over = d.overshoot;
+    let advice = d.advice;
+    let guided = advice.guidance;
+    let notes = advice.notes;
+    let sixty = advice.sixty;
+    let named = rule_flat(rule);
+    let numbered = band_flat(band);
+    let segment = segment_flat(judged);
+    let automatic = range_flat(automatic_segment);
+    let audio = range_flat(audio_range);
+    let air = range_flat(air_range);
+    let overshoot = overshoot_flat(over);
+    let guidance = guidance_flat(guided);
+    FlatDecision {
+        segment_low: segment.low,
+        segment_high: segment.high,
+        automatic_low: automatic.low,
+        automatic_high: automatic.high,
+        audio_low: audio.low,
+        audio_high: audio.high,
+        width: width_flat(width),
+        air_low: air.low,
+        air_high: air.high,
+        beyond_hz: overshoot.beyond_hz,
+        rule: named.rule,
+        segment_rule: segment.rule,
+        guidance_index: guidance.index,
+        refusal: numbers::refusal_number(refusal),
+        verdict: numbers::verdict_number(verdict),
+        code: numbers::code_number(code),
+        rule_known: named.known,
+        band_known: numbered.known,
+        band: numbered.band,
+        segment_known: segment.known,
+        automatic_known: automatic.known,
+        audio_known: audio.known,
+        air_known: air.known,
+        overshoot: overshoot.number,
+        edge: overshoot.edge,
+        guidance: guidance.number,
+        note_channel_power: mark(sixty.channel_power),
+        note_shared: mark(sixty.shared),
+        note_segment_power: mark(sixty.segment_power),
+        notes,
+    }
+}
+
+// Whether an image is accepted: 0, or the number of its first refusal, 1 to 14.
+#[no_mangle]
+pub extern "C" fn pamuklid_check(image: &[u8]) -> u8
+    ensures { λ r. ⌜ r ≡ refusalNumber (checkOf (now (image .entry))) ⌝ }
+{
+    numbers::refusal_number(image::check(image))
+}
+
+// Whether an image's table is tidy: 0 no, 1 yes, or 100 and the number of the image's refusal.
+#[no_mangle]
+pub extern "C" fn pamuklid_tidy(image: &[u8]) -> u8
+    ensures { λ r. ⌜ r ≡ tidyNumber (tidyOf (now (image .entry))) ⌝ }
+{
+    tidy_number(tidy::is_tidy(image))
+}
+
+// A fresh station record.
+#[no_mangle]
+pub extern "C" fn pamuklid_fresh() -> FlatStation
+    ensures { λ r. ⌜ r ≡ stationOf freshOf ⌝ }
+{
+    station_out(station::fresh())
+}
+
+// Judge a transmission.
+#[no_mangle]
+pub extern "C" fn pamuklid_evaluate(
+    s: FlatStation,
+    kind: u8,
+    direction: u8,
+    e: FlatEdges,
+    image: &[u8],
+) -> FlatDecision
+    ensures { λ r. ⌜ r ≡ flatOf (evaluateOf (recordOf s) kind direction (edgesOf e) (now (image .entry))) ⌝ }
+{
+    let record = station_in(s);
+    let edges = edges_in(e);
+    flat(verdict::evaluate(record, kind, direction, edges, image))
+}
+
+// The refusal of a transmission whose spectrum is not known.
+#[no_mangle]
+pub extern "C" fn pamuklid_unmeasured(s: FlatStation, image: &[u8]) -> FlatDecision
+    ensures { λ r. ⌜ r ≡ flatOf (unmeasuredOf (recordOf s) (now (image .entry))) ⌝ }
+{
+    let record = station_in(s);
+    flat(verdict::unmeasured(record, image))
+}
