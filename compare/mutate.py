@@ -4,10 +4,12 @@ builds the driver against that copy and sees whether a run notices a difference.
 
     python3 compare/mutate.py [--stub] [--only TEXT] [--from N] [--work DIR] [--seed S]
                               [--verdicts N] [--ceilings N] [--dials N] [--check] [-v]
+                              [--report FILE]
 
 Without --stub the library is linked (PAMUKLID_LIB_DIR); with --stub its place is taken by a second,
 unchanged copy of the Rust, which measures how sharp the cases are without the library. --check only
-sees that every old text occurs once. Nothing is written outside DIR (by default a folder of its own
+sees that every old text occurs once. --report writes the list with the result as a page for docs/.
+Nothing else is written outside DIR (by default a folder of its own
 under /tmp, removed at the end). Exit 0: every mistake was noticed except those that change nothing.
 """
 
@@ -39,6 +41,7 @@ def main():
     args.add_argument("--ceilings", type=int, default=40000)
     args.add_argument("--dials", type=int, default=40000)
     args.add_argument("--check", action="store_true")
+    args.add_argument("--report")
     args.add_argument("-v", action="store_true", dest="verbose")
     args = args.parse_args()
     default = os.path.join(HERE, "../../shared/docs/src")
@@ -111,7 +114,7 @@ def plant_all(args, rust, work):
         return 2
 
     noticed = same = 0
-    survivors, surprises, broken = [], [], []
+    survivors, surprises, broken, lines = [], [], [], []
     begun = time.time()
     for number, (name, old, new, why) in enumerate(MUTATIONS):
         if number < args.start or args.only not in name + " " + old + " " + new:
@@ -135,11 +138,25 @@ def plant_all(args, rust, work):
         else:
             noticed += 1
             state = "noticed"
+        told = what.split("): ", 1)[-1][:70] if state == "noticed" and what else why or ""
+        lines.append("| %d | %s | `%s` | `%s` | %s%s |"
+                     % (number, name, cell(old), cell(new) or " ", state, told and ": " + cell(told)))
         if args.verbose or state not in ("noticed", "survives, as it should"):
             print("%s: %s%s" % (state, title, "  [%s]" % what if args.verbose and what else ""),
                   flush=True)
-    print("%d noticed, %d change nothing, %d survivors, %d surprises, %d don't build; %.0f s"
-          % (noticed, same, len(survivors), len(surprises), len(broken), time.time() - begun))
+    summary = ("%d noticed, %d change nothing, %d survivors, %d surprises, %d don't build; %.0f s"
+               % (noticed, same, len(survivors), len(surprises), len(broken), time.time() - begun))
+    print(summary)
+    if args.report:
+        put(args.report, "\n".join(
+            ["# Mistakes planted", "",
+             "Made by `compare/mutate.py` on %s against %s, seed %d, %d verdicts, %d ceilings and %d "
+             "dial lists for each mistake: %s." % (
+                 time.strftime("%Y-%m-%d", time.gmtime()),
+                 "a second copy of the Rust" if args.stub else "the library",
+                 args.seed, args.verdicts, args.ceilings, args.dials, summary),
+             "The mistakes as data, whole, are `compare/mutations.py`.", "",
+             "| | file | old | new | result |", "|---|---|---|---|---|"] + lines) + "\n")
     for title in survivors:
         print("survivor: " + title)
     for title in surprises + broken:
@@ -150,6 +167,10 @@ def plant_all(args, rust, work):
 def put(path, text):
     with open(path, "w", encoding="utf-8") as out:
         out.write(text)
+
+
+def cell(text):
+    return short(text).replace("|", "\\|").replace("`", "'")
 
 
 def short(text):

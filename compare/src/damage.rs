@@ -84,6 +84,68 @@ pub fn spoil_ladder(rng: &mut Rng, l: &mut Ladder) {
     }
 }
 
+/// Accepted images with every kind of record, one for each set of general flags, whose every bit is
+/// to be turned over.
+pub fn samples() -> Vec<Vec<u8>> {
+    let span = |low: f64, high: f64| Record { low, high, ..Record::default() };
+    let mut out = Vec::new();
+    for flags in 0..32 {
+        if flags & RESPONSE != 0 && flags & ELSEWHERE == 0 {
+            continue;
+        }
+        let mut t = Table {
+            data_limit: 3.0,
+            region: 2,
+            reading: flags % 3,
+            flags,
+            rules: [7, 0, 9, 0, 0, 12],
+            ..Table::default()
+        };
+        if t.has(ELSEWHERE) {
+            (t.elsewhere_limit, t.rules[1]) = (2.0, 8);
+        }
+        if t.has(HAS_CHANNELS) {
+            (t.width, t.offset, t.tolerance) = (4.0, 1.0, 0.5);
+            (t.channel_band, t.sideband, t.rules[3]) = (60, flags >> 3 & 1, 10);
+            t.tables[CHANNELS].push(Record { low: 5.0, ..Record::default() });
+        }
+        if t.has(HAS_EMISSIONS) {
+            (t.emissions, t.rules[4]) = (3, 11);
+        }
+        t.tables[BANDS] =
+            vec![Record { band: 60, ..span(0.0, 10.0) }, Record { band: 0, ..span(20.0, 40.0) }];
+        for flags in 0..4u8 {
+            let low = 20.0 + 2.0 * f64::from(flags);
+            t.tables[SEGMENTS].push(Record {
+                flags,
+                figure: f64::from(flags & 1),
+                rule: 13,
+                second: u16::from(flags & 2),
+                ..span(low, low + 1.0)
+            });
+            t.tables[PRIVILEGES].push(Record {
+                class: 4 - flags,
+                flags,
+                emissions: (flags & 1) * 15,
+                rule: u16::from(flags & 2) * 3,
+                ..span(0.0, 40.0)
+            });
+        }
+        t.tables[AUTOMATIC].push(span(22.0, 25.0));
+        t.tables[EXCLUDED].push(Record { band: 60, rule: 14, ..Record::default() });
+        t.tables[POWER] = vec![
+            Record { figure: 5.0, rule: 15, ..span(20.0, 30.0) },
+            Record { figure: 5.0, rule: 15, flags: 1, class: 3, ..span(20.0, 30.0) },
+        ];
+        if t.has(HAS_PLAN) {
+            t.tables[PLAN_DATA].push(Record { rule: 16, ..span(20.0, 30.0) });
+            t.tables[PLAN_AVOID].push(Record { rule: 17, ..span(22.0, 23.0) });
+        }
+        out.push(t.encode());
+    }
+    out
+}
+
 /// A damaged copy of a world's image, by one to three mistakes.
 pub fn damaged(rng: &mut Rng, w: &World) -> Vec<u8> {
     let mut t = w.table.clone();
@@ -175,7 +237,7 @@ fn spoil_table(rng: &mut Rng, w: &World, t: &mut Table) {
         12 => {
             let table = rng.below(9);
             if let Some(i) = a_record(rng, t, table) {
-                let x = 1 << rng.below(8);
+                let x = 1 << rng.pick(&[0, 1, 2, 2, 3, 4, 5, 5, 6, 7]);
                 let r = &mut t.tables[table][i];
                 match rng.below(7) {
                     0 => r.band ^= x,

@@ -227,7 +227,7 @@ fn draw(
         let signal = w.signal(rng);
         let s = w.station(rng, &signal);
         let e = w.edges(rng, signal.low, signal.high);
-        let kind = rng.pick(&[0, 0, 0, 0, 1, 2, 3]);
+        let kind = rng.pick(&[0, 0, 0, 0, 1, 1, 2, 3]);
         let direction = rng.below(3) as u8;
         tries += 1;
         if tries == 4 || rng.chance(25) || !dull(rng, &s, &e, kind, direction) {
@@ -401,6 +401,19 @@ fn run_all(run: &mut Run, wanted: &Wanted) {
     }
 }
 
+/// Every bit of the sample images turned over, one at a time: the check and the tidy question.
+fn every_bit(run: &mut Run) {
+    for sample in damage::samples() {
+        let p = run.image(&sample);
+        assert_eq!(p.refusal, 0, "a sample is accepted");
+        for at in 0..8 * sample.len() {
+            let mut image = sample.clone();
+            image[at / 8] ^= 1 << (at % 8);
+            run.image(&image);
+        }
+    }
+}
+
 fn usage() -> ! {
     eprintln!(
         "usage: pamuklid-compare [--verdicts N] [--ceilings N] [--dials N] [--seed S] [--brief]\n\
@@ -432,6 +445,7 @@ fn main() {
     }
     let start = std::time::Instant::now();
     run_all(&mut run, &wanted);
+    every_bit(&mut run);
     println!("seed {seed}, {} worlds, {:.0} s", run.place, start.elapsed().as_secs_f64());
     println!(
         "compared: {} verdicts, {} unmeasured, {} ceilings, {} dial lists with {} rows, {} images; \
