@@ -66,6 +66,8 @@ def plant_all(args, rust, work):
     for name in ["mod.rs", "profile.rs", "occupancy.rs"]:
         place[name] = os.path.join(copy, MODULE, name)
         text[name] = open(os.path.join(rust, MODULE, name), encoding="utf-8").read()
+    place["stub.rs"] = os.path.join(driver, "src/stub.rs")
+    text["stub.rs"] = open(os.path.join(HERE, "src/stub.rs"), encoding="utf-8").read()
     os.makedirs(os.path.join(work, "own"), exist_ok=True)
     for name in ["expect.rs", "adapter.rs"]:
         place[name] = os.path.join(driver, "src", name)
@@ -118,6 +120,8 @@ def plant_all(args, rust, work):
     begun = time.time()
     for number, (name, old, new, why) in enumerate(MUTATIONS):
         if number < args.start or args.only not in name + " " + old + " " + new:
+            continue
+        if name == "stub.rs" and not args.stub:
             continue
         put(place[name], text[name].replace(old, new))
         built, code, what = attempt()

@@ -4,7 +4,7 @@ must survive, every other must be noticed.
 
 Files: profile.rs, occupancy.rs and mod.rs are the Rust; expect.rs and adapter.rs are the driver's
 own part, written from document 01 (refusals 1 to 6, 15, 16, 20 to 23 and their order, tidy, and what
-the Rust says only in words).
+the Rust says only in words); stub.rs, with --stub, stands for a wrong library.
 """
 
 MUTATIONS = []
@@ -805,3 +805,41 @@ RUNG = "        || expect::rung_edges(rungs).iter().any(|&x| expect::out_of_size
 at(A, RUNG, ";")
 at(A, RUNG, "        || rungs.iter().skip(4).any(|&x| expect::out_of_size(x));")
 at(A, RUNG, "        || rungs.iter().take(rungs.len().max(4) - 4).any(|&x| expect::out_of_size(x));")
+
+# ---------------------------------------------------------------------------------- stub.rs
+# Only with --stub: answers and lent bytes that a wrong library could give. Every byte lent and
+# every absent part is looked at.
+S = "stub.rs"
+
+WRITE = "if n > 0 { unsafe { *image.cast_mut().add(n - 1) ^= 1 } }\n"
+at(S, "    prepared(unsafe { slice(image, n) }).refusal\n", "    let told = prepared(unsafe { slice(image, n) }).refusal;\n    " + WRITE + "    told\n")
+at(S, "    adapter::tidy(&prepared(unsafe { slice(image, n) }))\n", "    let told = adapter::tidy(&prepared(unsafe { slice(image, n) }));\n    " + WRITE + "    told\n")
+for call in ["adapter::evaluate(&p, &s, kind, direction, &e)", "adapter::unmeasured(&p, &s)"]:
+    old = "    %s.expect(\"the Rust's words\")\n" % call
+    at(S, old, "    " + WRITE + old)
+    at(S, old, "    " + WRITE.replace("n - 1", "0") + old)
+at(S, "    let c = adapter::ceiling(", "    " + WRITE + "    let c = adapter::ceiling(")
+at(S, "    let c = adapter::ceiling(", "    if figures > 0 { unsafe { *rungs.as_ptr().cast_mut().add(figures - 1) += 1.0 } }\n    let c = adapter::ceiling(")
+at(S, "    let c = adapter::ceiling(", "    if figures > 0 { unsafe { *rungs.as_ptr().cast_mut() = -*rungs.as_ptr() } }\n    let c = adapter::ceiling(")
+at(S, "    let c = adapter::ceiling(", "    if floor_count > 0 { unsafe { *floors.as_ptr().cast_mut().add(floor_count - 1) ^= 1 } }\n    let c = adapter::ceiling(")
+at(S, "    let (refusal, bytes) =", "    " + WRITE + "    let (refusal, bytes) =")
+at(S, "        limit: c.limit.unwrap_or(NOTHING),", "        limit: c.limit.unwrap_or(Decision { code: 16, ..NOTHING }),")
+at(S, "        limit: c.limit.unwrap_or(NOTHING),", "        limit: c.limit.unwrap_or(Decision { width: -0.0, ..NOTHING }),")
+at(S, "        rung: c.rung.unwrap_or(0),", "        rung: c.rung.unwrap_or(1),")
+at(S, "        limit_known: u8::from(c.limit.is_some()),", "        limit_known: 2 * u8::from(c.limit.is_some()),")
+at(S, "    expect::FRESH\n", "    Station { policy: 2, ..expect::FRESH }\n")
+at(S, "    expect::FRESH\n", "    Station { sideband: 0, ..expect::FRESH }\n")
+at(S, "    expect::FRESH\n", "    Station { power_w: -0.0, ..expect::FRESH }\n")
+REFUSED = "        return Dials { count: 0, refusal };"
+at(S, REFUSED, "        return Dials { count: (bytes.len() / 36) as u32, refusal };")
+at(S, REFUSED, "        let room = rows.len() / 36 * 36;\n        let most = room.min(bytes.len());\n        rows[..most].copy_from_slice(&bytes[..most]);\n" + REFUSED)
+at(S, REFUSED, "        if let Some(last) = rows.last_mut() { *last = 0; }\n" + REFUSED)
+COPY = "    rows[..bytes.len()].copy_from_slice(&bytes);\n"
+at(S, COPY, "")
+at(S, COPY, COPY + "    rows[bytes.len()..].fill(0);\n")
+at(S, COPY, COPY + "    if rows.len() > bytes.len() { rows[bytes.len()] ^= 128; }\n")
+at(S, COPY, COPY + "    if rows.len() > bytes.len() { rows[rows_len - 1] ^= 1; }\n")
+at(S, COPY, COPY + "    rows[..bytes.len()].chunks_mut(36).for_each(|r| r[33] = 1);\n")
+at(S, COPY, COPY + "    if bytes.len() > 36 { rows[bytes.len() - 1] ^= 1; }\n")
+at(S, "count: (bytes.len() / 36) as u32, refusal: 0 }", "count: u32::from((bytes.len() / 36) as u16), refusal: 0 }")
+at(S, "count: (bytes.len() / 36) as u32, refusal: 0 }", "count: (rows.len() / 36) as u32, refusal: 0 }")
