@@ -791,7 +791,7 @@ at(A, LIST, IMAGE + STATION + EDGES)
 at(A, LIST, STATION + EDGES + IMAGE)
 at(A, LIST, EDGES + STATION + IMAGE)
 at(A, LIST, STATION + IMAGE)
-EDGES = "        if edge_out { 15 } else { 0 },\n"
+EDGES = "        if expect::ladder_refused(ordinary, floor, rungs) { 15 } else { 0 },\n"
 RUNGS = "        if expect::rungs_refused(rungs, floors) { 16 } else { 0 },\n"
 CEILING = STATION + IMAGE + EDGES + RUNGS
 at(A, CEILING, IMAGE + STATION + EDGES + RUNGS)
@@ -799,12 +799,13 @@ at(A, CEILING, STATION + EDGES + IMAGE + RUNGS)
 at(A, CEILING, STATION + IMAGE + RUNGS + EDGES)
 at(A, CEILING, STATION + RUNGS + IMAGE + EDGES)
 at(A, CEILING, EDGES + STATION + IMAGE + RUNGS)
-at(A, "let edge_out = expect::edges_refused(ordinary)\n        || ", "let edge_out = ")
-at(A, "        || expect::edges_refused(floor)\n", "")
-RUNG = "        || expect::rung_edges(rungs).iter().any(|&x| expect::out_of_size(x));"
-at(A, RUNG, ";")
-at(A, RUNG, "        || rungs.iter().skip(4).any(|&x| expect::out_of_size(x));")
-at(A, RUNG, "        || rungs.iter().take(rungs.len().max(4) - 4).any(|&x| expect::out_of_size(x));")
+LADDER = "edges_refused(ordinary) || edges_refused(floor) || rungs.iter().any(|&x| out_of_size(x))"
+at(E, LADDER, "edges_refused(floor) || rungs.iter().any(|&x| out_of_size(x))")
+at(E, LADDER, "edges_refused(ordinary) || rungs.iter().any(|&x| out_of_size(x))")
+at(E, LADDER, "edges_refused(ordinary) || edges_refused(floor)")
+at(E, LADDER, "edges_refused(ordinary) || edges_refused(floor) || rungs.iter().skip(4).any(|&x| out_of_size(x))")
+at(E, LADDER, "edges_refused(ordinary) || edges_refused(floor) || rungs.chunks_exact(4).flatten().any(|&x| out_of_size(x))")
+at(E, LADDER, "edges_refused(ordinary) || edges_refused(floor) || rungs.iter().take(1024).any(|&x| out_of_size(x))")
 
 # ---------------------------------------------------------------------------------- stub.rs
 # Only with --stub: answers and lent bytes that a wrong library could give. Every byte lent and

@@ -574,13 +574,10 @@ pub fn ceiling(
     rungs: &[f64],
     floors: &[u8],
 ) -> Result<Ceiling, String> {
-    let edge_out = expect::edges_refused(ordinary)
-        || expect::edges_refused(floor)
-        || expect::rung_edges(rungs).iter().any(|&x| expect::out_of_size(x));
     let refusal = first(&[
         expect::station_refusal(s, direction, 0),
         expect::image_refusal(s, p.length, p.refusal),
-        if edge_out { 15 } else { 0 },
+        if expect::ladder_refused(ordinary, floor, rungs) { 15 } else { 0 },
         if expect::rungs_refused(rungs, floors) { 16 } else { 0 },
     ]);
     if refusal != 0 {

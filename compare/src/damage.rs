@@ -2,7 +2,6 @@
 
 use crate::cases::Ladder;
 use crate::draw::{BIG, Rng, nudge, plain};
-use crate::expect::TAIL_IS_AN_EDGE;
 use crate::ffi::{Edges, Station};
 use crate::image::*;
 use crate::tables::{World, whole};
@@ -64,7 +63,7 @@ pub fn spoil_ladder(rng: &mut Rng, l: &mut Ladder) {
         }
         3 => {
             for _ in 0..1 + rng.below(3) {
-                let odd = TAIL_IS_AN_EDGE.is_some() && rng.chance(30);
+                let odd = rng.chance(30);
                 l.rungs.push(if odd { odd_figure(rng) } else { 1.0 });
             }
         }
@@ -80,6 +79,9 @@ pub fn spoil_ladder(rng: &mut Rng, l: &mut Ladder) {
             let over = rng.pick(&[256, 257, 258, 300]);
             l.rungs.resize(4 * over, 1.0);
             l.floors.resize(over, 0);
+            if rng.chance(30) {
+                l.rungs[4 * over - 1 - rng.below(8)] = odd_figure(rng);
+            }
         }
     }
 }

@@ -220,17 +220,10 @@ pub fn edges_refused(e: &Edges) -> bool {
     e.figures().into_iter().any(out_of_size)
 }
 
-/// Whether a figure past the last whole four of the rungs is an edge, which can meet 15, or only a
-/// wrong length, which meets 16. The papers leave it open; docs/DECISIONS.md decides. While this is
-/// `None`, no such figure is ever one that would meet 15.
-pub const TAIL_IS_AN_EDGE: Option<bool> = None;
-
-/// The figures of the rungs that can meet 15.
-pub fn rung_edges(rungs: &[f64]) -> &[f64] {
-    match TAIL_IS_AN_EDGE {
-        Some(false) => &rungs[..rungs.len() / 4 * 4],
-        _ => rungs,
-    }
+/// 15 for a ceiling: both control pairs, and every figure of the rungs. A figure past the last whole
+/// four is an edge too (docs/DECISIONS.md).
+pub fn ladder_refused(ordinary: &Edges, floor: &Edges, rungs: &[f64]) -> bool {
+    edges_refused(ordinary) || edges_refused(floor) || rungs.iter().any(|&x| out_of_size(x))
 }
 
 /// "16 rungs not in fours, over 256, or floor bytes not one each of 0 or 1"
