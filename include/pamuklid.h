@@ -4,8 +4,10 @@
  * outside its values is refused by a number. No call keeps a pointer, allocates, or has a state of
  * its own: equal arguments give equal answers, and calls may run at once on several threads.
  *
- * An image is lent as a pointer and a count of bytes. It is only read, during the call, and no byte of
- * it changes. With n = 0 the pointer is not followed, but pass one that is not null.
+ * An image, rungs and floor bytes are lent as a pointer and a count of elements. They are only read,
+ * during the call, and no byte of them changes. Dial rows are lent to be written: see
+ * pamuklid_safe_dials. With a count of 0 a pointer is not followed, but pass one that is not null.
+ * Lent rows may not overlap what else is lent to the same call.
  *
  * Structs go by value. Nothing checks these declarations against the library: keep names, order and
  * types. Frequencies are in hertz, power in watts.
@@ -19,6 +21,8 @@
  *       6 a figure, 7 to 10 a band, segment, automatic segment or privilege of no length,
  *       11 no band or no segment, 12 a segment in no band, 13 a segment's own limit, 14 the data limit
  *   15  an edge that is not finite or above 2^40 in size
+ *   16  rungs not in fours, more than 256 of them, or floor bytes that are not one for each rung, 0 or 1
+ *   23  a dial list longer than the whole rows lent
  */
 #ifndef PAMUKLID_H
 #define PAMUKLID_H
@@ -96,6 +100,34 @@ typedef struct {
     uint8_t notes[256];      /* 1 for each power record of the image that is exceeded, by its index; else 0 */
 } pamuklid_decision;
 
+/* How fast a rung may be sent. A part that is absent is all zero. A refusal has refusal and all else
+ * zero. */
+typedef struct {
+    pamuklid_decision limit; /* the whole answer on the first rung that is blocked, for a data signal of
+                                the edges of that rung, of every slower one and of their control frames:
+                                verdict 2, refusal 0. limit_known 0: every field and every note is 0 */
+    uint16_t rung;           /* the fastest rung that may be sent, 0 to 255, every slower one too */
+    uint8_t rung_known;      /* 1, or 0 where not even rung 0 may be sent, there is none, or on a refusal */
+    uint8_t limit_known;     /* 1 where a rung is blocked; 0 where none is, there is none, or on a refusal */
+    uint8_t refusal;         /* 0 judged; else the number of the refusal, see above; limit.refusal is 0 */
+} pamuklid_ceiling;
+
+/* A dial list's answer. */
+typedef struct {
+    uint32_t count;          /* the rows that were written; 0 on a refusal */
+    uint8_t refusal;         /* 0 listed; else the number of the refusal, see above */
+} pamuklid_dials;
+
+/* A dial row is PAMUKLID_ROW bytes, little-endian; an f64 is its 64 bits:
+ *    0  f64  segment_low   the segment, or the part of it, that the row keeps the signal in
+ *    8  f64  segment_high
+ *   16  f64  dial_low      the dials of the row: from dial_low to dial_high, both included
+ *   24  f64  dial_high
+ *   32  u8   band          the number of the band, as in the image
+ *   33  u8                 0
+ *   34  u16  rule          the rule that the row goes by, as in pamuklid_decision */
+#define PAMUKLID_ROW 36
+
 /* Whether an image is accepted: 0, or its first refusal, 1 to 14. Reads image[0] to image[n - 1]. */
 uint8_t pamuklid_check(const uint8_t *image, size_t n);
 
@@ -115,6 +147,30 @@ pamuklid_decision pamuklid_evaluate(pamuklid_station s, uint8_t kind, uint8_t di
 /* The answer for a transmission whose spectrum is not known: blocked, code 4, audio 0 to 0; or the
  * refusal of the station or the image. Reads the image with policy 2 only. */
 pamuklid_decision pamuklid_unmeasured(pamuklid_station s, const uint8_t *image, size_t n);
+
+/* The fastest rung that may be sent, and the answer on the first that may not.
+ * direction: as in pamuklid_evaluate. ordinary, floor: the edges of the two control frames.
+ * rungs: figures in fours, power_low, power_high, spectral_low, spectral_high of each rung, the slowest
+ * first; figures counts the doubles, four times the rungs (0 to 1024). floors: a byte for each rung,
+ * 1 where it goes with the floor control frame, 0 with the ordinary one; floor_count counts them.
+ * Rungs are climbed from the slowest on; each is judged with what the slower ones occupy, and the climb
+ * ends at the first that is blocked. No rungs: neither rung nor limit, under every policy.
+ * Reads every figure and every floor byte, the image with policy 2 only. Refusals 20 to 22, 1 to 14,
+ * 15 (any figure of the rungs or of the two control frames), 16. */
+pamuklid_ceiling pamuklid_ceiling_of(pamuklid_station s, uint8_t direction, pamuklid_edges ordinary,
+                                     pamuklid_edges floor, const uint8_t *image, size_t n,
+                                     const double *rungs, size_t figures, const uint8_t *floors,
+                                     size_t floor_count);
+
+/* The dials at which a data signal of these edges stays inside the rules, with the margin to spare, as
+ * rows in the bytes lent, by their lower dial (rows of equal lower dial as the image has them).
+ * The station's dial is not asked for. With a policy other than 2, or where control, license or sideband
+ * is absent, the list is empty (count 0, refusal 0).
+ * rows[0] to rows[36 * count - 1] are written, every byte of them; rows past them stay as lent. On a
+ * refusal no byte of rows changes. rows_len / 36 whole rows have room; a longer list meets 23 (the rows
+ * are counted first). Reads the image with policy 2 only. Refusals 20 to 22, 1 to 14, 15, 23. */
+pamuklid_dials pamuklid_safe_dials(pamuklid_station s, uint8_t direction, pamuklid_edges e,
+                                   const uint8_t *image, size_t n, uint8_t *rows, size_t rows_len);
 
 #ifdef __cplusplus
 }

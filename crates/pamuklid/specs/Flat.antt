@@ -2,6 +2,8 @@
 -- An absent part is all zero.
 use Prim.Native.Nat.{ℕ, _+_, _%_}
 use mathlib.Core.Bool.{Bool, cond}
+use mathlib.Core.List.{List}
+use mathlib.Core.Path.{_≡_}
 use lib.Ieee.{Float}
 use Rattle.figures.specs.Figure.{zeroHz}
 use Rattle.profile.specs.Range.{range}
@@ -14,6 +16,8 @@ use Rattle.station.specs.declared.Figure.{Figure}
 use Rattle.station.specs.declared.Figure.the-variants.{Known, Absent}
 use Rattle.tidy.specs.declared.Tidiness.{Tidiness}
 use Rattle.tidy.specs.declared.Tidiness.the-variants.{Tidy, Untidy, NotJudged}
+use Rattle.codes.specs.Refusal.{refusalOf}
+use Rattle.decision.specs.Decision.{noNotes}
 use Rattle.decision.specs.Number.{verdictNumber, codeNumber, edgeNumber, overshootNumber, guidanceNumber}
 use Rattle.decision.specs.declared.Overshoot.{Overshoot}
 use Rattle.decision.specs.declared.Overshoot.the-variants.{Beyond, TooClose, NoOvershoot}
@@ -27,6 +31,12 @@ use Rattle.decision.specs.declared.MaybeRange.{MaybeRange}
 use Rattle.decision.specs.declared.MaybeRange.the-variants.{Is, NoRange}
 use Rattle.decision.specs.declared.Decision.{Decision}
 use Rattle.numbers.specs.Refusal.{refusalNumber}
+use Rattle.ceiling.specs.Ceiling.{rungNumber, rungIndex}
+use Rattle.ceiling.specs.declared.Rung.{Rung}
+use Rattle.ceiling.specs.declared.CeilingAnswer.{CeilingAnswer}
+use Rattle.dials.specs.List.{listRows, listTests, answerOf, bytesOf}
+use Rattle.dials.specs.declared.DialList.{DialList}
+use Rattle.dials.specs.declared.DialList.the-variants.{Rows, Refused}
 use Rattle.pamuklid.specs.declared.FlatStation.{FlatStation}
 use Rattle.pamuklid.specs.declared.FlatEdges.{FlatEdges}
 use Rattle.pamuklid.specs.declared.FlatRange.{FlatRange}
@@ -36,6 +46,9 @@ use Rattle.pamuklid.specs.declared.FlatGuidance.{FlatGuidance}
 use Rattle.pamuklid.specs.declared.FlatRule.{FlatRule}
 use Rattle.pamuklid.specs.declared.FlatBand.{FlatBand}
 use Rattle.pamuklid.specs.declared.FlatDecision.{FlatDecision}
+use Rattle.pamuklid.specs.declared.FlatRung.{FlatRung}
+use Rattle.pamuklid.specs.declared.FlatCeiling.{FlatCeiling}
+use Rattle.pamuklid.specs.declared.FlatDials.{FlatDials}
 
 -- the station record that arrives, and one that leaves
 unfoldable pub recordOf : FlatStation → StationRecord
@@ -164,3 +177,68 @@ flatOf d =
       «note_segment_power» = markOf (d .advice .sixty .«segment_power»);
       notes = d .advice .notes;
     }
+
+-- every part absent, and no refusal
+unfoldable pub zeroAnswer : FlatDecision
+zeroAnswer =
+    record {
+      «segment_low» = zeroHz;
+      «segment_high» = zeroHz;
+      «automatic_low» = zeroHz;
+      «automatic_high» = zeroHz;
+      «audio_low» = zeroHz;
+      «audio_high» = zeroHz;
+      width = zeroHz;
+      «air_low» = zeroHz;
+      «air_high» = zeroHz;
+      «beyond_hz» = zeroHz;
+      rule = 0;
+      «segment_rule» = 0;
+      «guidance_index» = 0;
+      refusal = 0;
+      verdict = 0;
+      code = 0;
+      «rule_known» = 0;
+      «band_known» = 0;
+      band = 0;
+      «segment_known» = 0;
+      «automatic_known» = 0;
+      «audio_known» = 0;
+      «air_known» = 0;
+      overshoot = 0;
+      edge = 0;
+      guidance = 0;
+      «note_channel_power» = 0;
+      «note_shared» = 0;
+      «note_segment_power» = 0;
+      notes = noNotes;
+    }
+
+-- the limit of a ceiling: all zero where there is none
+unfoldable pub limitFlat : Bool → Decision → FlatDecision
+limitFlat limited d = cond limited (flatOf d) zeroAnswer
+
+-- a rung is below 256
+abbrev pub rungFlat : Rung → FlatRung
+rungFlat k = record { rung = rungIndex k % 65536; known = rungNumber k }
+
+-- a ceiling
+unfoldable pub ceilingFlat : CeilingAnswer → FlatCeiling
+ceilingFlat a =
+    record {
+      limit = limitFlat (a .limited) (a .limit);
+      rung = rungFlat (a .rung) .rung;
+      «rung_known» = rungFlat (a .rung) .known;
+      «limit_known» = markOf (a .limited);
+      refusal = refusalNumber (a .refusal);
+    }
+
+-- a dial list: "A refusal gives its number, … count 0"
+abbrev pub dialsFlat : DialList → FlatDials
+dialsFlat (Rows n) = record { count = n % 4294967296; refusal = 0 }
+dialsFlat (Refused n) = record { count = 0; refusal = n }
+
+-- what the exported list promises: the flat form of the answer, and every byte of the rows lent
+pub record FlatDialed (r : StationRecord) (direction : ℕ) (e : Edges) (l lent left : List ℕ) (answer : FlatDials) : Type 0 where
+  pub answered : answer ≡ dialsFlat (answerOf (refusalOf (listTests r direction e l lent)) (listRows r direction e l))
+  pub bytes : left ≡ bytesOf (refusalOf (listTests r direction e l lent)) (listRows r direction e l) lent

@@ -1,5 +1,7 @@
 // The boundary to C: the public calls, exported, with flat structs of numbers. It uses codes, profile, occupancy, station,
-// image, tidy, decision, numbers and verdict.
+// image, tidy, decision, numbers, verdict, ceiling and dials.
+use ceiling::CeilingAnswer;
+use ceiling::Rung;
 use codes::Checked;
 use decision::BandNumber;
 use decision::Decision;
@@ -7,6 +9,7 @@ use decision::Guidance;
 use decision::JudgedSegment;
 use decision::MaybeRange;
 use decision::Overshoot;
+use dials::DialList;
 use occupancy::Edges;
 use profile::Range;
 use profile::RuleName;
@@ -19,9 +22,10 @@ ghost use Rattle.image.specs.Check.{checkOf};
 ghost use Rattle.tidy.specs.Tidy.{tidyOf};
 ghost use Rattle.station.specs.Station.{freshOf};
 ghost use Rattle.verdict.specs.Verdict.{evaluateOf, unmeasuredOf};
+ghost use Rattle.ceiling.specs.Ceiling.{ceilingOf};
 ghost use Rattle.numbers.specs.Refusal.{refusalNumber};
 ghost use Rattle.pamuklid.specs.Laws.{Numbered};
-ghost use Rattle.pamuklid.specs.Flat.{recordOf, stationOf, edgesOf, rangeFlat, segmentFlat, overshootFlat, guidanceFlat, ruleFlat, bandFlat, widthFlat, tidyNumber, flatOf};
+ghost use Rattle.pamuklid.specs.Flat.{recordOf, stationOf, edgesOf, rangeFlat, segmentFlat, overshootFlat, guidanceFlat, ruleFlat, bandFlat, widthFlat, tidyNumber, flatOf, zeroAnswer, limitFlat, rungFlat, ceilingFlat, dialsFlat, FlatDialed};
 
 // The station record: codes and presence bytes as document 01 numbers them, figures whatever they are.
 #[repr(C)]
@@ -83,6 +87,23 @@ pub struct FlatDecision {
     pub notes: [u8; 256],
 }
 
+// A ceiling. Where limit_known is 0 every part of limit is zero; a refusal has its number and all else zero.
+#[repr(C)]
+pub struct FlatCeiling {
+    pub limit: FlatDecision,
+    pub rung: u16,
+    pub rung_known: u8,
+    pub limit_known: u8,
+    pub refusal: u8,
+}
+
+// A dial list: the count of its rows, or the refusal's number and count 0.
+#[repr(C)]
+pub struct FlatDials {
+    pub count: u32,
+    pub refusal: u8,
+}
+
 // The parts of an answer, each flat.
 pub struct FlatRange {
     pub low: f64,
@@ -115,6 +136,11 @@ pub struct FlatRule {
 
 pub struct FlatBand {
     pub band: u8,
+    pub known: u8,
+}
+
+pub struct FlatRung {
+    pub rung: u16,
     pub known: u8,
 }
 
@@ -351,6 +377,97 @@ fn flat(d: Decision) -> FlatDecision
     }
 }
 
+// Every part absent, and no refusal.
+fn zero_answer() -> FlatDecision
+    ensures { λ r. ⌜ r ≡ zeroAnswer ⌝ }
+{
+    FlatDecision {
+        segment_low: 0.0,
+        segment_high: 0.0,
+        automatic_low: 0.0,
+        automatic_high: 0.0,
+        audio_low: 0.0,
+        audio_high: 0.0,
+        width: 0.0,
+        air_low: 0.0,
+        air_high: 0.0,
+        beyond_hz: 0.0,
+        rule: 0,
+        segment_rule: 0,
+        guidance_index: 0,
+        refusal: 0,
+        verdict: 0,
+        code: 0,
+        rule_known: 0,
+        band_known: 0,
+        band: 0,
+        segment_known: 0,
+        automatic_known: 0,
+        audio_known: 0,
+        air_known: 0,
+        overshoot: 0,
+        edge: 0,
+        guidance: 0,
+        note_channel_power: 0,
+        note_shared: 0,
+        note_segment_power: 0,
+        notes: [0; 256],
+    }
+}
+
+// The limit of a ceiling, where there is one.
+fn limit_flat(limited: bool, d: Decision) -> FlatDecision
+    ensures { λ r. ⌜ r ≡ limitFlat limited d ⌝ }
+{
+    if limited { flat(d) } else { zero_answer() }
+}
+
+fn rung_flat(k: Rung) -> FlatRung
+    ensures { λ r. ⌜ r ≡ rungFlat k ⌝ }
+{
+    match k {
+        Rung::Fastest(i) => FlatRung {
+            rung: (i % 65536) as u16,
+            known: 1,
+        },
+        Rung::NoRung => FlatRung { rung: 0, known: 0 },
+    }
+}
+
+// A ceiling, flat.
+fn ceiling_flat(a: CeilingAnswer) -> FlatCeiling
+    ensures { λ r. ⌜ r ≡ ceilingFlat a ⌝ }
+{
+    let refusal = a.refusal;
+    let fastest = a.rung;
+    let limited = a.limited;
+    let limit = a.limit;
+    let rung = rung_flat(fastest);
+    FlatCeiling {
+        limit: limit_flat(limited, limit),
+        rung: rung.rung,
+        rung_known: rung.known,
+        limit_known: mark(limited),
+        refusal: numbers::refusal_number(refusal),
+    }
+}
+
+// A dial list's answer, flat.
+fn dials_flat(a: DialList) -> FlatDials
+    ensures { λ r. ⌜ r ≡ dialsFlat a ⌝ }
+{
+    match a {
+        DialList::Rows(n) => FlatDials {
+            count: (n % 4294967296) as u32,
+            refusal: 0,
+        },
+        DialList::Refused(n) => FlatDials {
+            count: 0,
+            refusal: n,
+        },
+    }
+}
+
 // Whether an image is accepted: 0, or the number of its first refusal, 1 to 14.
 #[no_mangle]
 pub extern "C" fn pamuklid_check(image: &[u8]) -> u8
@@ -398,4 +515,49 @@ pub extern "C" fn pamuklid_unmeasured(s: FlatStation, image: &[u8]) -> FlatDecis
 {
     let record = station_in(s);
     flat(verdict::unmeasured(record, image))
+}
+
+// The fastest rung that may be sent, and the answer on the first that may not.
+#[no_mangle]
+pub extern "C" fn pamuklid_ceiling_of(
+    s: FlatStation,
+    direction: u8,
+    ordinary: FlatEdges,
+    floor: FlatEdges,
+    image: &[u8],
+    rungs: &[f64],
+    floors: &[u8],
+) -> FlatCeiling
+    ensures { λ r. ⌜ r ≡ ceilingFlat (ceilingOf (recordOf s) direction (edgesOf ordinary) (edgesOf floor) (now (image .entry)) (now (rungs .entry)) (now (floors .entry))) ⌝ }
+{
+    let record = station_in(s);
+    let ordinary_edges = edges_in(ordinary);
+    let floor_edges = edges_in(floor);
+    let answer = ceiling::ceiling(
+        record,
+        direction,
+        ordinary_edges,
+        floor_edges,
+        image,
+        rungs,
+        floors,
+    );
+    ceiling_flat(answer)
+}
+
+// The dials that keep a signal of these edges inside the rules, as rows of 36 bytes.
+#[no_mangle]
+pub extern "C" fn pamuklid_safe_dials(
+    s: FlatStation,
+    direction: u8,
+    e: FlatEdges,
+    image: &[u8],
+    rows: &mut [u8],
+) -> FlatDials
+    ensures { λ r. ⌜ FlatDialed (recordOf s) direction (edgesOf e) (now (image .entry)) (now (rows .entry)) (now (rows .exit)) r ⌝ }
+{
+    let record = station_in(s);
+    let edges = edges_in(e);
+    let answer = dials::safe_dials(record, direction, edges, image, rows);
+    dials_flat(answer)
 }

@@ -2,22 +2,16 @@
 use borrow.Author.Needs.{needs}
 use Rattle.pamuklid.proofs.band_flat.Statement.{statement}
 use Rattle.pamuklid.proofs.band_flat.Tie as tie
-use Rattle.pamuklid.proofs.band_flat.Reads as reads
-use Rattle.pamuklid.proofs.band_flat.Lts as lts
 
--- src/lib.rt:265:26
 enum-known-b : tie.Need-enum-known-b
 enum-known-b c = search needs
 
--- src/lib.rt:269:31
 enum-told : tie.Need-enum-told
 enum-told c = search needs
 
--- src/lib.rt:261:1
 returns : tie.Need-returns
 returns c = rw (c .before .b .given .1)
 
--- src/lib.rt:261:1
 returns-2 : tie.Need-returns-2
 returns-2 c = rw (c .enum-told .given .1)
 

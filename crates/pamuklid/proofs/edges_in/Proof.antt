@@ -3,10 +3,7 @@ use mathlib.Core.Path.{refl}
 use Rattle.pamuklid.specs.Flat.{edgesOf}
 use Rattle.pamuklid.proofs.edges_in.Statement.{statement}
 use Rattle.pamuklid.proofs.edges_in.Tie as tie
-use Rattle.pamuklid.proofs.edges_in.Reads as reads
-use Rattle.pamuklid.proofs.edges_in.Lts as lts
 
--- src/lib.rt:149:1
 returns : tie.Need-returns
 unfolding edgesOf
 returns c = refl

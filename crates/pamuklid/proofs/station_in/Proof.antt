@@ -3,10 +3,7 @@ use mathlib.Core.Path.{refl}
 use Rattle.pamuklid.specs.Flat.{recordOf}
 use Rattle.pamuklid.proofs.station_in.Statement.{statement}
 use Rattle.pamuklid.proofs.station_in.Tie as tie
-use Rattle.pamuklid.proofs.station_in.Reads as reads
-use Rattle.pamuklid.proofs.station_in.Lts as lts
 
--- src/lib.rt:113:1
 returns : tie.Need-returns
 unfolding recordOf
 returns c = refl

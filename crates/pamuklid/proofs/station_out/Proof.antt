@@ -3,10 +3,7 @@ use mathlib.Core.Path.{refl}
 use Rattle.pamuklid.specs.Flat.{stationOf}
 use Rattle.pamuklid.proofs.station_out.Statement.{statement}
 use Rattle.pamuklid.proofs.station_out.Tie as tie
-use Rattle.pamuklid.proofs.station_out.Reads as reads
-use Rattle.pamuklid.proofs.station_out.Lts as lts
 
--- src/lib.rt:131:1
 returns : tie.Need-returns
 unfolding stationOf
 returns c = refl

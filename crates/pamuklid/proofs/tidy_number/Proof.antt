@@ -3,34 +3,25 @@ use native.Mathlib.Omega.{arith}
 use borrow.Author.Needs.{needs}
 use Rattle.pamuklid.proofs.tidy_number.Statement.{statement}
 use Rattle.pamuklid.proofs.tidy_number.Tie as tie
-use Rattle.pamuklid.proofs.tidy_number.Reads as reads
-use Rattle.pamuklid.proofs.tidy_number.Lts as lts
 
--- src/lib.rt:287:29
 enum-told : tie.Need-enum-told
 enum-told c = search needs
 
--- src/lib.rt:288:27
 enum-told-2 : tie.Need-enum-told-2
 enum-told-2 c = search needs
 
--- src/lib.rt:289:29
 enum-known-t : tie.Need-enum-known-t
 enum-known-t c = search needs
 
--- src/lib.rt:289:35
 add-result : tie.Need-add-result
 add-result c = omega (arith, c .before .before .before .pre _ (c .before .t .given .1))
 
--- src/lib.rt:282:1
 returns : tie.Need-returns
 returns c = search needs
 
--- src/lib.rt:282:1
 returns-2 : tie.Need-returns-2
 returns-2 c = search needs
 
--- src/lib.rt:282:1
 returns-3 : tie.Need-returns-3
 returns-3 c = rw (c .before .t .given .1)
 

@@ -1,0 +1,38 @@
+-- By the calls.
+use borrow.Author.Needs.{needs}
+use Rattle.pamuklid.proofs.pamuklid_ceiling_of.Statement.{statement}
+use Rattle.pamuklid.proofs.pamuklid_ceiling_of.Tie as tie
+
+station-in-requires : tie.Need-station-in-requires
+station-in-requires c κs = search needs
+
+edges-in-requires : tie.Need-edges-in-requires
+edges-in-requires c κs = search needs
+
+edges-in-requires-2 : tie.Need-edges-in-requires-2
+edges-in-requires-2 c κs = search needs
+
+ceiling-requires : tie.Need-ceiling-requires
+ceiling-requires c κs = search needs
+
+ceiling-flat-requires : tie.Need-ceiling-flat-requires
+ceiling-flat-requires c κs = search needs
+
+returns : tie.Need-returns
+returns c =
+    rw (c .ceiling-flat .ensures)
+    (rw (c .before .ceiling .ensures)
+    (rw (c .before .before .edges-in2 .ensures)
+    (rw (c .before .before .before .edges-in .ensures)
+    (rw (c .before .before .before .before .station-in .ensures)))))
+
+pub pamuklid-ceiling-of-spec : {M : Type 1} → statement M
+pamuklid-ceiling-of-spec =
+    tie.close
+    (tie.spec
+    station-in-requires
+    edges-in-requires
+    edges-in-requires-2
+    ceiling-requires
+    ceiling-flat-requires
+    returns)
