@@ -1,0 +1,154 @@
+//! Pamuklid is a transmit gate: before each keying it says whether a transmission is lawful under
+//! 47 CFR Part 97, by a trustee's rules table (the *image*, bytes), the station's record and the
+//! measured edges of the signal. The gate itself is `libpamuklid.a`, proved; this crate wraps its
+//! calls in safe functions with enums. It has no dependencies and allocates nothing.
+//!
+//! | call | answer |
+//! |---|---|
+//! | [`check`] | whether an image is accepted |
+//! | [`tidy`] | whether an image's table is tidy |
+//! | [`Station::fresh`] | a station of which nothing is known: it permits nothing |
+//! | [`evaluate`] | the verdict on a transmission |
+//! | [`unmeasured`] | the answer for a signal whose spectrum is not known |
+//! | [`ceiling`] | the fastest rung that may be sent |
+//! | [`safe_dials`] | the dials at which a signal stays inside the rules |
+//!
+//! No call keeps what it is lent or has a state of its own: equal arguments give equal answers, and
+//! calls may run at once on several threads. Images, edges and rungs are only read. Frequencies are
+//! in hertz, power in watts. Every figure is accepted as an argument, NaN and infinities too; what is
+//! outside its values is answered by a [`Refusal`].
+//!
+//! **Send only what was judged and not blocked**: a refusal is not a verdict, and nothing may be
+//! sent on it.
+//!
+//! ```
+//! use pamuklid::{evaluate, Code, Direction, Edges, Kind, Policy, Refusal, Station, Verdict};
+//!
+//! let mut station = Station {
+//!     policy: Policy::NoRules,
+//!     control: None,
+//!     license: None,
+//!     sideband: None,
+//!     itu_region: 2,
+//!     margin_hz: 50.0,
+//!     dial_hz: Some(14_100_000.0),
+//!     power_w: None,
+//!     band_plan: false,
+//! };
+//! let edges = Edges::both(1_250.0, 1_750.0);
+//! // A station outside the rules' reach: no image is looked at.
+//! let answer = evaluate(&station, Kind::Data, Direction::Originate, &edges, &[])?;
+//! assert_eq!((answer.verdict, answer.code), (Verdict::Legal, Code::NoRules));
+//! assert!(answer.allowed());
+//! // Under rules an image is needed.
+//! station.policy = Policy::Rules;
+//! let answer = evaluate(&station, Kind::Data, Direction::Originate, &edges, &[]);
+//! assert_eq!(answer, Err(Refusal::NoImage));
+//! # Ok::<(), Refusal>(())
+//! ```
+//!
+//! # Panics
+//!
+//! A call panics if the library answers with a number that this crate has no name for, which is so
+//! only if the two are of different editions.
+
+#![deny(missing_docs)]
+#![deny(unsafe_op_in_unsafe_fn)]
+
+mod answer;
+mod codes;
+mod dials;
+mod raw;
+mod station;
+
+pub use answer::{Ceiling, Decision, Range, Segment, SixtyNotes};
+pub use codes::{
+    Code, Control, Direction, Edge, Guidance, Kind, License, Overshoot, Policy, Refusal, Rule,
+    Sideband, Verdict,
+};
+pub use dials::{DialRow, DialRows, ROW};
+pub use station::{Edges, Station};
+
+/// Whether an image is accepted; else the first of the refusals 1 to 14 that it meets.
+///
+/// ```
+/// assert_eq!(pamuklid::check(&[]), Err(pamuklid::Refusal::ImageLength));
+/// ```
+pub fn check(image: &[u8]) -> Result<(), Refusal> {
+    let number = raw::check(image);
+    codes::refused(number)
+}
+
+/// Whether the table of an image is tidy: each data segment lies in a band of its number, and no two
+/// bands, no two segments and no two privileges of one class share a stretch. Refusals 1 to 14.
+///
+/// A table that is not tidy is judged all the same; the dial list and the verdict may then differ.
+pub fn tidy(image: &[u8]) -> Result<bool, Refusal> {
+    match raw::tidy(image) {
+        0 => Ok(false),
+        1 => Ok(true),
+        number => {
+            Err(codes::known("tidy answer", number, Refusal::from_number(number.wrapping_sub(100))))
+        }
+    }
+}
+
+/// Judges a transmission: one that a station would send in a direction, of a kind, with these audio
+/// edges. Refusals 20 to 22, 1 to 14, 15. The image is read under [`Policy::Rules`] only.
+pub fn evaluate(
+    station: &Station,
+    kind: Kind,
+    direction: Direction,
+    edges: &Edges,
+    image: &[u8],
+) -> Result<Decision, Refusal> {
+    let flat = raw::evaluate(station.flat(), kind.number(), direction.number(), *edges, image);
+    answer::decision(&flat)
+}
+
+/// The answer for a transmission whose spectrum is not known: blocked, [`Code::Unmeasured`], under
+/// every policy. Refusals 20 to 22, 1 to 14.
+pub fn unmeasured(station: &Station, image: &[u8]) -> Result<Decision, Refusal> {
+    answer::decision(&raw::unmeasured(station.flat(), image))
+}
+
+/// The fastest rung that may be sent, and the answer on the first that may not.
+///
+/// Rungs are given from the slowest on, at most 256. Beside each stands whether it goes with the
+/// `floor` control frame (else with the `ordinary` one); `floors` is as long as `rungs`. Each rung is
+/// judged as data, with its control frame and all that the slower ones occupy, up to the first that
+/// is blocked. Refusals 20 to 22, 1 to 14, 15 (a figure of the rungs or of the control frames), 16
+/// (more than 256 rungs, or floors of another length).
+pub fn ceiling(
+    station: &Station,
+    direction: Direction,
+    ordinary: &Edges,
+    floor: &Edges,
+    image: &[u8],
+    rungs: &[Edges],
+    floors: &[bool],
+) -> Result<Ceiling, Refusal> {
+    let s = station.flat();
+    answer::ceiling(&raw::ceiling(s, direction.number(), *ordinary, *floor, image, rungs, floors))
+}
+
+/// The dials at which a data signal of these edges stays inside the rules, the margin to spare, as
+/// rows by their lower dial.
+///
+/// The rows are written into the bytes lent, [`ROW`] bytes each, and read from there. Bytes past the
+/// last row stay as they were; on a refusal every byte does. The station's dial is not asked for.
+/// Without [`Policy::Rules`], or with control, license or sideband absent, the list is empty.
+/// Refusals 20 to 22, 1 to 14, 15, 23 ([`Refusal::Rows`]: the list is longer than the whole rows lent;
+/// lend more).
+pub fn safe_dials<'a>(
+    station: &Station,
+    direction: Direction,
+    edges: &Edges,
+    image: &[u8],
+    rows: &'a mut [u8],
+) -> Result<DialRows<'a>, Refusal> {
+    let flat = raw::safe_dials(station.flat(), direction.number(), *edges, image, rows);
+    codes::refused(flat.refusal)?;
+    let bytes: &'a [u8] = rows;
+    Ok(DialRows::new(&bytes[..ROW * flat.count as usize]))
+}

@@ -1,0 +1,223 @@
+//! Every call through the wrapper, on the practice table; the answers are the papers', not the
+//! library's.
+
+use pamuklid::{
+    ceiling, check, evaluate, safe_dials, tidy, unmeasured, Code, Control, DialRow, DialRows,
+    Direction, Edge, Edges, Guidance, Kind, License, Overshoot, Policy, Range, Refusal, Rule,
+    Segment, Sideband, SixtyNotes, Station, Verdict, ROW,
+};
+
+static IMAGE: &[u8] = include_bytes!("../../../tools/reference/practice.bin");
+
+const EDGES: Edges = Edges::both(1_250.0, 1_750.0);
+
+fn station(dial_hz: f64) -> Station {
+    Station {
+        policy: Policy::Rules,
+        control: Some(Control::Local),
+        license: Some(License::General),
+        sideband: Some(Sideband::Upper),
+        itu_region: 2,
+        margin_hz: 50.0,
+        dial_hz: Some(dial_hz),
+        power_w: None,
+        band_plan: false,
+    }
+}
+
+fn automatic(dial_hz: f64) -> Station {
+    Station { control: Some(Control::Automatic), ..station(dial_hz) }
+}
+
+fn range(low_hz: f64, high_hz: f64) -> Range {
+    Range { low_hz, high_hz }
+}
+
+#[test]
+fn image_calls() {
+    assert_eq!(check(IMAGE), Ok(()));
+    assert_eq!(tidy(IMAGE), Ok(true));
+    assert_eq!(check(&[]), Err(Refusal::ImageLength));
+    assert_eq!(tidy(&IMAGE[..91]), Err(Refusal::ImageLength));
+    let mut damaged = IMAGE.to_vec();
+    *damaged.last_mut().unwrap() = b'F';
+    assert_eq!(check(&damaged), Err(Refusal::Letters));
+    assert_eq!(tidy(&damaged), Err(Refusal::Letters));
+    // band 60 from 1 to 15,000,000: it shares a stretch with band 20
+    let mut untidy = IMAGE.to_vec();
+    untidy[96..104].copy_from_slice(&1.0f64.to_bits().to_le_bytes());
+    untidy[104..112].copy_from_slice(&15_000_000.0f64.to_bits().to_le_bytes());
+    assert_eq!(tidy(&untidy), Ok(false));
+}
+
+#[test]
+fn fresh_station() {
+    let fresh = Station::fresh();
+    let bare = Station {
+        policy: Policy::Unset,
+        control: None,
+        license: None,
+        sideband: None,
+        itu_region: 0,
+        margin_hz: 0.0,
+        dial_hz: None,
+        power_w: None,
+        band_plan: false,
+    };
+    assert_eq!(fresh, bare);
+}
+
+#[test]
+fn a_whole_decision() {
+    let d = evaluate(&station(14_148_500.0), Kind::Data, Direction::Originate, &EDGES, IMAGE);
+    let d = d.unwrap();
+    assert_eq!((d.verdict, d.code), (Verdict::Blocked, Code::OutsideDataSegment));
+    assert!(!d.allowed());
+    assert_eq!(d.overshoot, Overshoot::Beyond { by_hz: 250.0, edge: Edge::Upper });
+    assert_eq!(d.audio, range(1_250.0, 1_750.0));
+    assert_eq!(d.width_hz, 500.0);
+    assert_eq!(d.air, Some(range(14_149_750.0, 14_150_250.0)));
+    assert_eq!(d.band, Some(20));
+    assert_eq!(d.automatic_segment, None);
+    assert_eq!(d.guidance, Guidance::NoGuidance);
+    assert_eq!(d.power_records().count(), 0);
+}
+
+#[test]
+fn permitted_with_its_segment() {
+    let d = evaluate(&station(14_023_800.0), Kind::Data, Direction::Originate, &EDGES, IMAGE);
+    let d = d.unwrap();
+    assert_eq!((d.verdict, d.code), (Verdict::Legal, Code::Permitted));
+    assert!(d.allowed());
+    let segment = Segment { range: range(14_000_000.0, 14_150_000.0), rule: Rule::Table(13) };
+    assert_eq!(d.segment, Some(segment));
+    assert_eq!(d.overshoot, Overshoot::NoOvershoot);
+}
+
+#[test]
+fn automatic_with_its_segment() {
+    let d = evaluate(&automatic(14_097_700.0), Kind::Data, Direction::Originate, &EDGES, IMAGE);
+    let d = d.unwrap();
+    assert_eq!((d.verdict, d.code), (Verdict::Legal, Code::AutomaticSegment));
+    assert_eq!(d.automatic_segment, Some(range(14_095_000.0, 14_099_500.0)));
+}
+
+#[test]
+fn sixty_metres() {
+    let at = |kind, power_w| {
+        let s = Station { power_w, ..station(5_330_550.0) };
+        evaluate(&s, kind, Direction::Originate, &EDGES, IMAGE).unwrap()
+    };
+    let shared = SixtyNotes { channel_power: false, shared: true, segment_power: false };
+    let d = at(Kind::Data, Some(100.0));
+    assert_eq!((d.verdict, d.code, d.sixty), (Verdict::Legal, Code::SixtyChannel, shared));
+    let d = at(Kind::Data, Some(100.125));
+    let above = SixtyNotes { channel_power: true, ..shared };
+    assert_eq!((d.verdict, d.code, d.sixty), (Verdict::Warning, Code::SixtyChannel, above));
+    assert!(d.allowed());
+    let d = at(Kind::Test, None);
+    assert_eq!((d.verdict, d.code), (Verdict::Blocked, Code::SixtyEmission));
+}
+
+#[test]
+fn unmeasured_signal() {
+    let d = unmeasured(&station(14_100_000.0), IMAGE).unwrap();
+    assert_eq!((d.verdict, d.code, d.rule), (Verdict::Blocked, Code::Unmeasured, Rule::Empty));
+    assert_eq!(unmeasured(&station(f64::NAN), IMAGE), Err(Refusal::StationFigure));
+}
+
+#[test]
+fn climbs() {
+    let s = station(14_100_000.0);
+    let rungs = [EDGES, Edges::both(1_000.0, 2_000.0), Edges::both(0.0, 2_900.0)];
+    let climb = |rungs: &[Edges], floors: &[bool]| {
+        ceiling(&s, Direction::Originate, &EDGES, &EDGES, IMAGE, rungs, floors)
+    };
+    let c = climb(&rungs, &[false; 3]).unwrap();
+    assert_eq!(c.rung, Some(1));
+    let limit = c.limit.unwrap();
+    assert_eq!((limit.verdict, limit.code), (Verdict::Blocked, Code::TooWide));
+    assert_eq!((limit.audio, limit.width_hz), (range(0.0, 2_900.0), 2_900.0));
+    let c = climb(&rungs[..2], &[false; 2]).unwrap();
+    assert_eq!((c.rung, c.limit), (Some(1), None));
+    let c = climb(&rungs[2..], &[false]).unwrap();
+    assert_eq!((c.rung, c.limit.map(|d| d.code)), (None, Some(Code::TooWide)));
+    let c = climb(&[], &[]).unwrap();
+    assert_eq!((c.rung, c.limit), (None, None));
+    assert_eq!(climb(&rungs, &[false; 2]), Err(Refusal::Rungs));
+    assert_eq!(climb(&[EDGES; 257], &[false; 257]), Err(Refusal::Rungs));
+    let bad = Edges { spectral_high: f64::INFINITY, ..EDGES };
+    assert_eq!(climb(&[EDGES, bad], &[false; 2]), Err(Refusal::SignalEdge));
+}
+
+/// The floor control frame counts where a rung's mark says so.
+#[test]
+fn floor_frames() {
+    let s = station(14_100_000.0);
+    let wide = Edges::both(0.0, 2_900.0);
+    let climb = |floors: &[bool]| {
+        ceiling(&s, Direction::Originate, &EDGES, &wide, IMAGE, &[EDGES, EDGES], floors).unwrap()
+    };
+    assert_eq!(climb(&[false, false]).rung, Some(1));
+    assert_eq!(climb(&[false, true]).rung, Some(0));
+    assert_eq!(climb(&[true, false]).rung, None);
+}
+
+#[test]
+fn dial_list() {
+    let s = automatic(14_100_000.0);
+    let mut bytes = [7; 3 * ROW + 5];
+    let rows = safe_dials(&s, Direction::Originate, &EDGES, IMAGE, &mut bytes).unwrap();
+    assert_eq!(rows.len(), 2);
+    assert_eq!(rows.bytes().len(), 2 * ROW);
+    let rows: Vec<DialRow> = rows.collect();
+    let row = |segment, dial| DialRow { segment, dial, band: 20, rule: Rule::Table(9) };
+    let want = [
+        row(range(14_095_000.0, 14_099_500.0), range(14_093_800.0, 14_097_700.0)),
+        row(range(14_100_500.0, 14_112_000.0), range(14_099_300.0, 14_110_200.0)),
+    ];
+    assert_eq!(rows, want);
+    assert!(bytes[2 * ROW..].iter().all(|&b| b == 7));
+    assert_eq!(DialRows::new(&bytes[..2 * ROW + 35]).collect::<Vec<_>>(), want);
+
+    let mut short = [7; 2 * ROW - 1];
+    let refused = safe_dials(&s, Direction::Originate, &EDGES, IMAGE, &mut short);
+    assert_eq!(refused.err(), Some(Refusal::Rows));
+    assert!(short.iter().all(|&b| b == 7));
+}
+
+/// A list is empty, and not refused, where nothing is known of the station.
+#[test]
+fn empty_lists() {
+    let s = Station { sideband: None, ..station(14_100_000.0) };
+    assert_eq!(safe_dials(&s, Direction::Operator, &EDGES, IMAGE, &mut []).unwrap().len(), 0);
+}
+
+/// A row by its bytes, written by hand.
+#[test]
+fn row_bytes() {
+    let mut bytes = [0; ROW];
+    for (i, x) in [1.5f64, 2.5, -3.0, 4.0].iter().enumerate() {
+        bytes[8 * i..8 * i + 8].copy_from_slice(&x.to_bits().to_le_bytes());
+    }
+    bytes[32] = 60;
+    bytes[34] = 5;
+    bytes[35] = 0;
+    let row = DialRow::from_bytes(&bytes);
+    assert_eq!((row.segment, row.dial), (range(1.5, 2.5), range(-3.0, 4.0)));
+    assert_eq!((row.band, row.rule), (60, Rule::Part97_305C));
+    bytes[35] = 1;
+    assert_eq!(DialRow::from_bytes(&bytes).rule, Rule::Table(261));
+}
+
+#[test]
+fn refusals_of_the_state() {
+    let at = |s: &Station, image| evaluate(s, Kind::Data, Direction::Originate, &EDGES, image);
+    assert_eq!(at(&station(1e300), IMAGE), Err(Refusal::StationFigure));
+    assert_eq!(at(&station(14_100_000.0), &[]), Err(Refusal::NoImage));
+    assert_eq!(at(&station(14_100_000.0), &IMAGE[1..]), Err(Refusal::Counts));
+    let edges = Edges { power_low: f64::NAN, ..EDGES };
+    let s = station(14_100_000.0);
+    let refused = evaluate(&s, Kind::Data, Direction::Originate, &edges, IMAGE);
+    assert_eq!(refused, Err(Refusal::SignalEdge));
+}
