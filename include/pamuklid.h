@@ -114,7 +114,7 @@ typedef struct {
 
 /* A dial list's answer. */
 typedef struct {
-    uint32_t count;          /* the rows that were written; 0 on a refusal */
+    uint32_t count;          /* the rows that were written, at most 16,777,472; 0 on a refusal */
     uint8_t refusal;         /* 0 listed; else the number of the refusal, see above */
 } pamuklid_dials;
 

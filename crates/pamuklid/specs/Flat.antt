@@ -218,9 +218,9 @@ zeroAnswer =
 unfoldable pub limitFlat : Bool → Decision → FlatDecision
 limitFlat limited d = cond limited (flatOf d) zeroAnswer
 
--- a rung is below 256
+-- a rung is below 256 (Fits)
 abbrev pub rungFlat : Rung → FlatRung
-rungFlat k = record { rung = rungIndex k % 65536; known = rungNumber k }
+rungFlat k = record { rung = rungIndex k; known = rungNumber k }
 
 -- a ceiling
 unfoldable pub ceilingFlat : CeilingAnswer → FlatCeiling
@@ -233,9 +233,9 @@ ceilingFlat a =
       refusal = refusalNumber (a .refusal);
     }
 
--- a dial list: "A refusal gives its number, … count 0"
+-- a dial list: "A refusal gives its number, … count 0"; a count is at most 16,777,472 (Fits)
 abbrev pub dialsFlat : DialList → FlatDials
-dialsFlat (Rows n) = record { count = n % 4294967296; refusal = 0 }
+dialsFlat (Rows n) = record { count = n; refusal = 0 }
 dialsFlat (Refused n) = record { count = 0; refusal = n }
 
 -- what the exported list promises: the flat form of the answer, and every byte of the rows lent

@@ -25,6 +25,7 @@ ghost use Rattle.verdict.specs.Verdict.{evaluateOf, unmeasuredOf};
 ghost use Rattle.ceiling.specs.Ceiling.{ceilingOf};
 ghost use Rattle.numbers.specs.Refusal.{refusalNumber};
 ghost use Rattle.pamuklid.specs.Laws.{Numbered};
+ghost use Rattle.pamuklid.specs.Fits.{RungFits, Counted};
 ghost use Rattle.pamuklid.specs.Flat.{recordOf, stationOf, edgesOf, rangeFlat, segmentFlat, overshootFlat, guidanceFlat, ruleFlat, bandFlat, widthFlat, tidyNumber, flatOf, zeroAnswer, limitFlat, rungFlat, ceilingFlat, dialsFlat, FlatDialed};
 
 // The station record: codes and presence bytes as document 01 numbers them, figures whatever they are.
@@ -423,11 +424,12 @@ fn limit_flat(limited: bool, d: Decision) -> FlatDecision
 }
 
 fn rung_flat(k: Rung) -> FlatRung
+    requires { ⌜ RungFits k ⌝ }
     ensures { λ r. ⌜ r ≡ rungFlat k ⌝ }
 {
     match k {
         Rung::Fastest(i) => FlatRung {
-            rung: (i % 65536) as u16,
+            rung: i as u16,
             known: 1,
         },
         Rung::NoRung => FlatRung { rung: 0, known: 0 },
@@ -436,6 +438,7 @@ fn rung_flat(k: Rung) -> FlatRung
 
 // A ceiling, flat.
 fn ceiling_flat(a: CeilingAnswer) -> FlatCeiling
+    requires { ⌜ RungFits (a .rung) ⌝ }
     ensures { λ r. ⌜ r ≡ ceilingFlat a ⌝ }
 {
     let refusal = a.refusal;
@@ -454,11 +457,12 @@ fn ceiling_flat(a: CeilingAnswer) -> FlatCeiling
 
 // A dial list's answer, flat.
 fn dials_flat(a: DialList) -> FlatDials
+    requires { ⌜ Counted a ⌝ }
     ensures { λ r. ⌜ r ≡ dialsFlat a ⌝ }
 {
     match a {
         DialList::Rows(n) => FlatDials {
-            count: (n % 4294967296) as u32,
+            count: n as u32,
             refusal: 0,
         },
         DialList::Refused(n) => FlatDials {

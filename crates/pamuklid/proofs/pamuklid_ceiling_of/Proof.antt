@@ -1,4 +1,5 @@
 -- By the calls.
+use Rattle.pamuklid.specs.Fits.{ceiling-fits}
 use borrow.Author.Needs.{needs}
 use Rattle.pamuklid.proofs.pamuklid_ceiling_of.Statement.{statement}
 use Rattle.pamuklid.proofs.pamuklid_ceiling_of.Tie as tie
@@ -16,7 +17,9 @@ ceiling-requires : tie.Need-ceiling-requires
 ceiling-requires c κs = search needs
 
 ceiling-flat-requires : tie.Need-ceiling-flat-requires
-ceiling-flat-requires c κs = search needs
+ceiling-flat-requires c κs =
+    rw (c .ceiling .ensures)
+    (ceiling-fits (c .before .before .before .station-in .result) (c .before .before .before .before .before .before .before .args .direction) (c .before .before .edges-in .result) (c .before .edges-in2 .result) (c .before .before .before .before .before .before .before .args .image .now) (c .before .before .before .before .before .before .before .args .rungs .now) (c .before .before .before .before .before .before .before .args .floors .now))
 
 returns : tie.Need-returns
 returns c =

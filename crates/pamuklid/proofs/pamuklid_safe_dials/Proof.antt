@@ -1,6 +1,7 @@
 -- By the calls: the answer flat, the bytes as the list call leaves them.
 use mathlib.Core.Path.{ap}
 use Rattle.pamuklid.specs.Flat.{dialsFlat}
+use Rattle.pamuklid.specs.Fits.{list-counted}
 use borrow.Author.Needs.{needs}
 use Rattle.pamuklid.proofs.pamuklid_safe_dials.Statement.{statement}
 use Rattle.pamuklid.proofs.pamuklid_safe_dials.Tie as tie
@@ -15,7 +16,9 @@ safe-dials-requires : tie.Need-safe-dials-requires
 safe-dials-requires c κs = search needs
 
 dials-flat-requires : tie.Need-dials-flat-requires
-dials-flat-requires c κs = search needs
+dials-flat-requires c κs =
+    rw (c .before .before .safe-dials .ensures .answered)
+    (list-counted (c .before .before .before .before .before .station-in .result) (c .before .before .before .before .before .before .before .before .args .direction) (c .before .before .before .before .edges-in .result) (c .before .before .before .before .before .before .before .before .args .image .now) (c .before .before .before .before .before .before .before .before .args .rows .now))
 
 same-length : tie.Need-same-length
 same-length c = search needs
