@@ -1,0 +1,228 @@
+//! A made-up table of any size, as an image for the library and as a `Profile` for the Rust. Its
+//! figures are not Part 97's.
+
+use crate::rust::regulatory::profile::{
+    Automatic, Band, BandPlan, BandwidthRule, Channel, Channels, DataLimit, Elsewhere, Excluded,
+    PlanArea, PowerLimit, Privilege, Privileges, Segment, SixtyEmissions,
+};
+use crate::rust::regulatory::{Profile, Range, Reading};
+
+const BANDS: usize = 0;
+const SEGMENTS: usize = 1;
+const CHANNELS: usize = 2;
+const PRIVILEGES: usize = 3;
+const AUTOMATIC: usize = 4;
+const EXCLUDED: usize = 5;
+const POWER: usize = 6;
+const PLAN_DATA: usize = 7;
+const PLAN_AVOID: usize = 8;
+
+pub const CHANNEL_BAND: usize = 2;
+const RULE: u16 = 100;
+
+#[derive(Clone, Copy, Default)]
+struct Record {
+    low: f64,
+    high: f64,
+    figure: f64,
+    band: u8,
+    class: u8,
+    rule: u16,
+}
+
+pub struct Table {
+    tables: [Vec<Record>; 9],
+}
+
+/// Where band i begins. A band is 400 kHz wide, its data segments fill the first 150 kHz.
+pub fn start(i: usize) -> f64 {
+    1_000_000.0 * (i + 1) as f64
+}
+
+fn span(from: f64, low: f64, high: f64) -> Record {
+    Record { low: from + low, high: from + high, ..Record::default() }
+}
+
+/// Classes of the privileges, the first six records of a band.
+const CLASSES: [u8; 6] = [4, 3, 2, 2, 1, 0];
+
+impl Table {
+    /// So many records of each table, spread over the bands.
+    pub fn made(counts: [usize; 9]) -> Table {
+        let bands = counts[BANDS];
+        let each = |table: usize, record: &dyn Fn(usize, usize) -> Record| -> Vec<Record> {
+            (0..counts[table]).map(|j| record(j % bands, j / bands)).collect()
+        };
+        let rows = |b: usize| Record { band: b as u8, rule: RULE, ..Record::default() };
+        let channels = counts[CHANNELS];
+        let tables = [
+            each(BANDS, &|b, _| Record { band: b as u8, ..span(start(b), 0.0, 400_000.0) }),
+            each(SEGMENTS, &|b, k| Record {
+                band: b as u8,
+                rule: RULE + 1,
+                ..span(start(b), 75_000.0 * k as f64, 75_000.0 * (k + 1) as f64)
+            }),
+            (0..channels)
+                .map(|j| span(start(CHANNEL_BAND), 160_000.0 + 1_000.0 * j as f64, 0.0))
+                .map(|r| Record { high: 0.0, ..r })
+                .collect(),
+            each(PRIVILEGES, &|b, k| Record {
+                class: CLASSES[k % 6],
+                ..match k % 6 {
+                    3 => span(start(b), 200_000.0, 400_000.0),
+                    2 => span(start(b), 25_000.0, 150_000.0),
+                    _ => span(start(b), 0.0, 400_000.0),
+                }
+            }),
+            each(AUTOMATIC, &|b, _| span(start(b), 95_000.0, 112_000.0)),
+            each(EXCLUDED, &|b, k| rows(if k == 0 { bands - 1 - b } else { b })),
+            each(POWER, &|b, _| Record {
+                figure: 1_500.0,
+                rule: RULE,
+                ..span(start(b), 0.0, 400_000.0)
+            }),
+            each(PLAN_DATA, &|b, _| Record { rule: RULE, ..span(start(b), 70_000.0, 120_000.0) }),
+            each(PLAN_AVOID, &|b, _| Record { rule: RULE, ..span(start(b), 149_000.0, 149_500.0) }),
+        ];
+        Table { tables }
+    }
+
+    pub fn records(&self) -> usize {
+        self.tables.iter().map(Vec::len).sum()
+    }
+
+    pub fn image(&self) -> Vec<u8> {
+        let mut out = Vec::new();
+        for x in [2_800.0f64, 500.0, 2_800.0, 1_500.0, 50.0] {
+            out.extend(x.to_bits().to_le_bytes());
+        }
+        out.extend([2, 2, 31, CHANNEL_BAND as u8, 0, 3]);
+        for rule in [RULE + 2; 6] {
+            out.extend(rule.to_le_bytes());
+        }
+        out.extend([0; 6]);
+        for r in self.tables.iter().flatten() {
+            for x in [r.low, r.high, r.figure] {
+                out.extend(x.to_bits().to_le_bytes());
+            }
+            out.extend([r.band, r.class, 0, 0]);
+            out.extend(r.rule.to_le_bytes());
+            out.extend([0; 2]);
+        }
+        let front = out.len() as u32;
+        for t in &self.tables {
+            out.extend((t.len() as u16).to_le_bytes());
+        }
+        out.extend(front.to_le_bytes());
+        out.extend(1u16.to_le_bytes());
+        out.extend(b"EDGE");
+        out
+    }
+
+    pub fn profile(&self) -> Profile {
+        let text = |rule: u16| format!("rule {rule}");
+        let name = |band: u8| format!("band {band}");
+        let range = |r: &Record| Range { low_hz: r.low, high_hz: r.high };
+        let class = |number: u8| -> Vec<Privilege> {
+            self.tables[PRIVILEGES]
+                .iter()
+                .filter(|p| p.class == number)
+                .map(|p| Privilege { range: range(p), emissions: None, rule: None })
+                .collect()
+        };
+        let areas = |table: usize| -> Vec<PlanArea> {
+            self.tables[table]
+                .iter()
+                .map(|r| PlanArea { range: range(r), label: "area".to_owned() })
+                .collect()
+        };
+        Profile {
+            id: "table".to_owned(),
+            name: "table".to_owned(),
+            country: String::new(),
+            authority: String::new(),
+            rules_as_of: String::new(),
+            last_amended: String::new(),
+            source: String::new(),
+            itu_region: 2,
+            notes: Vec::new(),
+            bandwidth: BandwidthRule {
+                rule: String::new(),
+                reading: Reading::Wider,
+                why: String::new(),
+            },
+            data: DataLimit { max_bandwidth_hz: 2_800.0, rule: text(RULE + 2) },
+            cw_id: None,
+            bands: self.tables[BANDS]
+                .iter()
+                .map(|b| Band { name: name(b.band), range: range(b) })
+                .collect(),
+            data_segments: self.tables[SEGMENTS]
+                .iter()
+                .map(|s| Segment {
+                    band: name(s.band),
+                    range: range(s),
+                    rule: text(s.rule),
+                    max_bandwidth_hz: None,
+                    bandwidth_rule: None,
+                })
+                .collect(),
+            channels: Some(Channels {
+                band: name(CHANNEL_BAND as u8),
+                rule: text(RULE + 2),
+                width_hz: 2_800.0,
+                carrier_offset_hz: 1_500.0,
+                carrier_tolerance_hz: 50.0,
+                sideband: "usb".to_owned(),
+                list: self.tables[CHANNELS].iter().map(|c| Channel { center_hz: c.low }).collect(),
+                why: String::new(),
+            }),
+            sixty_meter_emissions: Some(SixtyEmissions {
+                allowed: vec!["data".to_owned(), "cw".to_owned()],
+                rule: text(RULE + 2),
+            }),
+            privileges: Privileges {
+                extra: class(4),
+                advanced: class(3),
+                general: class(2),
+                technician: class(1),
+                novice: class(0),
+                rule: text(RULE + 2),
+            },
+            automatic: Automatic {
+                segments: self.tables[AUTOMATIC].iter().map(range).collect(),
+                segments_rule: text(RULE + 2),
+                elsewhere: Some(Elsewhere {
+                    max_bandwidth_hz: 500.0,
+                    requires_response: true,
+                    rule: text(RULE + 2),
+                }),
+                excluded_bands: self.tables[EXCLUDED]
+                    .iter()
+                    .map(|x| Excluded {
+                        band: name(x.band),
+                        rule: text(x.rule),
+                        why: String::new(),
+                    })
+                    .collect(),
+            },
+            power: self.tables[POWER]
+                .iter()
+                .map(|p| PowerLimit {
+                    range: range(p),
+                    max_w: p.figure,
+                    measure: "PEP".to_owned(),
+                    classes: None,
+                    rule: text(p.rule),
+                })
+                .collect(),
+            band_plan: Some(BandPlan {
+                authority: "authority".to_owned(),
+                source: String::new(),
+                as_of: String::new(),
+                data: areas(PLAN_DATA),
+                avoid: areas(PLAN_AVOID),
+            }),
+        }
+    }
+}
