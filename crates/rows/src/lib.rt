@@ -6,7 +6,7 @@ ghost use Prim.Native.Nat.{_+_, _*_, _-_, _≤_, _<_};
 ghost use lib.ListN.{length, take, drop};
 ghost use lib.Seq.{sets};
 ghost use lib.Ieee.{binary64, toBits};
-ghost use Rattle.rows.specs.Rows.{little, figuresOf, encodeRow};
+ghost use Rattle.rows.specs.Rows.{little, figuresOf, encodeRow, lowAt, highAt, bandAt};
 ghost use Rattle.rows.specs.Held.{placeAt, insertAt, offerAt};
 
 pub const ROW_SIZE: usize = 36;
@@ -66,6 +66,28 @@ fn put_row(rows: &mut [u8], at: usize, row: SafeDial)
     put(rows, at + 34, 2, row.rule as u64);
 }
 
+// The lower dial, the upper dial and the band of the row that begins at a place.
+pub fn low_at(rows: &[u8], at: usize) -> f64
+    requires { ⌜ at + 36 ≤ length (now rows) ⌝ }
+    ensures { λ r. ⌜ r ≡ lowAt (now (rows .entry)) at ⌝ }
+{
+    figures::figure(layout::u64_at(rows, at + 16))
+}
+
+pub fn high_at(rows: &[u8], at: usize) -> f64
+    requires { ⌜ at + 36 ≤ length (now rows) ⌝ }
+    ensures { λ r. ⌜ r ≡ highAt (now (rows .entry)) at ⌝ }
+{
+    figures::figure(layout::u64_at(rows, at + 24))
+}
+
+pub fn band_at(rows: &[u8], at: usize) -> u8
+    requires { ⌜ at + 36 ≤ length (now rows) ⌝ }
+    ensures { λ r. ⌜ r ≡ bandAt (now (rows .entry)) at ⌝ }
+{
+    rows[at + 32]
+}
+
 // The place of a lower dial among the first count rows: before the first row that lies above it.
 fn place(rows: &[u8], count: usize, dial_low_hz: f64) -> usize
     requires { ⌜ count * 36 ≤ length (now rows) ⌝ }
@@ -73,8 +95,7 @@ fn place(rows: &[u8], count: usize, dial_low_hz: f64) -> usize
 {
     let mut i: usize = 0;
     while i < count {
-        let held = figures::figure(layout::u64_at(rows, i * ROW_SIZE + 16));
-        if figures::total_less(dial_low_hz, held) {
+        if figures::total_less(dial_low_hz, low_at(rows, i * ROW_SIZE)) {
             return i;
         }
         i += 1;

@@ -1,3 +1,4 @@
+-- `rows::offer` meets its contract: on each way to a return, the tests and what the calls ensure say which case of the definition holds.
 use borrow.Author.Tests.{lt-ltb, le-ltb}
 use Rattle.rows.specs.Held.{offerAt}
 use borrow.Author.Needs.{needs}

@@ -1,3 +1,4 @@
+-- `rows::put_figures` meets its contract: on each way to a return, the tests and what the calls ensure say which case of the definition holds.
 use Rattle.rows.specs.Turns.{figures-set}
 use borrow.Author.Needs.{needs}
 use Rattle.rows.proofs.put_figures.Statement.{statement}

@@ -1,3 +1,4 @@
+-- `rows::put_row` meets its contract: on each way to a return, the tests and what the calls ensure say which case of the definition holds.
 use native.Mathlib.Omega.{arith}
 use mathlib.Core.Path.{_∙_}
 use lib.ListN.{length-set}

@@ -1,3 +1,4 @@
+-- `rows::shift` meets its contract: on each way to a return, the tests and what the calls ensure say which case of the definition holds.
 use native.Mathlib.Omega.{arith}
 use Rattle.rows.specs.Turns.{Shifting, shift-none, shift-step, shift-done}
 use Rattle.rows.proofs.shift.Statement.{statement}

@@ -1,0 +1,12 @@
+pub mod Words
+pub mod Order
+pub mod Dial
+pub mod Listed
+pub mod Rows
+pub mod Nearest
+pub mod Read
+pub mod Judged
+pub mod Same
+pub mod Grounds
+pub mod Theorem
+pub mod Examples

@@ -1,0 +1,327 @@
+-- When a dial lies in a row outside the channel band: exactly if some data segment and some privilege that may use it hold the guarded
+-- signal there, and, where the list is cut to them, some automatic segment does.
+use Prim.Native.Nat.{ℕ, _<_}
+use mathlib.Core.Bool.{Bool, true, false, not, cond, _&&_, _||_, true≢false, false≢true}
+use mathlib.Core.List.{List, [], _∷_, _++_}
+use mathlib.Core.Path.{_≡_, refl, sym, ap, _∙_}
+use native.Mathlib.Omega.{arith}
+use lib.Dec.{eqb}
+use lib.Ieee.{Float, le}
+use Rattle.codes.specs.Code.{bitOf}
+use Rattle.codes.specs.declared.Sideband.{Sideband}
+use Rattle.profile.specs.Range.{range, holdsOf, lengthy, commonOf, intersectOf}
+use Rattle.profile.specs.declared.Range.{Range}
+use Rattle.profile.specs.declared.Shared.{Shared}
+use Rattle.profile.specs.declared.Shared.the-variants.{Stretch, Nothing}
+use Rattle.air.specs.Air.{rfRangeOf, guardedOf, dialEndsOf}
+use Rattle.air.specs.declared.DialRange.{DialRange}
+use Rattle.air.specs.declared.DialRange.the-variants.{Dials, NoDial}
+use Rattle.scan.specs.First.{first, some, Hit, isAt, first-at, first-nothing}
+use Rattle.scan.specs.declared.Found.{Found}
+use Rattle.scan.specs.declared.Found.the-variants.{At, Nothing as NotFound}
+use Rattle.layout.specs.Layout.{segments, channels, privileges, automatic, excluded, generalOf, recordOf, countOf, tables}
+use Rattle.layout.specs.declared.General.{General}
+use Rattle.layout.specs.declared.Record.{Record}
+use Rattle.table.specs.Parts.{spanOf, segmentOf, privilegeOf, channelsOf, channelSidebandOf, centreOf}
+use Rattle.table.specs.declared.Segment.{Segment}
+use Rattle.table.specs.declared.Privilege.{Privilege}
+use Rattle.table.specs.declared.Channels.{Channels}
+use Rattle.table.specs.declared.ChannelBand.{ChannelBand}
+use Rattle.table.specs.declared.ChannelBand.the-variants.{On, NoChannels}
+use Rattle.figures.specs.Figure.{figureOf}
+use Rattle.find.specs.Question.{asks, someIn}
+use Rattle.find.specs.declared.Question.the-variants.{Holds}
+use Rattle.eighths.specs.Grid.{Figure}
+use Rattle.rows.specs.Each.{each, Every, every-each, every-append, every-map}
+use Rattle.rows.specs.Order.{anyRow, any-append, Index, any-each-in, any-each-of}
+use Rattle.rows.specs.declared.SafeDial.{SafeDial}
+use Rattle.dial_rows.specs.Dials.{safeDial, dialRows, pieceRows, onShared, automaticAt, automaticRows, cut, cutRows, mayUse, privilegeRows, privilegeAt, privilegesRows, tooWide, excludedBand, segmentRows, segmentAt, dataRows, channelSafe, channelHolds, channelRow, channelAt, channelRows, channelsOpen, channelFound, openRows, bandRows, rowsOf}
+use Rattle.dial_rows.specs.declared.Request.{Request}
+use Rattle.distance.specs.Distance.{isOutside, counts}
+use Rattle.demand_3.specs.Order.{and-left, and-right, and-both, Grid, grid, le-trans, Ends, Figures, ends, held, held-low, held-high, common-holds, holds-common, share, common-figures, figure-grid}
+use Rattle.demand_3.specs.Dial.{RowEnd, guarded-ends, dial-low, dial-high, end-low, end-high}
+
+-- ---- a scan that found one
+
+pub record Some (test : ℕ → Bool) (n : ℕ) : Type 0 where
+  pub index : ℕ
+  pub below : index < n
+  pub passes : test index ≡ true
+
+pub some-true : (test : ℕ → Bool) (n : ℕ) → some test n ≡ true → Some test n
+some-true test n e = go (first test n) refl e
+  where
+    go : (f : Found) → first test n ≡ f → isAt f ≡ true → Some test n
+    go (At i) p q = let h = first-at test n i p in record { index = i; below = h .below; passes = h .passes }
+    go NotFound p q = absurd (false≢true q)
+
+pub some-of : (test : ℕ → Bool) (n i : ℕ) → i < n → test i ≡ true → some test n ≡ true
+some-of test n i h e = go (first test n) refl
+  where
+    go : (f : Found) → first test n ≡ f → isAt f ≡ true
+    go (At k) p = refl
+    go NotFound p = absurd (true≢false (sym e ∙ first-nothing test n p i h))
+
+pub asks-holds : (a : Range) (r : Record) → asks (Holds a) r ≡ holdsOf (spanOf r) a
+unfolding asks
+asks-holds a r = refl
+
+-- ---- a dial in a row
+
+-- a dial lies in a row that counts
+abbrev pub lies : ℕ → ℕ → Float → SafeDial → Bool
+lies flags channel dial x =
+    counts flags channel (x .band) (x .«dial_low_hz») (x .«dial_high_hz») && (le (x .«dial_low_hz») dial && le dial (x .«dial_high_hz»))
+
+-- every record's range is of figures in eighths
+pub record Spans (l : List ℕ) : Type 0 where
+  pub span : (t i : ℕ) → t < tables → i < countOf l t → Figures (spanOf (recordOf l t i))
+
+-- the guarded signal at a dial
+abbrev pub guardedAt : Request → Float → Range
+guardedAt q dial = guardedOf (q .«margin_hz») (rfRangeOf dial (q .sideband) (q .audio))
+
+-- the tests of one row, all passed
+all-yes : {o b m n : Bool} → o ≡ true → b ≡ true → m ≡ true → n ≡ true → (((o && b) && (m && n)) || false) ≡ true
+all-yes p q r s = rw p (rw q (rw r (rw s)))
+
+all-of : (o b m n : Bool) → (((o && b) && (m && n)) || false) ≡ true → (o ≡ true) × (m ≡ true) × (n ≡ true)
+all-of true true true true e = (refl, refl, refl)
+all-of true true true false e = absurd (false≢true e)
+all-of true true false n e = absurd (false≢true e)
+all-of true false m n e = absurd (false≢true e)
+all-of false b m n e = absurd (false≢true e)
+
+row-end-grid : {x : Float} → RowEnd x → Grid x
+row-end-grid R = grid (R .eighths)
+
+module _ (flags channel : ℕ) (q : Request) (dial : Float) (D : Figure dial) (M : Figure (q .«margin_hz»)) (A : Figures (q .audio)) where
+  module _ (band rule : ℕ) (piece : Range) (P : Figures piece) where
+    abbrev dials : Range
+    dials = dialEndsOf piece (q .sideband) (q .audio) (q .«margin_hz»)
+
+    abbrev low : Bool
+    low = le (dials .«low_hz») dial
+
+    abbrev high : Bool
+    high = le dial (dials .«high_hz»)
+
+    low-as : low ≡ le (piece .«low_hz») (guardedAt q dial .«low_hz»)
+    low-as = dial-low dial (q .«margin_hz») (q .audio) D M A piece P (q .sideband)
+
+    high-as : high ≡ le (guardedAt q dial .«high_hz») (piece .«high_hz»)
+    high-as = dial-high dial (q .«margin_hz») (q .audio) D M A piece P (q .sideband)
+
+    between : low ≡ true → high ≡ true → le (dials .«low_hz») (dials .«high_hz») ≡ true
+    between h k =
+        le-trans (row-end-grid (end-low piece (q .audio) (q .«margin_hz») P A M (q .sideband))) (figure-grid D)
+        (row-end-grid (end-high piece (q .audio) (q .«margin_hz») P A M (q .sideband))) h k
+
+    -- A piece that holds the guarded signal has a row, and the dial lies in it.
+    pub piece-in : isOutside flags channel band ≡ true → holdsOf piece (guardedAt q dial) ≡ true → anyRow (lies flags channel dial) (pieceRows q band rule piece) ≡ true
+    unfolding pieceRows
+    piece-in o h =
+        let a : low ≡ true = low-as ∙ held-low piece (guardedAt q dial) h in
+        let b : high ≡ true = high-as ∙ held-high piece (guardedAt q dial) h in
+        rw (between a b) (all-yes o (between a b) a b)
+
+    -- And only such a piece.
+    pub piece-of :
+        anyRow (lies flags channel dial) (pieceRows q band rule piece) ≡ true
+        → (isOutside flags channel band ≡ true) × (holdsOf piece (guardedAt q dial) ≡ true)
+    unfolding pieceRows
+    piece-of e = go (le (dials .«low_hz») (dials .«high_hz»)) e
+      where
+        go :
+            (b : Bool)
+            → anyRow (lies flags channel dial) (dialRows band rule piece (cond b (Dials dials) NoDial)) ≡ true
+            → (isOutside flags channel band ≡ true) × (holdsOf piece (guardedAt q dial) ≡ true)
+        go true e =
+            let r = all-of (isOutside flags channel band) (le (dials .«low_hz») (dials .«high_hz»)) low high e in
+            (r .0, held piece (guardedAt q dial) (sym low-as ∙ r .1) (sym high-as ∙ r .2))
+        go false e = absurd (false≢true e)
+
+  -- ---- what a piece becomes where the list is cut to the automatic segments
+
+  module _ (l : List ℕ) (S : Spans l) (long : lengthy (guardedAt q dial) ≡ true) where
+    abbrev listed : List SafeDial → Bool
+    listed = anyRow (lies flags channel dial)
+
+    abbrev signal : Range
+    signal = guardedAt q dial
+
+    signal-ends : Ends signal
+    signal-ends = guarded-ends dial (q .«margin_hz») (q .audio) D M A (q .sideband)
+
+    -- a range that two ranges share, both of which hold the signal
+    shared-in :
+        (a b : Range) → Figures a → Figures b → (f : Range → List SafeDial)
+        → ((r : Range) → Figures r → holdsOf r signal ≡ true → listed (f r) ≡ true)
+        → holdsOf a signal ≡ true → holdsOf b signal ≡ true → listed (onShared (intersectOf a b) f) ≡ true
+    shared-in a b FA FB f next h k =
+        rw (share a b signal (ends FA) (ends FB) signal-ends long h k)
+        (next (commonOf a b) (common-figures a b FA FB) (common-holds a b signal (ends FA) (ends FB) signal-ends h k))
+
+    shared-of :
+        (a b : Range) → Figures a → Figures b → (f : Range → List SafeDial) (X : Type 0)
+        → ((r : Range) → Figures r → (holdsOf r signal ≡ true → (holdsOf a signal ≡ true) × (holdsOf b signal ≡ true)) → listed (f r) ≡ true → X)
+        → listed (onShared (intersectOf a b) f) ≡ true → X
+    shared-of a b FA FB f X next e = go (lengthy (commonOf a b)) e
+      where
+        go : (t : Bool) → listed (onShared (cond t (Stretch (commonOf a b)) Nothing) f) ≡ true → X
+        go true e = next (commonOf a b) (common-figures a b FA FB) (holds-common a b signal (ends FA) (ends FB) signal-ends) e
+        go false e = absurd (false≢true e)
+
+    cut-in :
+        (s : Segment) (piece : Range) → Figures piece → isOutside flags channel (s .band) ≡ true → holdsOf piece signal ≡ true
+        → (cut q ≡ true → someIn l automatic (Holds signal) ≡ true) → listed (cutRows l q s piece) ≡ true
+    unfolding cutRows automaticRows
+    cut-in s piece P o h auto = go (cut q) auto
+      where
+        inside : Some (λ i. asks (Holds signal) (recordOf l automatic i)) (countOf l automatic) → listed (each (countOf l automatic) (automaticAt l q (s .band) piece)) ≡ true
+        inside a =
+            any-each-in (lies flags channel dial) (countOf l automatic) (automaticAt l q (s .band) piece) (a .index) (a .below)
+            (shared-in piece (spanOf (recordOf l automatic (a .index))) P (S .span automatic (a .index) (omega arith) (a .below))
+            (pieceRows q (s .band) (q .«segments_rule»)) (λ r R k. piece-in (s .band) (q .«segments_rule») r R o k) h
+            (sym (asks-holds signal (recordOf l automatic (a .index))) ∙ a .passes))
+
+        go :
+            (b : Bool) → (b ≡ true → someIn l automatic (Holds signal) ≡ true)
+            → listed (cond b (each (countOf l automatic) (automaticAt l q (s .band) piece)) (pieceRows q (s .band) (s .rule) piece)) ≡ true
+        go true auto = inside (some-true (λ i. asks (Holds signal) (recordOf l automatic i)) (countOf l automatic) (auto refl))
+        go false auto = piece-in (s .band) (s .rule) piece P o h
+
+    -- what a row of a cut piece says
+    pub record CutOf (s : Segment) (piece : Range) : Type 0 where
+      pub outside : isOutside flags channel (s .band) ≡ true
+      pub holds : holdsOf piece signal ≡ true
+      pub automatic-holds : cut q ≡ true → someIn l automatic (Holds signal) ≡ true
+
+    cut-of : (s : Segment) (piece : Range) → Figures piece → listed (cutRows l q s piece) ≡ true → CutOf s piece
+    unfolding cutRows automaticRows
+    cut-of s piece P e = go (cut q) refl e
+      where
+        inside : Index (lies flags channel dial) (countOf l automatic) (automaticAt l q (s .band) piece) → CutOf s piece
+        inside a =
+            shared-of piece (spanOf (recordOf l automatic (a .index))) P (S .span automatic (a .index) (omega arith) (a .below))
+            (pieceRows q (s .band) (q .«segments_rule»)) (CutOf s piece)
+            (λ r R back e.
+            let x = piece-of (s .band) (q .«segments_rule») r R e in
+            let both = back (x .1) in
+            record {
+              outside = x .0;
+              holds = both .0;
+              automatic-holds = λ _.
+                  some-of (λ i. asks (Holds signal) (recordOf l automatic i)) (countOf l automatic) (a .index) (a .below)
+                  (asks-holds signal (recordOf l automatic (a .index)) ∙ both .1);
+            })
+            (a .passes)
+
+        go :
+            (b : Bool) → cut q ≡ b
+            → listed (cond b (each (countOf l automatic) (automaticAt l q (s .band) piece)) (pieceRows q (s .band) (s .rule) piece)) ≡ true
+            → CutOf s piece
+        go true c e = inside (any-each-of (lies flags channel dial) (countOf l automatic) (automaticAt l q (s .band) piece) e)
+        go false c e =
+            let x = piece-of (s .band) (s .rule) piece P e in
+            record { outside = x .0; holds = x .1; automatic-holds = λ t. absurd (true≢false (sym t ∙ c)) }
+
+    -- ---- a segment and a privilege
+
+    -- what a row of a segment and a privilege says
+    pub record PairOf (s : Segment) (p : Privilege) : Type 0 where
+      pub may-use : mayUse q p ≡ true
+      pub outside : isOutside flags channel (s .band) ≡ true
+      pub segment-holds : holdsOf (s .range) signal ≡ true
+      pub privilege-holds : holdsOf (p .range) signal ≡ true
+      pub automatic-holds : cut q ≡ true → someIn l automatic (Holds signal) ≡ true
+
+    pair-in : (s : Segment) (p : Privilege) → Figures (s .range) → Figures (p .range) → PairOf s p → listed (privilegeRows l q s p) ≡ true
+    unfolding privilegeRows
+    pair-in s p FS FP x =
+        rw (x .may-use)
+        (shared-in (s .range) (p .range) FS FP (cutRows l q s) (λ r R k. cut-in s r R (x .outside) k (x .automatic-holds)) (x .segment-holds) (x .privilege-holds))
+
+    pair-of : (s : Segment) (p : Privilege) → Figures (s .range) → Figures (p .range) → listed (privilegeRows l q s p) ≡ true → PairOf s p
+    unfolding privilegeRows
+    pair-of s p FS FP e = go (mayUse q p) refl e
+      where
+        go : (b : Bool) → mayUse q p ≡ b → listed (cond b (onShared (intersectOf (s .range) (p .range)) (cutRows l q s)) []) ≡ true → PairOf s p
+        go true m e =
+            shared-of (s .range) (p .range) FS FP (cutRows l q s) (PairOf s p)
+            (λ r R back e.
+            let x = cut-of s r R e in
+            let both = back (x .holds) in
+            record {
+              may-use = m;
+              outside = x .outside;
+              segment-holds = both .0;
+              privilege-holds = both .1;
+              automatic-holds = x .automatic-holds;
+            })
+            e
+        go false m e = absurd (false≢true e)
+
+    -- ---- the whole list
+
+    abbrev segmentIn : ℕ → Segment
+    segmentIn i = segmentOf (recordOf l segments i)
+
+    abbrev privilegeIn : ℕ → Privilege
+    privilegeIn i = privilegeOf (recordOf l privileges i)
+
+    -- what makes data lawful at the dial, in the list's words
+    pub record Lawful : Type 0 where
+      pub segment : ℕ
+      pub privilege : ℕ
+      pub segment-below : segment < countOf l segments
+      pub privilege-below : privilege < countOf l privileges
+      pub narrow : tooWide q (segmentIn segment) ≡ false
+      pub not-excluded : excludedBand l q (segmentIn segment) ≡ false
+      pub pair : PairOf (segmentIn segment) (privilegeIn privilege)
+
+    segment-span : (i : ℕ) → i < countOf l segments → Figures (segmentIn i .range)
+    segment-span i h = S .span segments i (omega arith) h
+
+    privilege-span : (i : ℕ) → i < countOf l privileges → Figures (privilegeIn i .range)
+    privilege-span i h = S .span privileges i (omega arith) h
+
+    pub data-in : Lawful → listed (dataRows l q) ≡ true
+    unfolding dataRows segmentRows privilegesRows
+    data-in w =
+        any-each-in (lies flags channel dial) (countOf l segments) (segmentAt l q) (w .segment) (w .segment-below)
+        (rw (w .narrow)
+        (rw (w .not-excluded)
+        (any-each-in (lies flags channel dial) (countOf l privileges) (privilegeAt l q (segmentIn (w .segment))) (w .privilege) (w .privilege-below)
+        (pair-in (segmentIn (w .segment)) (privilegeIn (w .privilege)) (segment-span (w .segment) (w .segment-below))
+        (privilege-span (w .privilege) (w .privilege-below)) (w .pair)))))
+
+    pub data-of : listed (dataRows l q) ≡ true → Lawful
+    unfolding dataRows segmentRows privilegesRows
+    data-of e = outer (any-each-of (lies flags channel dial) (countOf l segments) (segmentAt l q) e)
+      where
+        outer : Index (lies flags channel dial) (countOf l segments) (segmentAt l q) → Lawful
+        outer s = go (tooWide q (segmentIn (s .index))) (excludedBand l q (segmentIn (s .index))) refl refl (s .passes)
+          where
+            inner :
+                tooWide q (segmentIn (s .index)) ≡ false → excludedBand l q (segmentIn (s .index)) ≡ false
+                → Index (lies flags channel dial) (countOf l privileges) (privilegeAt l q (segmentIn (s .index))) → Lawful
+            inner n o p =
+                record {
+                  segment = s .index;
+                  privilege = p .index;
+                  segment-below = s .below;
+                  privilege-below = p .below;
+                  narrow = n;
+                  not-excluded = o;
+                  pair =
+                      pair-of (segmentIn (s .index)) (privilegeIn (p .index)) (segment-span (s .index) (s .below))
+                      (privilege-span (p .index) (p .below)) (p .passes);
+                }
+
+            go :
+                (a b : Bool) → tooWide q (segmentIn (s .index)) ≡ a → excludedBand l q (segmentIn (s .index)) ≡ b
+                → listed (cond (a || b) [] (each (countOf l privileges) (privilegeAt l q (segmentIn (s .index))))) ≡ true → Lawful
+            go true b n o e = absurd (false≢true e)
+            go false true n o e = absurd (false≢true e)
+            go false false n o e = inner n o (any-each-of (lies flags channel dial) (countOf l privileges) (privilegeAt l q (segmentIn (s .index))) e)

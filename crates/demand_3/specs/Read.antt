@@ -1,0 +1,96 @@
+-- The rows as the distance reads them: from the bytes that the list call leaves, the distance is nought exactly if the dial lies in a row
+-- that counts.
+use Prim.Native.Nat.{ℕ, zero, suc, _*_, _<_}
+use mathlib.Core.Bool.{Bool, true, false, _&&_, _||_, true≢false, false≢true}
+use mathlib.Core.List.{List, [], _∷_, _++_}
+use mathlib.Core.Path.{_≡_, refl, sym, ap, subst, _∙_}
+use native.Mathlib.Omega.{arith}
+use lib.Dec.{T}
+use lib.ListN.{length, getD}
+use lib.Ieee.{Float, binary64, fits}
+use Rattle.figures.specs.Figure.{zeroHz}
+use Rattle.profile.specs.Range.{range}
+use Rattle.scan.specs.First.{some}
+use Rattle.eighths.specs.Grid.{Figure}
+use Rattle.rows.specs.Rows.{rowSize, encodeAll, lowAt, highAt, bandAt}
+use Rattle.rows.specs.Each.{Every}
+use Rattle.rows.specs.Order.{anyRow}
+use Rattle.rows.specs.Read.{low-of, high-of, band-of}
+use Rattle.rows.specs.declared.SafeDial.{SafeDial}
+use Rattle.dial_rows.specs.Laws.{DialsFit}
+use Rattle.distance.specs.Distance.{isOutside, leastUpTo}
+use Rattle.demand_3.specs.Words.{nought}
+use Rattle.demand_3.specs.Dial.{RowEnd}
+use Rattle.demand_3.specs.Listed.{Some, some-true, some-of, lies}
+use Rattle.demand_3.specs.Rows.{RowEnds}
+use Rattle.demand_3.specs.Nearest.{liesAt, least-nought}
+
+-- a row for places past the end
+abbrev pub noRow : SafeDial
+noRow = record { band = 0; segment = range zeroHz zeroHz; rule = 0; «dial_low_hz» = zeroHz; «dial_high_hz» = zeroHz }
+
+pub every-get : (P : SafeDial → Type 0) (xs : List SafeDial) → Every P xs → (i : ℕ) → i < length xs → P (getD xs i noRow)
+every-get P [] h i k = absurd (omega arith)
+every-get P (x ∷ xs) h zero k = h .0
+every-get P (x ∷ xs) h (suc i) k = every-get P xs (h .1) i (omega arith)
+
+or-left : (a b : Bool) → a ≡ true → (a || b) ≡ true
+or-left a b e = rw e
+
+or-right : (a b : Bool) → b ≡ true → (a || b) ≡ true
+or-right true b e = refl
+or-right false b e = e
+
+-- whether a row passes, row by row
+any-in : (test : SafeDial → Bool) (xs : List SafeDial) (i : ℕ) → i < length xs → test (getD xs i noRow) ≡ true → anyRow test xs ≡ true
+any-in test [] i k e = absurd (omega arith)
+any-in test (x ∷ xs) zero k e = or-left (test x) (anyRow test xs) e
+any-in test (x ∷ xs) (suc i) k e = or-right (test x) (anyRow test xs) (any-in test xs i (omega arith) e)
+
+any-of : (test : SafeDial → Bool) (xs : List SafeDial) → anyRow test xs ≡ true → Some (λ i. test (getD xs i noRow)) (length xs)
+any-of test [] e = absurd (false≢true e)
+any-of test (x ∷ xs) e = go (test x) refl (any-of test xs) e
+  where
+    go :
+        (b : Bool) → test x ≡ b → (anyRow test xs ≡ true → Some (λ i. test (getD xs i noRow)) (length xs)) → (b || anyRow test xs) ≡ true
+        → Some (λ i. test (getD (x ∷ xs) i noRow)) (suc (length xs))
+    go true p next q = record { index = 0; below = omega arith; passes = p }
+    go false p next q = let s = next q in record { index = suc (s .index); below = omega (arith, s .below); passes = s .passes }
+
+same : (a b : Bool) → (a ≡ true → b ≡ true) → (b ≡ true → a ≡ true) → a ≡ b
+same true true f g = refl
+same true false f g = sym (f refl)
+same false true f g = g refl
+same false false f g = refl
+
+module _ (dial : Float) (flags channel : ℕ) (D : Figure dial) (ys : List SafeDial) (rest : List ℕ) (F : Every DialsFit ys) where
+  abbrev bytes : List ℕ
+  bytes = encodeAll ys ++ rest
+
+  module _ (i : ℕ) (h : i < length ys) where
+    low-is : lowAt bytes (i * rowSize) ≡ getD ys i noRow .«dial_low_hz»
+    low-is = low-of ys rest i noRow h (every-get DialsFit ys F i h .0)
+
+    high-is : highAt bytes (i * rowSize) ≡ getD ys i noRow .«dial_high_hz»
+    high-is = high-of ys rest i noRow h (every-get DialsFit ys F i h .1)
+
+    pub band-is : bandAt bytes (i * rowSize) ≡ getD ys i noRow .band
+    band-is = band-of ys rest i noRow h
+
+    lies-is : liesAt dial flags channel bytes i ≡ lies flags channel dial (getD ys i noRow)
+    lies-is = rw low-is (rw high-is (rw band-is))
+
+  module _ (E : Every (λ x. isOutside flags channel (x .band) ≡ true → RowEnds x) ys) where
+    pub rows-nought : nought (leastUpTo dial flags channel bytes (length ys)) ≡ anyRow (lies flags channel dial) ys
+    rows-nought =
+        least-nought dial flags channel bytes (length ys) D
+        (λ i h o.
+        let r = every-get (λ x. isOutside flags channel (x .band) ≡ true → RowEnds x) ys E i h (ap (λ (b : ℕ). isOutside flags channel b) (sym (band-is i h)) ∙ o) in
+        (subst RowEnd (sym (low-is i h)) (r .low), subst RowEnd (sym (high-is i h)) (r .high)))
+        ∙ same (some (liesAt dial flags channel bytes) (length ys)) (anyRow (lies flags channel dial) ys)
+        (λ e.
+        let s = some-true (liesAt dial flags channel bytes) (length ys) e in
+        any-in (lies flags channel dial) ys (s .index) (s .below) (sym (lies-is (s .index) (s .below)) ∙ s .passes))
+        (λ e.
+        let s = any-of (lies flags channel dial) ys e in
+        some-of (liesAt dial flags channel bytes) (length ys) (s .index) (s .below) (lies-is (s .index) (s .below) ∙ s .passes))

@@ -1,0 +1,172 @@
+-- The whole list: no channel row counts, so a dial lies in a row that counts exactly if it lies in a data row; and both dials of every
+-- row that counts are on the grid.
+use Prim.Native.Nat.{ℕ, zero, suc, _<_}
+use mathlib.Core.Bool.{Bool, true, false, not, cond, _&&_, _||_, true≢false}
+use mathlib.Core.List.{List, [], _∷_, _++_}
+use mathlib.Core.Path.{_≡_, refl, sym, ap, _∙_}
+use native.Mathlib.Omega.{arith}
+use lib.Dec.{eqb}
+use lib.Ieee.{Float, le}
+use borrow.Author.Tests.{eq-eqb}
+use Rattle.figures.specs.Figure.{figureOf}
+use Rattle.codes.specs.Code.{bitOf}
+use Rattle.profile.specs.Range.{range, lengthy, commonOf, intersectOf, channelRangeOf}
+use Rattle.profile.specs.declared.Range.{Range}
+use Rattle.profile.specs.declared.Shared.the-variants.{Stretch, Nothing}
+use Rattle.air.specs.Air.{dialEndsOf}
+use Rattle.air.specs.declared.DialRange.the-variants.{Dials, NoDial}
+use Rattle.layout.specs.Layout.{segments, channels, privileges, automatic, generalOf, recordOf, countOf}
+use Rattle.layout.specs.declared.General.{General}
+use Rattle.table.specs.Parts.{spanOf, segmentOf, privilegeOf, channelsOf, channelSidebandOf, centreOf}
+use Rattle.table.specs.declared.Segment.{Segment}
+use Rattle.table.specs.declared.Privilege.{Privilege}
+use Rattle.table.specs.declared.Channels.{Channels}
+use Rattle.table.specs.declared.ChannelBand.the-variants.{On, NoChannels}
+use Rattle.eighths.specs.Grid.{Figure}
+use Rattle.rows.specs.Each.{each, Every, every-append, every-map}
+use Rattle.rows.specs.Order.{anyRow, any-append}
+use Rattle.rows.specs.declared.SafeDial.{SafeDial}
+use Rattle.dial_rows.specs.Dials.{dialRows, pieceRows, onShared, automaticAt, automaticRows, cut, cutRows, mayUse, privilegeRows, privilegeAt, privilegesRows, tooWide, excludedBand, segmentRows, segmentAt, dataRows, channelSafe, channelHolds, channelRow, channelAt, channelRows, channelsOpen, channelFound, openRows, bandRows, rowsOf}
+use Rattle.dial_rows.specs.declared.Request.{Request}
+use Rattle.distance.specs.Distance.{isOutside, counts}
+use Rattle.demand_3.specs.Order.{Figures, common-figures}
+use Rattle.demand_3.specs.Dial.{RowEnd, end-low, end-high}
+use Rattle.demand_3.specs.Listed.{lies, Spans}
+
+-- What fails of every row fails of the list.
+pub any-none : (test : SafeDial → Bool) (xs : List SafeDial) → Every (λ x. test x ≡ false) xs → anyRow test xs ≡ false
+any-none test [] h = refl
+any-none test (x ∷ xs) h = rw (h .0) (any-none test xs (h .1))
+
+-- what holds for the rows of every index below n
+every-below : (P : SafeDial → Type 0) (n : ℕ) (f : ℕ → List SafeDial) → ((i : ℕ) → i < n → Every P (f i)) → Every P (each n f)
+unfolding each
+every-below P zero f h = tt
+every-below P (suc n) f h = every-append P (each n f) (f n) (every-below P n f (λ i k. h i (omega arith))) (h n (omega arith))
+
+every-cond : (P : SafeDial → Type 0) (b : Bool) (xs ys : List SafeDial) → Every P xs → Every P ys → Every P (cond b xs ys)
+every-cond P true xs ys p q = p
+every-cond P false xs ys p q = q
+
+-- ---- channel rows
+
+-- a row of the channel band
+abbrev pub OnChannels : List ℕ → SafeDial → Type 0
+OnChannels l x = isOutside (generalOf l .flags) (generalOf l .«channel_band») (x .band) ≡ false
+
+own-band : (flags channel : ℕ) → bitOf flags 2 ≡ true → isOutside flags channel channel ≡ false
+unfolding isOutside
+own-band flags channel e = rw e (rw (eq-eqb channel channel refl))
+
+channel-rows : (P : SafeDial → Type 0) (l : List ℕ) (q : Request) (c : Channels) → ((centre : Float) → P (channelSafe c centre)) → Every P (openRows l q c)
+unfolding openRows channelRows channelRow
+channel-rows P l q c h =
+    every-cond P (channelsOpen q && channelFound l q) (each (countOf l channels) (channelAt l q c)) []
+    (every-below P (countOf l channels) (channelAt l q c)
+    (λ i _. every-cond P (channelHolds q c (centreOf (recordOf l channels i))) (channelSafe c (centreOf (recordOf l channels i)) ∷ []) [] (h (centreOf (recordOf l channels i)), tt) tt))
+    tt
+
+pub band-rows : (l : List ℕ) (q : Request) → Every (OnChannels l) (bandRows l q (channelsOf (generalOf l)))
+band-rows l q = go (generalOf l)
+  where
+    go : (g : General) → Every (λ x. isOutside (g .flags) (g .«channel_band») (x .band) ≡ false) (bandRows l q (channelsOf g))
+    go g = by (bitOf (g .flags) 2) refl
+      where
+        here : Channels
+        here =
+            record {
+              band = g .«channel_band»;
+              rule = g .«channels_rule»;
+              «width_hz» = figureOf (g .«channel_width»);
+              «carrier_offset_hz» = figureOf (g .«carrier_offset»);
+              «carrier_tolerance_hz» = figureOf (g .«carrier_tolerance»);
+              sideband = channelSidebandOf g;
+            }
+
+        by :
+            (b : Bool) → bitOf (g .flags) 2 ≡ b
+            → Every (λ x. isOutside (g .flags) (g .«channel_band») (x .band) ≡ false) (bandRows l q (cond b (On here) NoChannels))
+        by true e =
+            channel-rows (λ x. isOutside (g .flags) (g .«channel_band») (x .band) ≡ false) l q here (λ _. own-band (g .flags) (g .«channel_band») e)
+        by false e = tt
+
+or-false : (a b : Bool) → b ≡ false → (a || b) ≡ a
+or-false true b e = refl
+or-false false b e = e
+
+-- A dial lies in a row that counts exactly if it lies in a data row that counts.
+pub rows-listed :
+    (l : List ℕ) (q : Request) (dial : Float)
+    → anyRow (lies (generalOf l .flags) (generalOf l .«channel_band») dial) (rowsOf l q)
+    ≡ anyRow (lies (generalOf l .flags) (generalOf l .«channel_band») dial) (dataRows l q)
+unfolding rowsOf
+rows-listed l q dial =
+    any-append (lies (generalOf l .flags) (generalOf l .«channel_band») dial) (dataRows l q) (bandRows l q (channelsOf (generalOf l)))
+    ∙ or-false _ _
+    (any-none (lies (generalOf l .flags) (generalOf l .«channel_band») dial) (bandRows l q (channelsOf (generalOf l)))
+    (every-map (OnChannels l) (λ x. lies (generalOf l .flags) (generalOf l .«channel_band») dial x ≡ false) (λ x e. rw e)
+    (bandRows l q (channelsOf (generalOf l))) (band-rows l q)))
+
+-- ---- both dials of a row, as sums of figures
+
+pub record RowEnds (x : SafeDial) : Type 0 where
+  pub low : RowEnd (x .«dial_low_hz»)
+  pub high : RowEnd (x .«dial_high_hz»)
+
+module _ (l : List ℕ) (q : Request) (S : Spans l) (M : Figure (q .«margin_hz»)) (A : Figures (q .audio)) where
+  piece-ends : (band rule : ℕ) (piece : Range) → Figures piece → Every RowEnds (pieceRows q band rule piece)
+  unfolding pieceRows
+  piece-ends band rule piece P = go (le (dialEndsOf piece (q .sideband) (q .audio) (q .«margin_hz») .«low_hz») (dialEndsOf piece (q .sideband) (q .audio) (q .«margin_hz») .«high_hz»))
+    where
+      go : (b : Bool) → Every RowEnds (dialRows band rule piece (cond b (Dials (dialEndsOf piece (q .sideband) (q .audio) (q .«margin_hz»))) NoDial))
+      go true = (
+        record {
+          low = end-low piece (q .audio) (q .«margin_hz») P A M (q .sideband);
+          high = end-high piece (q .audio) (q .«margin_hz») P A M (q .sideband);
+        },
+        tt,
+      )
+      go false = tt
+
+  shared-ends :
+      (a b : Range) → Figures a → Figures b → (f : Range → List SafeDial) → ((r : Range) → Figures r → Every RowEnds (f r))
+      → Every RowEnds (onShared (intersectOf a b) f)
+  shared-ends a b FA FB f h = go (lengthy (commonOf a b))
+    where
+      go : (t : Bool) → Every RowEnds (onShared (cond t (Stretch (commonOf a b)) Nothing) f)
+      go true = h (commonOf a b) (common-figures a b FA FB)
+      go false = tt
+
+  cut-ends : (s : Segment) (piece : Range) → Figures piece → Every RowEnds (cutRows l q s piece)
+  unfolding cutRows automaticRows
+  cut-ends s piece P =
+      every-cond RowEnds (cut q) (each (countOf l automatic) (automaticAt l q (s .band) piece)) (pieceRows q (s .band) (s .rule) piece)
+      (every-below RowEnds (countOf l automatic) (automaticAt l q (s .band) piece)
+      (λ a h. shared-ends piece (spanOf (recordOf l automatic a)) P (S .span automatic a (omega arith) h) (pieceRows q (s .band) (q .«segments_rule»))
+      (piece-ends (s .band) (q .«segments_rule»))))
+      (piece-ends (s .band) (s .rule) piece P)
+
+  pub data-ends : Every RowEnds (dataRows l q)
+  unfolding dataRows segmentRows privilegesRows privilegeRows
+  data-ends =
+      every-below RowEnds (countOf l segments) (segmentAt l q)
+      (λ i h.
+      every-cond RowEnds (tooWide q (segmentOf (recordOf l segments i)) || excludedBand l q (segmentOf (recordOf l segments i))) []
+      (each (countOf l privileges) (privilegeAt l q (segmentOf (recordOf l segments i)))) tt
+      (every-below RowEnds (countOf l privileges) (privilegeAt l q (segmentOf (recordOf l segments i)))
+      (λ p k.
+      every-cond RowEnds (mayUse q (privilegeOf (recordOf l privileges p)))
+      (onShared (intersectOf (spanOf (recordOf l segments i)) (spanOf (recordOf l privileges p))) (cutRows l q (segmentOf (recordOf l segments i)))) []
+      (shared-ends (spanOf (recordOf l segments i)) (spanOf (recordOf l privileges p)) (S .span segments i (omega arith) h) (S .span privileges p (omega arith) k)
+      (cutRows l q (segmentOf (recordOf l segments i))) (cut-ends (segmentOf (recordOf l segments i))))
+      tt)))
+
+  -- Every row that counts has both.
+  pub rows-ends : Every (λ x. isOutside (generalOf l .flags) (generalOf l .«channel_band») (x .band) ≡ true → RowEnds x) (rowsOf l q)
+  unfolding rowsOf
+  rows-ends =
+      every-append (λ x. isOutside (generalOf l .flags) (generalOf l .«channel_band») (x .band) ≡ true → RowEnds x) (dataRows l q)
+      (bandRows l q (channelsOf (generalOf l)))
+      (every-map RowEnds (λ x. isOutside (generalOf l .flags) (generalOf l .«channel_band») (x .band) ≡ true → RowEnds x) (λ x r _. r) (dataRows l q) data-ends)
+      (every-map (OnChannels l) (λ x. isOutside (generalOf l .flags) (generalOf l .«channel_band») (x .band) ≡ true → RowEnds x)
+      (λ x e o. absurd (true≢false (sym o ∙ e))) (bandRows l q (channelsOf (generalOf l))) (band-rows l q))

@@ -1,0 +1,214 @@
+-- Document 01's words for demand 3, each a definition of its own. Tidy is the tidy question's (Rattle.tidy), in eighths the grid's
+-- (Rattle.eighths).
+use Prim.Native.Nat.{ℕ, _*_, _<_}
+use mathlib.Core.Bool.{Bool, true, false, not, cond, _&&_, _||_}
+use mathlib.Core.List.{List}
+use mathlib.Core.Path.{_≡_}
+use lib.Dec.{eqb}
+use lib.Ieee.{Float, binary64, add, lt, eq}
+use Rattle.figures.specs.Figure.{zeroHz, figureOf, readHz}
+use Rattle.codes.specs.Code.{bitOf}
+use Rattle.codes.specs.declared.Checked.{Checked}
+use Rattle.codes.specs.declared.Checked.the-variants.{Accepted, Refused}
+use Rattle.codes.specs.declared.Control.{Control}
+use Rattle.codes.specs.declared.Control.the-variants.{ControlIs, NoControl}
+use Rattle.codes.specs.declared.License.{License}
+use Rattle.codes.specs.declared.License.the-variants.{LicenseIs, NoLicense}
+use Rattle.codes.specs.declared.SidebandSet.{SidebandSet}
+use Rattle.codes.specs.declared.SidebandSet.the-variants.{SidebandIs, NoSideband}
+use Rattle.codes.specs.declared.Sideband.{Sideband}
+use Rattle.profile.specs.declared.Range.{Range}
+use Rattle.occupancy.specs.Edges.{rangeOf}
+use Rattle.occupancy.specs.declared.Edges.{Edges}
+use Rattle.air.specs.Air.{rfRangeOf, guardedOf, widthOf}
+use Rattle.scan.specs.First.{some}
+use Rattle.station.specs.Station.{underRules, situationOf}
+use Rattle.station.specs.declared.Figure.{Figure}
+use Rattle.station.specs.declared.Figure.the-variants.{Known, Absent}
+use Rattle.station.specs.declared.StationRecord.{StationRecord}
+use Rattle.station.specs.declared.Situation.{Situation}
+use Rattle.layout.specs.Layout.{tables, bands, power, generalOf, recordOf, countOf}
+use Rattle.layout.specs.declared.General.{General}
+use Rattle.layout.specs.declared.Record.{Record}
+use Rattle.table.specs.Parts.{readingOf}
+use Rattle.find.specs.Question.{someIn}
+use Rattle.find.specs.declared.Question.the-variants.{BandHolds}
+use Rattle.image.specs.Check.{checkOf}
+use Rattle.entry.specs.Entry.{edgesRead}
+use Rattle.tidy.specs.Tidy.{tidyOf}
+use Rattle.tidy.specs.declared.Tidiness.the-variants.{Tidy}
+use Rattle.eighths.specs.Grid.{inEighths}
+use Rattle.decision.specs.declared.Verdict.{Verdict}
+use Rattle.decision.specs.declared.Verdict.the-variants.{Legal, Warning, Blocked}
+use Rattle.decision.specs.declared.Decision.{Decision}
+use Rattle.verdict.specs.Verdict.{evaluateOf}
+use Rattle.dials.specs.declared.DialList.{DialList}
+use Rattle.dials.specs.declared.DialList.the-variants.{Rows}
+use Rattle.distance.specs.Distance.{distanceOf, isOutside}
+use Rattle.distance.specs.declared.Distance.{Distance}
+use Rattle.distance.specs.declared.Distance.the-variants.{Hertz, NoneListed, Refused as NoAnswer}
+use Rattle.rows.specs.Rows.{rowSize, bandAt}
+
+-- ---- in eighths: "Hertz figures are those of image, edges, station record and dial asked; watts are none."
+
+-- a power record's figure is in watts
+unfoldable pub recordInEighths : ℕ → Record → Bool
+recordInEighths t r =
+    inEighths (figureOf (r .low)) && (inEighths (figureOf (r .high)) && (eqb t power || inEighths (figureOf (r .figure))))
+
+unfoldable pub blockInEighths : General → Bool
+blockInEighths g =
+    inEighths (figureOf (g .«data_limit»)) && (inEighths (figureOf (g .«elsewhere_limit»)) && (inEighths (figureOf (g .«channel_width»))
+    && (inEighths (figureOf (g .«carrier_offset»)) && inEighths (figureOf (g .«carrier_tolerance»)))))
+
+-- a record that is not
+abbrev pub offGridAt : List ℕ → ℕ → ℕ → Bool
+offGridAt l t i = not (recordInEighths t (recordOf l t i))
+
+abbrev pub offGridIn : List ℕ → ℕ → Bool
+offGridIn l t = some (offGridAt l t) (countOf l t)
+
+unfoldable pub imageInEighths : List ℕ → Bool
+imageInEighths l = blockInEighths (generalOf l) && not (some (offGridIn l) tables)
+
+unfoldable pub edgesInEighths : Edges → Bool
+edgesInEighths e =
+    inEighths (e .power .«low_hz») && (inEighths (e .power .«high_hz») && (inEighths (e .spectral .«low_hz») && inEighths (e .spectral .«high_hz»)))
+
+-- "at 0 the figure isn't looked at"
+unfoldable pub stationInEighths : StationRecord → Bool
+stationInEighths r = inEighths (r .«margin_hz») && (eqb (r .«dial_known») 0 || inEighths (r .«dial_hz»))
+
+-- all of them
+unfoldable pub hertzInEighths : StationRecord → Edges → List ℕ → Float → Bool
+hertzInEighths r e l dial = imageInEighths l && (edgesInEighths e && (stationInEighths r && inEighths dial))
+
+-- ---- the station record at the dial asked: "only the dial may differ"
+
+unfoldable pub tuned : StationRecord → Float → StationRecord
+tuned r dial =
+    record {
+      policy = r .policy;
+      control = r .control;
+      license = r .license;
+      sideband = r .sideband;
+      «itu_region» = r .«itu_region»;
+      «band_plan» = r .«band_plan»;
+      «dial_known» = 1;
+      «power_known» = r .«power_known»;
+      «margin_hz» = r .«margin_hz»;
+      «dial_hz» = dial;
+      «power_w» = r .«power_w»;
+    }
+
+-- the edges read, by the table's reading of bandwidth
+abbrev pub audioOf : List ℕ → Edges → Range
+audioOf l e = rangeOf (edgesRead e) (readingOf (generalOf l))
+
+-- ---- in force: "A table is in force if the policy is Rules and no image check refuses it."
+
+abbrev pub accepted : Checked → Bool
+accepted Accepted = true
+accepted (Refused n) = false
+
+unfoldable pub inForce : StationRecord → List ℕ → Bool
+inForce r l = underRules r && accepted (checkOf l)
+
+-- ---- prerequisites: "Prerequisites are met if none of the five tests fails, in the list call or in the verdict."
+
+abbrev pub hasControl : Control → Bool
+hasControl (ControlIs c) = true
+hasControl NoControl = false
+
+abbrev pub hasLicense : License → Bool
+hasLicense (LicenseIs c) = true
+hasLicense NoLicense = false
+
+abbrev pub hasSideband : SidebandSet → Bool
+hasSideband (SidebandIs s) = true
+hasSideband NoSideband = false
+
+abbrev pub hasDial : Figure → Bool
+hasDial (Known x) = true
+hasDial Absent = false
+
+-- region, control, licence, sideband, dial; the list call tests the middle three
+unfoldable pub prerequisitesMet : List ℕ → Situation → Bool
+prerequisitesMet l s =
+    eqb (s .«itu_region») (generalOf l .region)
+    && (hasControl (s .control) && (hasLicense (s .license) && (hasSideband (s .sideband) && hasDial (s .dial))))
+
+-- ---- the guarded width: "the width, high less low of the edges read, plus twice the margin"
+
+unfoldable pub guardedWidth : Range → Float → Float
+guardedWidth audio margin = add binary64 (widthOf audio) (add binary64 margin margin)
+
+unfoldable pub positiveWidth : StationRecord → Edges → List ℕ → Bool
+positiveWidth r e l = lt zeroHz (guardedWidth (audioOf l e) (readHz (r .«margin_hz»)))
+
+-- ---- the channel band: "every band of byte 43's number, none if flag bit 2 is clear. It holds a range if one of its bands does."
+
+unfoldable pub channelBandHolds : List ℕ → Range → Bool
+channelBandHolds l r = bitOf (generalOf l .flags) 2 && someIn l bands (BandHolds (generalOf l .«channel_band») r)
+
+-- it holds the guarded range of the signal at a dial, on the station's sideband
+abbrev pub channelsHold : List ℕ → Range → Float → Float → SidebandSet → Bool
+channelsHold l audio margin dial (SidebandIs sideband) = channelBandHolds l (guardedOf margin (rfRangeOf dial sideband audio))
+channelsHold l audio margin dial NoSideband = false
+
+unfoldable pub onChannelBand : StationRecord → Edges → List ℕ → Float → Bool
+onChannelBand r e l dial = channelsHold l (audioOf l e) (readHz (r .«margin_hz»)) (readHz dial) (situationOf r .sideband)
+
+-- ---- the three answers
+
+-- the verdict on data (kind 0) at a dial
+abbrev pub verdictAt : StationRecord → ℕ → Edges → List ℕ → Float → Decision
+verdictAt r direction e l dial = evaluateOf (tuned r dial) 0 direction e l
+
+-- a verdict that isn't Blocked
+abbrev pub sent : Verdict → Bool
+sent Legal = true
+sent Warning = true
+sent Blocked = false
+
+-- "The gate allows data at a dial if its verdict on a data signal there isn't Blocked."
+abbrev pub allows : Decision → Bool
+allows d = sent (d .verdict)
+
+-- the distance of a dial from the rows that the list call left
+abbrev pub distanceAt : List ℕ → ℕ → List ℕ → Float → Distance
+distanceAt l count left dial = distanceOf dial (generalOf l .flags) (generalOf l .«channel_band») count left
+
+-- nought
+abbrev pub nought : Distance → Bool
+nought (Hertz d) = eq d zeroHz
+nought NoneListed = false
+nought (NoAnswer n) = false
+
+-- no row that was left lies outside the channel band
+abbrev pub NoneOutside : List ℕ → ℕ → List ℕ → Type 0
+NoneOutside l count left =
+    (i : ℕ) → i < count → isOutside (generalOf l .flags) (generalOf l .«channel_band») (bandAt left (i * rowSize)) ≡ false
+
+-- ---- the premises, and what demand 3 says
+
+pub record Premises (r : StationRecord) (direction : ℕ) (e : Edges) (l : List ℕ) (count : ℕ) (answer : DialList) (dial : Float) : Type 0 where
+  pub tidy : tidyOf l ≡ Tidy
+  pub in-force : inForce r l ≡ true
+  pub eighths : hertzInEighths r e l dial ≡ true
+  pub prerequisites : prerequisitesMet l (situationOf (tuned r dial)) ≡ true
+  pub width : positiveWidth r e l ≡ true
+  -- "A list fitted if its call wasn't refused."
+  pub fitted : answer ≡ Rows count
+  -- "a dial that the gate doesn't refuse"
+  pub not-refused : verdictAt r direction e l dial .refusal ≡ Accepted
+  pub off-channels : onChannelBand r e l dial ≡ false
+
+pub record Demand3 (r : StationRecord) (direction : ℕ) (e : Edges) (l : List ℕ) (count : ℕ) (left : List ℕ) (dial : Float) : Type 0 where
+  -- "the distance … is nought exactly when the gate allows data at that dial"
+  pub exactly : nought (distanceAt l count left dial) ≡ allows (verdictAt r direction e l dial)
+  -- "with none listed the answer says so and isn't nought, and the gate blocks data at that dial"
+  pub none-listed :
+      NoneOutside l count left
+      → (distanceAt l count left dial ≡ NoneListed) × (nought (distanceAt l count left dial) ≡ false)
+      × (verdictAt r direction e l dial .verdict ≡ Blocked)
