@@ -6,6 +6,8 @@
 //!   include and that aren't to be had. Nothing of the Rust is kept in the repository.
 //! - `PAMUKLID_LIB_DIR`: the folder of `libpamuklid.a`; by default `target/staticlib` in the
 //!   repository. Not used with the feature `stub`.
+//! - The distance of a dial is compared if the library has `pamuklid_distance_of` (cfg `distance`);
+//!   else the driver links without it and says "distance: not compared".
 //! - `PAMUKLID_STUB_SRC`, `PAMUKLID_STUB_OWN` (feature `stub` only): the Rust, and the folder of the
 //!   `expect.rs` and `adapter.rs`, that the stub answers from, where they are to differ from the
 //!   driver's.
@@ -45,8 +47,16 @@ fn include(file: &Path, module: &str, into: &Path) {
     fs::write(into, text).unwrap();
 }
 
+/// Whether an archive names a symbol.
+fn names(archive: &Path, symbol: &str) -> bool {
+    let bytes = fs::read(archive).unwrap_or_default();
+    let name = format!("\0{symbol}\0");
+    bytes.windows(name.len()).any(|w| w == name.as_bytes())
+}
+
 fn main() {
     println!("cargo::rerun-if-changed=build.rs");
+    println!("cargo::rustc-check-cfg=cfg(distance)");
     let here = PathBuf::from(env::var_os("CARGO_MANIFEST_DIR").unwrap());
     let root = here.parent().unwrap().to_path_buf();
     let out = PathBuf::from(env::var_os("OUT_DIR").unwrap());
@@ -63,6 +73,9 @@ fn main() {
     } else {
         let lib = folder("PAMUKLID_LIB_DIR", root.join("target/staticlib"));
         println!("cargo::rerun-if-changed={}", lib.join("libpamuklid.a").display());
+        if names(&lib.join("libpamuklid.a"), "pamuklid_distance_of") {
+            println!("cargo::rustc-cfg=distance");
+        }
         println!("cargo::rustc-link-search=native={}", lib.display());
         println!("cargo::rustc-link-lib=static=pamuklid");
     }

@@ -2,15 +2,15 @@
 """Plants one mistake at a time (mutations.py) in a copy of the Rust, or of the driver's own part,
 builds the driver against that copy and sees whether a run notices a difference.
 
-    python3 compare/mutate.py [--stub] [--only TEXT] [--from N] [--work DIR] [--seed S]
+    python3 compare/mutate.py [--rust] [--stub] [--only TEXT] [--from N] [--work DIR] [--seed S]
                               [--verdicts N] [--ceilings N] [--dials N] [--check] [-v]
                               [--report FILE]
 
 Without --stub the library is linked (PAMUKLID_LIB_DIR); with --stub its place is taken by a second,
-unchanged copy of the Rust, which measures how sharp the cases are without the library. --check only
-sees that every old text occurs once. --report writes the list with the result as a page for docs/.
-Nothing else is written outside DIR (by default a folder of its own
-under /tmp, removed at the end). Exit 0: every mistake was noticed except those that change nothing.
+unchanged copy of the Rust, which measures how sharp the cases are without the library. --rust plants
+the mistakes of the Rust's three files alone. --check only sees that every old text occurs once. --report writes the list with the result as a page for docs/.
+Nothing else is written outside DIR (by default a temporary folder
+of its own, removed at the end). Exit 0: every mistake was noticed except those that change nothing.
 """
 
 import argparse
@@ -28,10 +28,12 @@ sys.path.insert(0, HERE)
 from mutations import MUTATIONS
 
 MODULE = "core/aetherd/src/regulatory"
+RUST = ["mod.rs", "profile.rs", "occupancy.rs"]
 
 
 def main():
     args = argparse.ArgumentParser()
+    args.add_argument("--rust", action="store_true")
     args.add_argument("--stub", action="store_true")
     args.add_argument("--only", default="")
     args.add_argument("--from", type=int, default=0, dest="start")
@@ -63,7 +65,7 @@ def plant_all(args, rust, work):
     os.makedirs(os.path.join(copy, MODULE), exist_ok=True)
     shutil.copytree(HERE, driver, dirs_exist_ok=True, ignore=shutil.ignore_patterns("target"))
     place, text = {}, {}
-    for name in ["mod.rs", "profile.rs", "occupancy.rs"]:
+    for name in RUST:
         place[name] = os.path.join(copy, MODULE, name)
         text[name] = open(os.path.join(rust, MODULE, name), encoding="utf-8").read()
     place["stub.rs"] = os.path.join(driver, "src/stub.rs")
@@ -121,7 +123,7 @@ def plant_all(args, rust, work):
     for number, (name, old, new, why) in enumerate(MUTATIONS):
         if number < args.start or args.only not in name + " " + old + " " + new:
             continue
-        if name == "stub.rs" and not args.stub:
+        if name == "stub.rs" and not args.stub or args.rust and name not in RUST:
             continue
         put(place[name], text[name].replace(old, new))
         built, code, what = attempt()
@@ -143,8 +145,8 @@ def plant_all(args, rust, work):
             noticed += 1
             state = "noticed"
         told = what.split("): ", 1)[-1][:70] if state == "noticed" and what else why or ""
-        lines.append("| %d | %s | `%s` | `%s` | %s%s |"
-                     % (number, name, cell(old), cell(new) or " ", state, told and ": " + cell(told)))
+        lines.append((name, state, "| %d | `%s` | `%s` | %s%s |" % (
+            number, cell(old), cell(new) or " ", state, told and ": " + cell(told))))
         if args.verbose or state not in ("noticed", "survives, as it should"):
             print("%s: %s%s" % (state, title, "  [%s]" % what if args.verbose and what else ""),
                   flush=True)
@@ -152,20 +154,37 @@ def plant_all(args, rust, work):
                % (noticed, same, len(survivors), len(surprises), len(broken), time.time() - begun))
     print(summary)
     if args.report:
-        put(args.report, "\n".join(
-            ["# Mistakes planted", "",
-             "Made by `compare/mutate.py` on %s against %s, seed %d, %d verdicts, %d ceilings and %d "
-             "dial lists for each mistake: %s." % (
-                 time.strftime("%Y-%m-%d", time.gmtime()),
-                 "a second copy of the Rust" if args.stub else "the library",
-                 args.seed, args.verdicts, args.ceilings, args.dials, summary),
-             "The mistakes as data, whole, are `compare/mutations.py`.", "",
-             "| | file | old | new | result |", "|---|---|---|---|---|"] + lines) + "\n")
+        put(args.report, report(args, lines, summary))
     for title in survivors:
         print("survivor: " + title)
     for title in surprises + broken:
         print("look at: " + title)
     return 1 if survivors or surprises or broken else 0
+
+
+def report(args, lines, summary):
+    """The page: what was done, what changes nothing and why, and the list, file by file."""
+    against = "a second copy of the Rust" if args.stub else "the proved library"
+    out = ["# Mistakes planted", "",
+           "One mistake at a time was planted in a copy of the Rust, or of the driver's own part; the "
+           "driver was built with it and run beside %s, and had to notice a difference. Made by "
+           "`python3 compare/mutate.py --report FILE` on %s: seed %d, the fixed cases and up to %d "
+           "verdicts, %d ceilings and %d dial lists for each mistake, to the first difference." % (
+               against, time.strftime("%Y-%m-%d", time.gmtime()), args.seed, args.verdicts,
+               args.ceilings, args.dials),
+           "", summary + ".", "",
+           "`mod.rs`, `profile.rs` and `occupancy.rs` are the Rust: mistakes at the comparisons, the "
+           "`find` and `any`, the sums and the early returns of `check`, `evaluate` and what it calls, "
+           "`ceiling` and `safe_dials`. `expect.rs` and `adapter.rs` are the driver's own part, from "
+           "document 01. Long texts are cut here; `compare/mutations.py` has them whole.", "",
+           "## Survivors, and why they change nothing", ""]
+    table = ["| | old | new | result |", "|---|---|---|---|"]
+    out += table + [line for _, state, line in lines if not state.startswith("noticed")]
+    for file in dict.fromkeys(name for name, _, _ in lines):
+        of = [(state, line) for name, state, line in lines if name == file]
+        noticed = [line for state, line in of if state.startswith("noticed")]
+        out += ["", "## %s: %d of %d noticed" % (file, len(noticed), len(of)), ""] + table + noticed
+    return "\n".join(out) + "\n"
 
 
 def put(path, text):

@@ -57,17 +57,21 @@ at(P, 'ranges.extend(list.iter().map(|p| ("privilege", &p.range)));', "let _ = l
 at(P, 'ranges.extend(self.bands.iter().map(|b| ("band", &b.range)));', 'ranges.extend(self.bands.iter().take(1).map(|b| ("band", &b.range)));')
 at(P, "for (what, range) in ranges {", "for (what, range) in ranges.into_iter().rev() {")
 at(P, "&& range.low_hz < range.high_hz)", "&& range.low_hz <= range.high_hz)")
+at(P, "&& range.low_hz < range.high_hz)", "&& true)")
+at(P, "for list in self.privileges.all().values() {", "for list in self.privileges.all().values().take(1) {")
 at(P, "if !(range.low_hz.is_finite()\n                && range", "if !(range", FINITE)
 at(P, "range.high_hz.is_finite()\n                && ", "", FINITE)
 at(P, "self.bands.is_empty() || self.data_segments.is_empty()", "self.bands.is_empty() && self.data_segments.is_empty()")
 at(P, "self.bands.is_empty() || self.data_segments.is_empty()", "self.bands.is_empty()")
 at(P, "self.bands.is_empty() || self.data_segments.is_empty()", "self.data_segments.is_empty()")
+at(P, "self.bands.is_empty() || self.data_segments.is_empty()", "false")
 IN_BAND = ".any(|b| b.range.holds(segment.range.low_hz, segment.range.high_hz))"
 at(P, IN_BAND, ".all(|b| b.range.holds(segment.range.low_hz, segment.range.high_hz))")
 at(P, IN_BAND, ".any(|b| b.range.overlaps(segment.range.low_hz, segment.range.high_hz))")
 at(P, IN_BAND, ".any(|b| b.range.holds(segment.range.low_hz, segment.range.low_hz))")
 at(P, IN_BAND, ".any(|b| b.range.holds(segment.range.high_hz, segment.range.high_hz))")
 at(P, IN_BAND, ".any(|b| b.name == segment.band && b.range.holds(segment.range.low_hz, segment.range.high_hz))")
+at(P, IN_BAND, ".any(|_| true)")
 at(P, "for segment in &self.data_segments {", "for segment in self.data_segments.iter().take(1) {")
 at(P, "for segment in &self.data_segments {", "for segment in self.data_segments.iter().rev().take(1) {")
 OWN = ".any(|max| !max.is_finite() || max <= 0.0)"
@@ -87,6 +91,10 @@ at(P, "self.bands.iter().find(|b| b.range.holds(low, high))", "self.bands.iter()
 at(P, "self.bands.iter().find(|b| b.range.holds(low, high))", "self.bands.iter().find(|b| b.range.overlaps(low, high))")
 at(P, "self.bands.iter().find(|b| b.range.overlaps(low, high))", "self.bands.iter().rev().find(|b| b.range.overlaps(low, high))")
 at(P, "self.bands.iter().find(|b| b.range.overlaps(low, high))", "self.bands.iter().find(|b| b.range.holds(low, high))")
+WORDS = "kilohertz in a sentence: the words stay behind, and the driver takes them from the Rust"
+at(P, "(k - k.round()).abs() < 1e-6", "(k - k.round()).abs() > 1e-6", WORDS)
+at(P, "(k * 10.0 - (k * 10.0).round()).abs() < 1e-6", "(k * 10.0 - (k * 10.0).round()).abs() > 1e-6", WORDS)
+at(P, "let k = hz / 1000.0;", "let k = hz / 1001.0;", WORDS)
 
 # ----------------------------------------------------------------------------- occupancy.rs
 O = "occupancy.rs"
@@ -146,6 +154,9 @@ at(M, "(low <= high).then_some((low, high))", "Some((low, high))")
 at(M, "(low <= high).then_some((low, high))", "(low <= high).then_some((high, low))")
 
 # Policy::evaluate, unmeasured, reading
+at(M, "self.verdict != Verdict::Blocked", "self.verdict == Verdict::Legal")
+at(M, "self.verdict != Verdict::Blocked", "self.verdict != Verdict::Warning")
+at(M, "self.verdict != Verdict::Blocked", "true")
 at(M, 'Self::Unset => draft.blocked(\n                "no_profile",', 'Self::Unset => draft.legal(\n                "no_profile",')
 at(M, 'Self::Broken(error) => draft.blocked(\n                "profile_broken",', 'Self::Broken(error) => draft.legal(\n                "profile_broken",')
 at(M, 'Self::NoProfile => draft.legal(\n                "no_rules",', 'Self::NoProfile => draft.blocked(\n                "no_rules",')
@@ -178,10 +189,15 @@ at(M, "if !decision.allowed() {\n                return Ceiling {\n             
 at(M, "limit: Some(decision),", "limit: None,")
 at(M, "if !decision.allowed() {\n                return", "if !decision.allowed() && index + 1 < air.rungs.len() {\n                return")
 at(M, "best = Some(index);", "best = Some(index + 1);")
+at(M, "if !decision.allowed() {\n                return", "if false && !decision.allowed() {\n                return")
 at(M, "best = Some(index);", "best = best.or(Some(index));")
 at(M, "        Ceiling {\n            rung: best,\n            limit: None,", "        Ceiling {\n            rung: best.or(Some(0)),\n            limit: None,")
 
 # safe_dials
+ROW = ('vec![SafeDial { band: "band#0".to_owned(), segment: Range { low_hz: 0.0, high_hz: 0.0 }, '
+       "rule: String::new(), dial_low_hz: 0.0, dial_high_hz: 0.0 }]")
+at(M, "let Self::Rules(profile) = self else {\n            return Vec::new();", "let Self::Rules(profile) = self else {\n            return %s;" % ROW)
+at(M, "s.control)\n        else {\n            return Vec::new();", "s.control)\n        else {\n            return %s;" % ROW)
 THREE = "(s.sideband, s.license, s.control)\n        else"
 at(M, THREE, "(s.sideband.or(Some(Sideband::Usb)), s.license, s.control)\n        else")
 at(M, THREE, "(s.sideband, s.license.or(Some(LicenseClass::Extra)), s.control)\n        else")
@@ -214,6 +230,7 @@ at(M, "profile.automatic.elsewhere.as_ref().is_some_and(|e| {\n            width
 at(M, "if width > segment.data_limit(&profile.data).0 {", "if width >= segment.data_limit(&profile.data).0 {")
 at(M, "if width > segment.data_limit(&profile.data).0 {", "if width > profile.data.max_bandwidth_hz {")
 at(M, "if width > segment.data_limit(&profile.data).0 {", "if false {")
+at(M, "if width > segment.data_limit(&profile.data).0 {\n                continue;", "if width > segment.data_limit(&profile.data).0 {\n                break;")
 EXCL = ".any(|x| x.band == segment.band);"
 at(M, EXCL, ".all(|x| x.band == segment.band);")
 at(M, EXCL, ".any(|x| x.band != segment.band);")
@@ -340,6 +357,12 @@ at(M, AUTO2, "automatic: control != ControlMode::Local && tx.direction != Direct
 at(M, AUTO2, "automatic: control == ControlMode::Automatic && tx.direction == Direction::Originate,")
 
 # evaluate
+at(M, "return d.blocked(missing.code, missing.rule,", "return d.legal(missing.code, missing.rule,")
+at(M, "return d.blocked(missing.code, missing.rule,", 'return d.blocked(missing.code, "",')
+at(M, "profile.band_holding(c.glo, c.ghi) else {", "profile.band_holding(c.glo, c.ghi).or(profile.bands.first()) else {")
+at(M, 'return d.blocked(\n            "out_of_band",', 'return d.legal(\n            "out_of_band",')
+at(M, '"out_of_band",\n            "§97.301",', '"out_of_band",\n            "",')
+at(M, 'return d.blocked("automatic_excluded", &x.rule,', 'return d.blocked("automatic_excluded", &profile.automatic.segments_rule,')
 at(M, "profile.band_holding(c.glo, c.ghi) else {", "profile.band_holding(c.lo, c.hi) else {")
 at(M, "profile.band_holding(c.glo, c.ghi) else {", "profile.band_holding(c.dial, c.dial) else {")
 at(M, "match profile.band_touching(c.glo, c.ghi) {", "match profile.band_touching(c.lo, c.hi) {")
@@ -357,6 +380,8 @@ at(M, ".filter(|ch| ch.band == band.name) {", ".filter(|ch| profile.bands.iter()
 at(M, "EmissionKind::Data => judge_data(&c, &band.name, d),\n        EmissionKind::Cw", "EmissionKind::Data | EmissionKind::Test => judge_data(&c, &band.name, d),\n        EmissionKind::Cw")
 
 # judge_data
+at(M, "    let Some(segment) = segment else {", "    let Some(segment) = segment.or(profile.data_segments.first()) else {")
+at(M, "return outside_segment(profile, d, c.lo, c.hi,", "return outside_segment(profile, d, c.glo, c.ghi,")
 SEG = ".find(|seg| seg.range.holds(c.glo, c.ghi));"
 at(M, SEG, ".find(|seg| seg.range.holds(c.lo, c.hi));")
 at(M, SEG, ".rev().find(|seg| seg.range.holds(c.glo, c.ghi));")
@@ -381,6 +406,7 @@ at(M, "advise(profile, c.s, c.license, decision, (c.lo, c.hi))", "advise(profile
 at(M, "advise(profile, c.s, c.license, decision, (c.lo, c.hi))", "decision")
 
 # judge_other
+at(M, "        let emission = if kind == EmissionKind::Cw {", "        let emission = if false {")
 at(M, "if !privileges.iter().any(|p| p.range.holds(c.dial, c.dial)) {", "if !privileges.iter().any(|p| p.range.holds(c.lo, c.hi)) {")
 at(M, "if !privileges.iter().any(|p| p.range.holds(c.dial, c.dial)) {", "if !privileges.iter().all(|p| p.range.holds(c.dial, c.dial)) {")
 at(M, "if !privileges.iter().any(|p| p.range.holds(c.dial, c.dial)) {", "if privileges.iter().any(|p| p.range.holds(c.dial, c.dial)) {")
@@ -402,6 +428,8 @@ at(M, NEAR, ".filter(|seg| seg.range.overlaps(lo - m, hi - m))")
 at(M, NEAR, "")
 at(M, NEAR, ".filter(|seg| d.band.as_ref() == Some(&seg.band) && seg.range.overlaps(lo - m, hi + m))")
 at(M, ".min_by(|a, b| {", ".max_by(|a, b| {")
+at(M, "dist(a).total_cmp(&dist(b))", "dist(b).total_cmp(&dist(a))")
+at(M, "dist(a).total_cmp(&dist(b))", "dist(a).total_cmp(&dist(b)).then(std::cmp::Ordering::Greater)")
 at(M, NEAR, ".rev()\n        " + NEAR)
 DIST = "(seg.range.low_hz - lo).max(0.0) + (hi - seg.range.high_hz).max(0.0)\n"
 at(M, DIST, "(seg.range.low_hz - lo).max(0.0) - (hi - seg.range.high_hz).max(0.0)\n")
@@ -439,6 +467,10 @@ at(M, '"§97.307(f)(9)",\n            "TX', '"§97.301",\n            "TX')
 at(M, 'None => Some((\n            "§97.301",', 'None => Some((\n            "§97.307(f)(9)",')
 
 # automatic_data
+at(M, "        return advise(\n            profile,\n            s,\n            s.license.unwrap_or(LicenseClass::Extra),\n            decision,\n            (glo + s.margin_hz, ghi - s.margin_hz),\n        );", "        return decision;")
+at(M, "    advise(\n        profile,\n        s,\n        s.license.unwrap_or(LicenseClass::Extra),\n        decision,\n        (glo + s.margin_hz, ghi - s.margin_hz),\n    )", "    decision")
+at(M, "let Some(elsewhere) = &profile.automatic.elsewhere else {", "let free = profile::Elsewhere { max_bandwidth_hz: f64::INFINITY, requires_response: false, rule: profile.automatic.segments_rule.clone() };\n    let Some(elsewhere) = profile.automatic.elsewhere.as_ref().or(Some(&free)) else {")
+at(M, '"automatic_originate",\n            &elsewhere.rule,', '"automatic_originate",\n            &profile.automatic.segments_rule,')
 AIR = ("{ let a = tx.audio.range(profile.bandwidth.reading); "
        "rf_range(s.dial_hz.unwrap(), s.sideband.unwrap(), a.0, a.1) }")
 AUTOSEG = ".find(|a| a.holds(glo, ghi))"
@@ -474,6 +506,7 @@ at(M, 'return d.blocked("automatic_bandwidth", &elsewhere.rule,', 'return d.bloc
 at(M, 'd.legal("automatic_response", &elsewhere.rule, &summary, &detail);', 'd.legal("automatic_response", &segment.rule, &summary, &detail);')
 
 # sixty
+at(M, 'return d.blocked(\n            "privilege",\n            "§97.301",\n            "TX', 'return d.blocked(\n            "privilege",\n            &profile.privileges.rule,\n            "TX')
 at(M, ".any(|p| p.range.holds(c.lo, c.hi))\n    {", ".any(|p| p.range.holds(c.glo, c.ghi))\n    {")
 at(M, ".any(|p| p.range.holds(c.lo, c.hi))\n    {", ".all(|p| p.range.holds(c.lo, c.hi))\n    {")
 at(M, ".any(|p| p.range.holds(c.lo, c.hi))\n    {", ".any(|p| p.range.holds(c.lo, c.hi) && p.allows(c.tx.kind.name()))\n    {")
@@ -487,6 +520,7 @@ at(M, EMIT, "&& !allowed.allowed.iter().all(|e| e == c.tx.kind.name())")
 at(M, EMIT, "&& allowed.allowed.iter().any(|e| e == c.tx.kind.name())")
 at(M, EMIT, "&& !allowed.allowed.is_empty() && !allowed.allowed.iter().any(|e| e == c.tx.kind.name())")
 at(M, EMIT, "&& false")
+at(M, '"sixty_emission",\n            &allowed.rule,', '"sixty_emission",\n            &channels.rule,')
 CH = ".find(|ch| channel_range(channels, **ch).overlaps(c.lo - m, c.hi + m))"
 at(M, CH, ".find(|ch| channel_range(channels, **ch).overlaps(c.lo, c.hi))")
 at(M, CH, ".rev().find(|ch| channel_range(channels, **ch).overlaps(c.lo - m, c.hi + m))")
@@ -556,6 +590,8 @@ at(M, '        "sixty_segment",\n        &segment.rule,', '        "sixty_segmen
 # advise
 at(M, "let applies = limit.range.overlaps(lo, hi)", "let applies = limit.range.holds(lo, hi)")
 at(M, "let applies = limit.range.overlaps(lo, hi)", "let applies = true")
+at(M, "let applies = limit.range.overlaps(lo, hi)\n            && limit", "let applies = limit.range.overlaps(lo, hi)\n            || limit")
+at(M, "if limit.classes.is_some() {", "if limit.classes.is_none() {")
 CL = ".is_none_or(|c| c.iter().any(|x| x == license.name()));"
 at(M, CL, ".is_some_and(|c| c.iter().any(|x| x == license.name()));")
 at(M, CL, ".is_none_or(|c| c.iter().all(|x| x == license.name()));")

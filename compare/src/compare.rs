@@ -2,6 +2,7 @@
 //! lent is held against what it was.
 
 use crate::cases::Ladder;
+use crate::distance;
 use crate::draw::Rng;
 use crate::expect;
 use crate::ffi::{self, Decision, Edges, Station};
@@ -24,11 +25,15 @@ fn equal(what: &str, library: usize, expected: usize) -> Told<()> {
     Err(format!("{what}: library {library}, expected {expected}"))
 }
 
+fn odd(x: f64) -> bool {
+    x.is_nan() || x.to_bits() == 1 << 63
+}
+
 fn agreed(want: Told<Decision>, got: &Decision) -> Told<Decision> {
     let want = want?;
     // "With that, no answer and no row ever holds a negative zero."
-    if let Some((name, _)) = want.floats().into_iter().find(|f| f.1.to_bits() == 1 << 63) {
-        return Err(format!("the Rust answers a negative zero: {name}"));
+    if let Some((name, _)) = want.floats().into_iter().find(|f| odd(f.1)) {
+        return Err(format!("the Rust answers a negative zero or a NaN: {name}"));
     }
     match got.difference(&want) {
         None => Ok(want),
@@ -144,8 +149,8 @@ pub fn dials(
     fill: u64,
 ) -> Told<Found> {
     let (refusal, rows) = adapter::safe_dials(p, s, direction, e)?;
-    if rows.chunks(36).any(|r| (0..4).any(|i| image::f64_at(r, 8 * i).to_bits() == 1 << 63)) {
-        return Err("the Rust lists a negative zero".to_owned());
+    if rows.chunks(36).any(|r| (0..4).any(|i| odd(image::f64_at(r, 8 * i)))) {
+        return Err("the Rust lists a negative zero or a NaN".to_owned());
     }
     let lent = match room {
         Room::Rows(n) => 36 * n,
@@ -172,6 +177,26 @@ pub fn dials(
     unchanged(&before[n..], &after[n..], "bytes past the rows")?;
     unchanged(image, &tables, "image")?;
     Ok(Found { refusal, rows, lent })
+}
+
+/// The distance of a dial, asked of a finished list of an accepted image: document 01's, and the
+/// library's where it has the call.
+pub fn distance(_image: &[u8], p: &Prepared, rows: &[u8], dial: f64) -> Told<Option<f64>> {
+    let table = p.table.as_ref().ok_or("an accepted image")?;
+    let want = distance::of(table, rows, dial);
+    #[cfg(distance)]
+    {
+        let (lent, listed) = (_image.to_vec(), rows.to_vec());
+        let got = ffi::distance(dial, &lent, &listed);
+        equal("distance's refusal", got.refusal.into(), 0)?;
+        equal("distance known", got.known.into(), want.is_some().into())?;
+        if got.hz.to_bits() != want.unwrap_or(0.0).to_bits() {
+            return Err(format!("distance of {dial:?}: library {:?}, expected {want:?}", got.hz));
+        }
+        unchanged(_image, &lent, "image")?;
+        unchanged(rows, &listed, "rows")?;
+    }
+    Ok(want)
 }
 
 fn row_text(r: &[u8]) -> String {

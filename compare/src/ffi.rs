@@ -81,6 +81,16 @@ pub struct Dials {
     pub refusal: u8,
 }
 
+/// The distance of a dial: `known` 0 is "none listed".
+#[cfg(distance)]
+#[repr(C)]
+#[derive(Clone, Copy, Debug)]
+pub struct Distance {
+    pub hz: f64,
+    pub known: u8,
+    pub refusal: u8,
+}
+
 const _: () = assert!(size_of::<Station>() == 32);
 const _: () = assert!(size_of::<Edges>() == 32);
 const _: () = assert!(size_of::<Decision>() == 360);
@@ -122,6 +132,14 @@ unsafe extern "C" {
         rows: *mut u8,
         rows_len: usize,
     ) -> Dials;
+    #[cfg(distance)]
+    fn pamuklid_distance_of(
+        dial: f64,
+        image: *const u8,
+        n: usize,
+        rows: *const u8,
+        rows_len: usize,
+    ) -> Distance;
 }
 
 /// 0 accepted, else 1 to 14.
@@ -185,14 +203,14 @@ pub fn safe_dials(s: Station, direction: u8, e: Edges, image: &[u8], rows: &mut 
     }
 }
 
-/// How the limit of a ceiling that has none is left: all zero. On a refusal its verdict may be
-/// either number (the boundary's text leaves it open); a change here is the only one needed.
+#[cfg(distance)]
+pub fn distance(dial: f64, image: &[u8], rows: &[u8]) -> Distance {
+    unsafe { pamuklid_distance_of(dial, image.as_ptr(), image.len(), rows.as_ptr(), rows.len()) }
+}
+
+/// How the limit of a ceiling that has none is left: all zero.
 pub fn absent_limit_is_right(c: &Ceiling) -> bool {
-    let mut zero = NOTHING;
-    if c.refusal != 0 && c.limit.verdict == 2 {
-        zero.verdict = 2;
-    }
-    c.limit.difference(&zero).is_none()
+    c.limit.difference(&NOTHING).is_none()
 }
 
 /// Every part absent.

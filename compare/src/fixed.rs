@@ -1,23 +1,24 @@
-//! Cases with answers that the papers state: document 01's practice table, and the examples of
-//! READINGS.md. Both sides are run on them as on every other case, and the code, the verdict and
-//! what else is stated must be the papers'.
+//! Cases with answers that the papers state: document 01's practice table, the examples of
+//! READINGS.md, and the differences (differences.rs). Both sides are run on them as on every other
+//! case, and the code, the verdict and what else is stated must be the papers'.
 
 use std::process::exit;
 
 use crate::Run;
 use crate::cases::Ladder;
 use crate::compare::Room;
+use crate::differences;
 use crate::draw::Rng;
 use crate::expect;
 use crate::ffi::{Decision, Edges, Station};
 use crate::image::*;
 use crate::tables;
 
-fn span(low: f64, high: f64) -> Record {
+pub fn span(low: f64, high: f64) -> Record {
     Record { low, high, ..Record::default() }
 }
 
-fn centre(low: f64) -> Record {
+pub fn centre(low: f64) -> Record {
     Record { low, ..Record::default() }
 }
 
@@ -54,7 +55,7 @@ pub fn practice() -> Table {
 }
 
 /// READINGS.md: "band 1 is 0–100, its segment 20–80, an Extra's privilege 0–100, general limit 10".
-fn small() -> Table {
+pub fn small() -> Table {
     let mut t =
         Table { data_limit: 10.0, reading: 2, rules: [7, 0, 9, 0, 0, 12], ..Table::default() };
     t.tables[BANDS].push(Record { band: 1, ..span(0.0, 100.0) });
@@ -65,7 +66,7 @@ fn small() -> Table {
 
 /// ""Sixty" is the same with band 1 as the channel band: a channel at 90, width 10, offset 2,
 /// tolerance 1."
-fn sixty() -> Table {
+pub fn sixty() -> Table {
     let mut t = small();
     t.flags = HAS_CHANNELS;
     (t.channel_band, t.width, t.offset, t.tolerance, t.rules[3]) = (1, 10.0, 2.0, 1.0, 10);
@@ -74,13 +75,13 @@ fn sixty() -> Table {
 }
 
 /// What is asked of one table.
-struct Asked<'a> {
-    run: &'a mut Run,
-    table: Table,
-    s: Station,
-    kind: u8,
-    direction: u8,
-    edges: (f64, f64),
+pub struct Asked<'a> {
+    pub run: &'a mut Run,
+    pub table: Table,
+    pub s: Station,
+    pub kind: u8,
+    pub direction: u8,
+    pub edges: (f64, f64),
 }
 
 impl Asked<'_> {
@@ -89,7 +90,7 @@ impl Asked<'_> {
         Edges::of([low, high, low, high])
     }
 
-    fn verdict(&mut self, dial: f64) -> Decision {
+    pub fn verdict(&mut self, dial: f64) -> Decision {
         let image = self.table.encode();
         let p = self.run.image(&image);
         self.s.dial_hz = dial;
@@ -98,7 +99,7 @@ impl Asked<'_> {
     }
 
     /// The verdict's number (0 legal, 1 warning, 2 blocked) and the code.
-    fn gives(&mut self, what: &str, dial: f64, verdict: u8, code: u8) -> Decision {
+    pub fn gives(&mut self, what: &str, dial: f64, verdict: u8, code: u8) -> Decision {
         let d = self.verdict(dial);
         if (d.verdict, d.code) != (verdict, code) {
             wrong(what, &format!("{} {}", d.verdict, d.code));
@@ -106,32 +107,33 @@ impl Asked<'_> {
         d
     }
 
-    /// The listed dial ranges.
-    fn list(&mut self) -> Vec<(f64, f64)> {
+    /// The bytes of the listed rows, with room for so many.
+    pub fn rows(&mut self, room: usize) -> Vec<u8> {
         let image = self.table.encode();
         let p = self.run.image(&image);
         let e = self.edges();
-        let found = self.run.dials(&image, &p, &self.s, self.direction, &e, Room::Rows(2), 0);
+        let found = self.run.dials(&image, &p, &self.s, self.direction, &e, Room::Rows(room), 0);
         if found.refusal != 0 {
             wrong("a list that fits", &found.refusal.to_string());
         }
-        found.rows.chunks(36).map(|r| (f64_at(r, 16), f64_at(r, 24))).collect()
+        found.rows
     }
 
     fn lists(&mut self, what: &str, want: &[(f64, f64)]) {
-        let rows = self.list();
+        let rows = self.rows(want.len());
+        let rows: Vec<_> = rows.chunks(36).map(|r| (f64_at(r, 16), f64_at(r, 24))).collect();
         if rows != want {
             wrong(what, &format!("{rows:?}"));
         }
     }
 }
 
-fn wrong(what: &str, got: &str) -> ! {
+pub fn wrong(what: &str, got: &str) -> ! {
     println!("DIFFERENCE: the papers say {what:?}; the answer is {got}");
     exit(1)
 }
 
-fn asked(
+pub fn asked(
     run: &mut Run,
     table: Table,
     license: u8,
@@ -155,6 +157,7 @@ fn asked(
 pub fn run(run: &mut Run) {
     document_01(run);
     readings(run);
+    differences::run(run);
     every_mark(run);
 }
 
@@ -217,7 +220,7 @@ fn document_01(run: &mut Run) {
     }
 }
 
-/// READINGS.md, "The verdict" and "Where the Rust parts from Part 97 or from itself".
+/// READINGS.md, "The verdict". Its list of differences is differences.rs.
 fn readings(run: &mut Run) {
     let mut t = small();
     t.data_limit = 1000.0;
@@ -236,89 +239,6 @@ fn readings(run: &mut Run) {
         wrong("width −80", &d.text());
     }
     a.lists("−70–70 is listed", &[(-70.0, 70.0)]);
-    // 1
-    let mut a = asked(run, small(), 4, 0, 2.0, (0.0, 5.0));
-    let d = a.gives("1: margin 2, dial 21, edges 0–5", 21.0, 2, 13);
-    if (d.overshoot, d.edge) != (2, 1) {
-        wrong("1: too close always names the upper edge", &d.text());
-    }
-    // 2
-    let mut a = asked(run, sixty(), 4, 0, 0.0, (0.0, 5.0));
-    a.s.control = 2;
-    a.gives("2: sixty, automatic, originating, dial 88, 0–5 is legal 24", 88.0, 0, 24);
-    a.lists("2: no row is listed", &[]);
-    // 3
-    let mut t = sixty();
-    t.sideband = 1;
-    let mut a = asked(run, t, 4, 0, 0.0, (0.0, 5.0));
-    a.gives("3: byte 44 = 1, upper: blocked 24", 88.0, 2, 24);
-    a.lists("3: lists 88–88", &[(20.0, 75.0), (88.0, 88.0)]);
-    let mut a = asked(run, sixty(), 4, 0, 0.0, (0.0, 5.0));
-    a.gives("3: the verdict allows the tolerance", 87.0, 0, 24);
-    a.lists("3: a channel row is one dial", &[(20.0, 75.0), (88.0, 88.0)]);
-    // 4
-    let mut t = sixty();
-    t.tables[CHANNELS].push(centre(500.0));
-    t.tables[SEGMENTS][0].high = 22.0;
-    let mut a = asked(run, t, 4, 0, 0.0, (0.0, 5.0));
-    a.lists("4: a second channel at 500 lists 498–498", &[(88.0, 88.0), (498.0, 498.0)]);
-    // 5
-    let mut t = sixty();
-    t.data_limit = 1.0;
-    let mut a = asked(run, t, 4, 0, 0.0, (0.0, 5.0));
-    a.gives("5: general limit 1, dial 88, 0–5 is legal 24", 88.0, 0, 24);
-    let mut t = sixty();
-    (t.tables[SEGMENTS][0].flags, t.tables[SEGMENTS][0].figure) = (1, 3.0);
-    let mut a = asked(run, t, 4, 0, 0.0, (0.0, 5.0));
-    a.gives("5: the 60 m segment tests the general limit", 30.0, 0, 25);
-    a.lists("5: the list the segment's own", &[(88.0, 88.0)]);
-    // 6
-    let mut a = asked(run, sixty(), 4, 0, 0.0, (-10.0, 10.0));
-    a.kind = 1;
-    a.gives("6: CW, dial 90, −10–10 is legal 24", 90.0, 0, 24);
-    a.kind = 2;
-    a.gives("6: a test emission is judged as data is", 90.0, 2, 24);
-    // 7, and 10: rule 6 is answered for every class
-    let mut t = small();
-    let first = Record { class: 4, flags: 1, emissions: 2, ..span(0.0, 100.0) };
-    t.tables[PRIVILEGES].insert(0, first);
-    let mut a = asked(run, t, 4, 0, 0.0, (0.0, 5.0));
-    let d = a.gives("7: the verdict goes by the first holding privilege", 30.0, 2, 15);
-    if d.rule != 6 {
-        wrong("10: §97.307(f)(9) is answered for every class", &d.text());
-    }
-    a.lists("7: the list by any that allows data", &[(20.0, 75.0)]);
-    let mut t = small();
-    t.tables[SEGMENTS][0].band = 2;
-    t.tables[AUTOMATIC].push(span(0.0, 100.0));
-    t.tables[EXCLUDED].push(Record { band: 2, rule: 20, ..Record::default() });
-    let mut a = asked(run, t, 4, 0, 0.0, (0.0, 5.0));
-    a.s.control = 2;
-    a.gives("7: exclusion goes by the band's number in the verdict", 30.0, 0, 17);
-    a.lists("7: by the segment's in the list", &[]);
-    // 8
-    let mut t = small();
-    t.tables[PRIVILEGES][0].high = 20.0;
-    let mut a = asked(run, t, 4, 0, 0.0, (0.0, 0.0));
-    a.gives("8: privilege 0–20, dial 20, edges 0–0 is permitted", 20.0, 0, 16);
-    a.lists("8: no row", &[]);
-    // 9
-    let mut t = small();
-    t.data_limit = 1000.0;
-    let mut a = asked(run, t, 4, 0, 12.200000000000001, (0.3, 0.7));
-    let d = a.verdict(31.9);
-    if !a.list().iter().any(|r| r.0 <= 31.9 && 31.9 <= r.1) || d.verdict != 2 {
-        wrong("9: margin 12.200000000000001 lists dial 31.9, which is blocked", &d.text());
-    }
-    a.s.margin_hz = 2.4000000000000004;
-    let x = 22.099999999999998;
-    let d = a.verdict(x);
-    if a.list().iter().any(|r| r.0 <= x && x <= r.1) || d.verdict == 2 {
-        wrong(
-            "9: margin 2.4000000000000004 allows 22.099999999999998, which isn't listed",
-            &d.text(),
-        );
-    }
 }
 
 /// Each of 256 power records, plan areas and areas to avoid, once at least.

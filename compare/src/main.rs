@@ -5,12 +5,13 @@
 //!
 //! Exit 0: no difference, and everything that can be reached was; 1: a difference, printed with all
 //! its inputs and then made smaller; 2: wrong arguments; 3: no difference, but something was never
-//! reached. With --brief only the seed's cases are run, a difference is one line, and 3 doesn't
-//! happen: for mutate.py.
+//! reached. With --brief a difference is one line, and 3 doesn't happen: for mutate.py.
 
 mod cases;
 mod compare;
 mod damage;
+mod differences;
+mod distance;
 mod draw;
 mod expect;
 mod ffi;
@@ -45,6 +46,9 @@ pub struct Run {
     pub ceilings: u64,
     pub dials: u64,
     pub rows: u64,
+    pub distances: u64,
+    /// Demand 3: premises met, and of those the distance nought.
+    pub demand_3: (u64, u64),
     pub images: u64,
     pub refused: u64,
     brief: bool,
@@ -61,6 +65,8 @@ impl Run {
             ceilings: 0,
             dials: 0,
             rows: 0,
+            distances: 0,
+            demand_3: (0, 0),
             images: 0,
             refused: 0,
             brief,
@@ -197,6 +203,50 @@ impl Run {
         }
         found
     }
+
+    /// The distance of a dial, asked of a finished list.
+    pub fn distance(&mut self, image: &[u8], p: &Prepared, rows: &[u8], dial: f64) -> Option<f64> {
+        self.distances += 1;
+        match compare::distance(image, p, rows, dial) {
+            Ok(far) => far,
+            Err(what) => {
+                println!("DIFFERENCE (seed {}, world {}): {what}", self.seed, self.place);
+                exit(1)
+            }
+        }
+    }
+
+    /// Demand 3 on a list and some dials: "the distance … is nought exactly when the gate allows
+    /// data at that dial".
+    fn demand_3(
+        &mut self,
+        rng: &mut Rng,
+        (image, p): (&[u8], &Prepared),
+        s: &Station,
+        direction: u8,
+        e: &Edges,
+        rows: &[u8],
+    ) {
+        let Some(table) = &p.table else {
+            return;
+        };
+        let met = distance::premises(table, adapter::tidy(p) == 1, s, e);
+        for _ in 0..if met { 4 } else { 1 } {
+            let dial = distance::some_dial(rng, table, rows);
+            let far = self.distance(image, p, rows, dial);
+            if !met || !distance::dial_premises(table, s, e, dial) {
+                continue;
+            }
+            let there = Station { dial_hz: dial, dial_known: 1, ..*s };
+            let d = self.verdict(image, p, &there, 0, direction, e);
+            self.demand_3.0 += 1;
+            self.demand_3.1 += u64::from(far == Some(0.0));
+            if (far == Some(0.0)) != (d.verdict != 2) {
+                println!("DIFFERENCE: demand 3 at dial {dial:?}: distance {far:?}, {}", d.text());
+                exit(1);
+            }
+        }
+    }
 }
 
 /// Where something is to be spoilt: each part with its own chance.
@@ -306,7 +356,10 @@ fn one_list(run: &mut Run, rng: &mut Rng, w: &World, (image, p): (&[u8], &Prepar
         damage::spoil_edges(rng, &mut e);
     }
     let (room, fill) = (Room::draw(rng), rng.next());
-    run.dials(image, p, &s, direction, &e, room, fill);
+    let found = run.dials(image, p, &s, direction, &e, room, fill);
+    if found.refusal == 0 && s.policy == 2 {
+        run.demand_3(rng, (image, p), &s, direction, &e, &found.rows);
+    }
 }
 
 struct Wanted {
@@ -324,9 +377,7 @@ fn run_all(run: &mut Run, wanted: &Wanted) {
         println!("DIFFERENCE: the fresh record is {f:?}");
         exit(1);
     }
-    if !run.brief {
-        fixed::run(run);
-    }
+    fixed::run(run);
     let none = run.image(&[]);
     // verdicts, ceilings and lists of one world, in the proportion asked for
     let worlds = (wanted.verdicts / 40).max(wanted.ceilings / 4).max(wanted.dials / 4).max(1);
@@ -451,6 +502,11 @@ fn main() {
         "compared: {} verdicts, {} unmeasured, {} ceilings, {} dial lists with {} rows, {} images; \
          {} calls refused",
         run.verdicts, run.unmeasured, run.ceilings, run.dials, run.rows, run.images, run.refused
+    );
+    let (met, nought) = run.demand_3;
+    println!(
+        "distance: {}; demand 3: {met} dials with its premises met, {nought} of them nought",
+        if cfg!(distance) { format!("{} compared", run.distances) } else { "not compared".into() }
     );
     let missing = run.reach.missing();
     if !brief {

@@ -1,27 +1,23 @@
 //! Writes the replay list: some thousand cases with their answers, for a program of the gate that
-//! needs no Rust. Verdicts, ceilings and dial lists are the Rust's own; refusals, and the parts
-//! that the Rust has only as text, are worked out from document 01 (expect.rs). Every answer was
-//! compared with the linked library's on the way.
+//! needs no Rust (crates/run_replay). Verdicts, ceilings and dial lists are the Rust's own; refusals,
+//! and the parts that the Rust has only as text, are worked out from document 01 (expect.rs). Every
+//! answer was compared with the linked library's on the way.
 //!
-//! All numbers are little-endian; f64 means its 64 bits. No padding.
+//! All numbers are little-endian; f64 means its 64 bits. No padding. The list is u32 number of
+//! pages, then those:
 //!
-//!     u32 number of images; each: u32 length, its bytes
-//!     u32 number of image cases; each:
-//!         u16 image
-//!         u8 check (0 accepted, else 1 to 14), u8 tidy (0 untidy, 1 tidy, 100 + refusal)
-//!     u32 number of verdict cases; each:
-//!         u8 call (0 evaluate, 1 unmeasured)
-//!         u16 image, STATION, u8 kind, u8 direction, EDGES   (the last three zero for call 1)
-//!         DECISION
-//!     u32 number of ceiling cases; each:
-//!         u16 image, STATION, u8 direction, EDGES ordinary, EDGES floor
-//!         u16 number of figures, that many f64; u16 number of floor bytes, those bytes
-//!         u8 refusal, u8 rung known, u16 rung, u8 limit known; if it is known: DECISION
-//!     u32 number of dial lists; each:
-//!         u16 image, STATION, u8 direction, EDGES, u32 bytes lent for rows
-//!         u8 refusal, u32 count, count rows of 36 bytes
-//!
-//!     image     its number, counted from 0; 0xffff: the empty image
+//!     PAGE      u32 number of bytes that follow in the page; u32 length of the image, its bytes; u32
+//!               number of cases, the cases
+//!     CASE      u8 call, then
+//!         0 check and tidy question: u8 check (0 accepted, else 1 to 14), u8 tidy (0 untidy, 1 tidy,
+//!           100 + refusal)
+//!         1 evaluate: STATION, u8 kind, u8 direction, EDGES; DECISION
+//!         2 unmeasured: STATION; DECISION
+//!         3 ceiling: STATION, u8 direction, EDGES ordinary, EDGES floor, u16 number of figures, u16
+//!           number of floor bytes, the figures (f64 each), the floor bytes; u8 refusal, u8 rung known,
+//!           u16 rung, u8 limit known, DECISION (all zero if it isn't known)
+//!         4 dial list: STATION, u8 direction, EDGES, u32 bytes lent for rows; u8 refusal, u32 count,
+//!           count rows of 36 bytes
 //!     STATION   f64 margin, dial, power; u8 policy, control, license, sideband, itu_region,
 //!               band_plan, dial_known, power_known (32 bytes)
 //!     EDGES     f64 power low, power high, spectral low, spectral high (32 bytes)
@@ -30,41 +26,28 @@
 //!               u16 rule, segment_rule, guidance_index;
 //!               u8 refusal, verdict, code, rule_known, band_known, band, segment_known,
 //!               automatic_known, audio_known, air_known, overshoot, edge, guidance,
-//!               note_channel_power, note_shared, note_segment_power;
-//!               u16 number of notes, then that many u8: the indices of the marks that are 1, in
-//!               ascending order (104 bytes and the notes)
+//!               note_channel_power, note_shared, note_segment_power, marked; if marked is 1, 256
+//!               u8 notes, else they are all zero (103 or 359 bytes)
 
-use std::collections::BTreeMap;
+use std::collections::{BTreeMap, BTreeSet};
 
 use crate::cases::{self, Ladder};
 use crate::compare::Room;
 use crate::damage;
 use crate::draw::{Rng, Scale};
-use crate::ffi::{Decision, Edges, Station};
+use crate::ffi::{Decision, Edges, NOTHING, Station};
 use crate::oracle::adapter::Prepared;
 use crate::tables::{self, World};
 use crate::{Run, fixed};
 
 #[derive(Default)]
-struct Section {
-    count: u32,
-    bytes: Vec<u8>,
-}
-
-impl Section {
-    fn add(&mut self, bytes: &[u8]) {
-        self.count += 1;
-        self.bytes.extend(bytes);
-    }
-}
-
-#[derive(Default)]
 struct List {
-    images: Section,
-    checks: Section,
-    verdicts: Section,
-    ceilings: Section,
-    dials: Section,
+    bytes: Vec<u8>,
+    images: u32,
+    /// How many cases of each call.
+    calls: [u32; 5],
+    /// The refusal and the code that each call is there with.
+    seen: BTreeSet<(u8, u8, u8)>,
     /// How often each thing worth having is there.
     have: BTreeMap<(u8, u16, u16, u16), u32>,
 }
@@ -102,41 +85,52 @@ fn decision(out: &mut Vec<u8>, d: &Decision) {
         out.extend(x.to_le_bytes());
     }
     out.extend(d.bytes().map(|b| b.1));
-    let notes: Vec<u8> = (0..=255).filter(|&i| d.notes[usize::from(i)] == 1).collect();
-    out.extend((notes.len() as u16).to_le_bytes());
-    out.extend(notes);
+    let marked = d.notes.contains(&1);
+    out.push(u8::from(marked));
+    if marked {
+        out.extend(d.notes);
+    }
 }
 
-/// One image with the cases on it; the image goes into the list only if a case does.
+/// One image with the cases on it; it goes into the list only if a case does.
 struct Page<'a> {
     image: &'a [u8],
     p: &'a Prepared,
-    number: u16,
-    used: bool,
+    cases: u32,
+    bytes: Vec<u8>,
 }
 
 impl<'a> Page<'a> {
-    fn new(list: &List, image: &'a [u8], p: &'a Prepared) -> Self {
-        let number = if image.is_empty() { 0xffff } else { list.images.count as u16 };
-        Self { image, p, number, used: image.is_empty() }
+    fn new(image: &'a [u8], p: &'a Prepared) -> Self {
+        Self { image, p, cases: 0, bytes: Vec::new() }
     }
 
-    fn take(&mut self, list: &mut List) {
-        if !self.used {
-            let mut bytes = (self.image.len() as u32).to_le_bytes().to_vec();
-            bytes.extend(self.image);
-            list.images.add(&bytes);
-            self.used = true;
+    fn add(&mut self, list: &mut List, (call, refusal, code): (u8, u8, u8), bytes: &[u8]) {
+        self.cases += 1;
+        list.seen.insert((call, refusal, code));
+        list.calls[usize::from(call)] += 1;
+        self.bytes.push(call);
+        self.bytes.extend(bytes);
+    }
+
+    fn end(self, list: &mut List) {
+        if self.cases > 0 {
+            list.images += 1;
+            let size = self.image.len() + self.bytes.len() + 8;
+            assert!(size <= 163_840, "a page that the program can read");
+            for n in [size, self.image.len()] {
+                list.bytes.extend((n as u32).to_le_bytes());
+            }
+            list.bytes.extend(self.image);
+            list.bytes.extend(self.cases.to_le_bytes());
+            list.bytes.extend(self.bytes);
         }
     }
 
     fn check(&mut self, list: &mut List, most: u32) {
         let tidy = crate::oracle::adapter::tidy(self.p);
         if list.wants((0, u16::from(tidy), 0, 0), most) {
-            self.take(list);
-            let mut out = self.number.to_le_bytes().to_vec();
-            out.extend([self.p.refusal, tidy]);
-            list.checks.add(&out);
+            self.add(list, (0, self.p.refusal, 0), &[self.p.refusal, tidy]);
         }
     }
 
@@ -161,27 +155,22 @@ impl<'a> Page<'a> {
             (r, _) => ((2, u16::from(r), 0, 0), most / 2),
         };
         if list.wants(key, most) {
-            self.take(list);
-            let mut out = vec![0];
-            out.extend(self.number.to_le_bytes());
+            let mut out = Vec::new();
             station(&mut out, s);
             out.extend([kind, direction]);
             edges(&mut out, e);
             decision(&mut out, &d);
-            list.verdicts.add(&out);
+            self.add(list, (1, d.refusal, d.code), &out);
         }
     }
 
     fn unmeasured(&mut self, run: &mut Run, list: &mut List, s: &Station, most: u32) {
         let d = run.unmeasured(self.image, self.p, s);
         if list.wants((3, u16::from(d.refusal), 0, 0), most) {
-            self.take(list);
-            let mut out = vec![1];
-            out.extend(self.number.to_le_bytes());
+            let mut out = Vec::new();
             station(&mut out, s);
-            out.extend([0; 34]);
             decision(&mut out, &d);
-            list.verdicts.add(&out);
+            self.add(list, (2, d.refusal, 0), &out);
         }
     }
 
@@ -204,25 +193,22 @@ impl<'a> Page<'a> {
             r => (6, u16::from(r), 0, 0),
         };
         if list.wants(key, most) {
-            self.take(list);
-            let mut out = self.number.to_le_bytes().to_vec();
+            let mut out = Vec::new();
             station(&mut out, s);
             out.push(direction);
             edges(&mut out, &l.ordinary);
             edges(&mut out, &l.floor);
             out.extend((l.rungs.len() as u16).to_le_bytes());
+            out.extend((l.floors.len() as u16).to_le_bytes());
             for x in &l.rungs {
                 out.extend(x.to_bits().to_le_bytes());
             }
-            out.extend((l.floors.len() as u16).to_le_bytes());
             out.extend(&l.floors);
             out.extend([c.refusal, u8::from(c.rung.is_some())]);
             out.extend(c.rung.unwrap_or(0).to_le_bytes());
             out.push(u8::from(c.limit.is_some()));
-            if let Some(d) = &c.limit {
-                decision(&mut out, d);
-            }
-            list.ceilings.add(&out);
+            decision(&mut out, &c.limit.unwrap_or(NOTHING));
+            self.add(list, (3, c.refusal, 0), &out);
         }
     }
 
@@ -246,8 +232,7 @@ impl<'a> Page<'a> {
             r => (8, u16::from(r), 0, 0),
         };
         if list.wants(key, most) {
-            self.take(list);
-            let mut out = self.number.to_le_bytes().to_vec();
+            let mut out = Vec::new();
             station(&mut out, s);
             out.push(direction);
             edges(&mut out, e);
@@ -255,7 +240,7 @@ impl<'a> Page<'a> {
             out.push(found.refusal);
             out.extend((n as u32).to_le_bytes());
             out.extend(&found.rows);
-            list.dials.add(&out);
+            self.add(list, (4, found.refusal, 0), &out);
         }
     }
 }
@@ -287,25 +272,37 @@ pub fn write(run: &mut Run, file: &str) {
             }
         }
     }
-    let mut out = Vec::new();
-    for s in [&list.images, &list.checks, &list.verdicts, &list.ceilings, &list.dials] {
-        out.extend(s.count.to_le_bytes());
-        out.extend(&s.bytes);
-    }
+    let missing: Vec<_> = wanted().into_iter().filter(|k| !list.seen.contains(k)).collect();
+    assert!(missing.is_empty(), "every code and every refusal: {missing:?}");
+    let mut out = list.images.to_le_bytes().to_vec();
+    out.extend(&list.bytes);
     if let Err(e) = std::fs::write(file, &out) {
         eprintln!("{file}: {e}");
         std::process::exit(2);
     }
+    let [checks, verdicts, unmeasured, ceilings, dials] = list.calls;
     println!(
-        "{file}: {} bytes; {} images, {} image cases, {} verdicts, {} ceilings, {} dial lists; seed {}",
+        "{} bytes; {} images, {checks} image cases, {verdicts} verdicts, {unmeasured} unmeasured, \
+         {ceilings} ceilings, {dials} dial lists; seed {}",
         out.len(),
-        list.images.count,
-        list.checks.count,
-        list.verdicts.count,
-        list.ceilings.count,
-        list.dials.count,
+        list.images,
         run.seed
     );
+}
+
+/// Every code of a verdict (4 is `unmeasured`'s alone), and every refusal that a call's inputs can
+/// cause.
+fn wanted() -> Vec<(u8, u8, u8)> {
+    let mut out: Vec<_> = (1..=25).filter(|&code| code != 4).map(|code| (1, 0, code)).collect();
+    let refusals: [&[u8]; 5] =
+        [&[], &[15, 20, 21, 22], &[20, 21, 22], &[15, 16, 20, 21, 22], &[15, 20, 21, 22, 23]];
+    for (call, more) in (0..).zip(refusals) {
+        out.extend((1..=14).chain(more.iter().copied()).map(|refusal| (call, refusal, 0)));
+        if call != 1 {
+            out.push((call, 0, 0));
+        }
+    }
+    out
 }
 
 /// Cases on one image: `tries` of each call, of which those are taken that are still wanted.
@@ -319,7 +316,8 @@ fn page(
     most: u32,
 ) {
     let p = run.image(image);
-    let mut page = Page::new(list, image, &p);
+    let mut page = Page::new(image, &p);
+    let mut bare = Page::new(&[], none);
     page.check(list, most / 2);
     let rng = &mut Rng::new(run.seed, run.place + (1 << 32));
     for i in 0..tries {
@@ -344,10 +342,11 @@ fn page(
             page.ceiling(run, list, &s, direction, &l, most / 4);
         }
         if rng.below(60) == 0 {
-            let mut page = Page::new(list, &[], none);
-            page.verdict(run, list, &s, kind, direction, &e, most);
-            page.unmeasured(run, list, &s, most / 2);
-            page.dials(run, rng, list, &s, direction, &e, most / 2);
+            bare.verdict(run, list, &s, kind, direction, &e, most);
+            bare.unmeasured(run, list, &s, most / 2);
+            bare.dials(run, rng, list, &s, direction, &e, most / 2);
         }
     }
+    page.end(list);
+    bare.end(list);
 }

@@ -1,0 +1,350 @@
+//! docs/DIFFERENCES.md on both sides: each item's input, and the whole answer that the Rust gives,
+//! worked out by hand from document 01 and READINGS.md. Rust and library are compared on each as on
+//! every other case; then the agreed answer must be the one written here, every part of it.
+
+use crate::Run;
+use crate::ffi::{Decision, NOTHING};
+use crate::fixed::{Asked, asked, centre, practice, sixty, small, span, wrong};
+use crate::image::*;
+
+const LEGAL: u8 = 0;
+const WARNING: u8 = 1;
+const BLOCKED: u8 = 2;
+const UPPER: u8 = 1;
+
+/// A verdict's parts, put together one by one.
+#[derive(Clone, Copy)]
+struct Answer(Decision);
+
+/// Verdict, code and rule; the audio edges, and those on the air.
+fn answer(verdict: u8, code: u8, rule: u16, audio: (f64, f64), air: (f64, f64)) -> Answer {
+    Answer(Decision {
+        verdict,
+        code,
+        rule,
+        rule_known: 1,
+        audio_known: 1,
+        audio_low: audio.0,
+        audio_high: audio.1,
+        width: audio.1 - audio.0,
+        air_known: 1,
+        air_low: air.0,
+        air_high: air.1,
+        ..NOTHING
+    })
+}
+
+impl Answer {
+    fn band(self, band: u8) -> Self {
+        Self(Decision { band_known: 1, band, ..self.0 })
+    }
+
+    fn segment(self, low: f64, high: f64, rule: u16) -> Self {
+        let d = Decision { segment_low: low, segment_high: high, ..self.0 };
+        Self(Decision { segment_known: 1, segment_rule: rule, ..d })
+    }
+
+    fn automatic(self, low: f64, high: f64) -> Self {
+        Self(Decision { automatic_known: 1, automatic_low: low, automatic_high: high, ..self.0 })
+    }
+
+    fn too_close(self, edge: u8) -> Self {
+        Self(Decision { overshoot: 2, edge, ..self.0 })
+    }
+
+    fn shared(self) -> Self {
+        Self(Decision { note_shared: 1, ..self.0 })
+    }
+
+    fn above_channel_watts(self) -> Self {
+        Self(Decision { note_channel_power: 1, ..self.0 })
+    }
+
+    fn above_segment_watts(self) -> Self {
+        Self(Decision { note_segment_power: 1, ..self.0 })
+    }
+}
+
+fn verdict(a: &mut Asked, what: &str, dial: f64, want: Answer) {
+    let got = a.verdict(dial);
+    if let Some(part) = got.difference(&want.0) {
+        wrong(what, &format!("{part} (where \"library\" is the agreed answer)"));
+    }
+}
+
+/// A row: segment, dials, band, rule.
+type Row = (f64, f64, f64, f64, u8, u16);
+
+fn list(a: &mut Asked, what: &str, want: &[Row]) -> Vec<u8> {
+    let mut bytes = Vec::new();
+    for &(segment_low, segment_high, dial_low, dial_high, band, rule) in want {
+        for x in [segment_low, segment_high, dial_low, dial_high] {
+            bytes.extend(x.to_bits().to_le_bytes());
+        }
+        bytes.extend([band, 0]);
+        bytes.extend(rule.to_le_bytes());
+    }
+    let rows = a.rows(want.len());
+    if rows != bytes {
+        wrong(what, &format!("{rows:?}"));
+    }
+    rows
+}
+
+/// The distance of a dial from that list: demand 3 holds or, where a premise is dropped, doesn't.
+fn distance(a: &mut Asked, what: &str, rows: &[u8], dial: f64, want: Option<f64>) {
+    let image = a.table.encode();
+    let p = a.run.image(&image);
+    let got = a.run.distance(&image, &p, rows, dial);
+    if got.map(f64::to_bits) != want.map(f64::to_bits) {
+        wrong(what, &format!("{got:?}"));
+    }
+}
+
+/// Extra, region 0, local, upper sideband, originating data: as READINGS.md's examples.
+fn on(run: &mut Run, table: Table, margin: f64, edges: (f64, f64)) -> Asked<'_> {
+    asked(run, table, 4, 0, margin, edges)
+}
+
+const SHORT: (f64, f64) = (0.0, 5.0);
+const SEGMENT_ROW: Row = (20.0, 80.0, 20.0, 75.0, 1, 13);
+const CHANNEL_ROW: Row = (85.0, 95.0, 88.0, 88.0, 1, 10);
+
+/// The signal 0–5 at dial 88 on the channel 85–95.
+fn on_channel(verdict: u8) -> Answer {
+    let a = answer(verdict, 24, 10, SHORT, (88.0, 93.0)).band(1).segment(85.0, 95.0, 10);
+    if verdict == BLOCKED { a } else { a.shared() }
+}
+
+/// The signal 0–5 at dial 30 in the segment 20–80.
+fn in_segment(verdict: u8, code: u8, rule: u16) -> Answer {
+    answer(verdict, code, rule, SHORT, (30.0, 35.0)).band(1).segment(20.0, 80.0, 13)
+}
+
+pub fn run(run: &mut Run) {
+    edges_and_control(run);
+    channel_rows(run);
+    widths_and_kinds(run);
+    untidy(run);
+    ends_and_grid(run);
+    believed(run);
+    more_on_sixty(run);
+    demand_3(run);
+}
+
+/// 1 and 2.
+fn edges_and_control(run: &mut Run) {
+    let mut a = on(run, small(), 2.0, SHORT);
+    let want = answer(BLOCKED, 13, 13, SHORT, (21.0, 26.0)).band(1).segment(20.0, 80.0, 13);
+    verdict(&mut a, "1: too close, upper", 21.0, want.too_close(UPPER));
+
+    let mut a = on(run, sixty(), 0.0, SHORT);
+    a.s.control = 2;
+    verdict(&mut a, "2: automatic on a channel", 88.0, on_channel(LEGAL));
+    list(&mut a, "2: no row", &[]);
+    a.table.tables[EXCLUDED].push(Record { band: 1, rule: 20, ..Record::default() });
+    let want = answer(BLOCKED, 11, 20, SHORT, (88.0, 93.0)).band(1);
+    verdict(&mut a, "2: unless the band is excluded", 88.0, want);
+}
+
+/// 3 and 4.
+fn channel_rows(run: &mut Run) {
+    let mut lower = sixty();
+    lower.sideband = 1;
+    let mut a = on(run, lower, 0.0, SHORT);
+    verdict(&mut a, "3: channels on lower, upper sent", 88.0, on_channel(BLOCKED));
+    list(&mut a, "3: listed on upper", &[SEGMENT_ROW, CHANNEL_ROW]);
+    a.s.sideband = 1;
+    a.edges = (-5.0, 0.0);
+    let want = answer(LEGAL, 24, 10, (-5.0, 0.0), (88.0, 93.0)).band(1).segment(85.0, 95.0, 10);
+    verdict(&mut a, "3: channels on lower, lower sent", 88.0, want.shared());
+    list(&mut a, "3: not listed on lower", &[SEGMENT_ROW]);
+
+    let mut a = on(run, sixty(), 0.0, SHORT);
+    for (dial, far) in [(86.875, BLOCKED), (87.0, LEGAL), (89.0, LEGAL), (89.125, BLOCKED)] {
+        let want = on_channel(far).0;
+        let want = Decision { air_low: dial, air_high: dial + 5.0, ..want };
+        verdict(&mut a, "3: the verdict allows the tolerance", dial, Answer(want));
+    }
+    list(&mut a, "3: a channel row is one dial", &[SEGMENT_ROW, CHANNEL_ROW]);
+
+    a.table.tables[CHANNELS].push(centre(500.0));
+    let second = (495.0, 505.0, 498.0, 498.0, 1, 10);
+    list(&mut a, "4: both channels", &[SEGMENT_ROW, CHANNEL_ROW, second]);
+    let want = answer(BLOCKED, 10, 1, SHORT, (498.0, 503.0));
+    verdict(&mut a, "4: the second is in no band", 498.0, want);
+}
+
+/// 5 and 6.
+fn widths_and_kinds(run: &mut Run) {
+    let mut a = on(run, sixty(), 0.0, SHORT);
+    a.table.data_limit = 1.0;
+    verdict(&mut a, "5: no width test on a channel", 88.0, on_channel(LEGAL));
+    list(&mut a, "5: the list has one", &[]);
+    let mut a = on(run, sixty(), 0.0, SHORT);
+    (a.table.tables[SEGMENTS][0].flags, a.table.tables[SEGMENTS][0].figure) = (1, 3.0);
+    verdict(&mut a, "5: own limit 3, general 10: verdict", 30.0, in_segment(LEGAL, 25, 13));
+    list(&mut a, "5: own limit 3, general 10: list", &[CHANNEL_ROW]);
+    a.table.tables[SEGMENTS][0].figure = 20.0;
+    a.edges = (0.0, 15.0);
+    let want = answer(BLOCKED, 12, 7, (0.0, 15.0), (30.0, 45.0)).band(1).segment(20.0, 80.0, 13);
+    verdict(&mut a, "5: own limit 20, general 10: verdict", 30.0, want);
+    list(&mut a, "5: own limit 20, general 10: list", &[(20.0, 80.0, 20.0, 65.0, 1, 13)]);
+
+    let mut a = on(run, sixty(), 0.0, (-10.0, 10.0));
+    a.kind = 1;
+    let wide = |v| answer(v, 24, 10, (-10.0, 10.0), (80.0, 100.0)).band(1).segment(85.0, 95.0, 10);
+    verdict(&mut a, "6: CW needs only its centre", 90.0, wide(LEGAL).shared());
+    a.kind = 2;
+    verdict(&mut a, "6: a test emission doesn't", 90.0, wide(BLOCKED));
+    a.edges = SHORT;
+    verdict(&mut a, "6: it is judged as data is", 88.0, on_channel(LEGAL));
+}
+
+/// 7.
+fn untidy(run: &mut Run) {
+    let mut a = on(run, small(), 0.0, SHORT);
+    let cw_only = Record { class: 4, flags: 1, emissions: 2, ..span(0.0, 100.0) };
+    a.table.tables[PRIVILEGES].insert(0, cw_only);
+    verdict(&mut a, "7: the first holding privilege", 30.0, in_segment(BLOCKED, 15, 6));
+    list(&mut a, "7: any that allows data", &[SEGMENT_ROW]);
+
+    let mut a = on(run, small(), 0.0, SHORT);
+    a.s.control = 2;
+    a.table.tables[SEGMENTS][0].band = 2;
+    a.table.tables[AUTOMATIC].push(span(0.0, 100.0));
+    a.table.tables[EXCLUDED].push(Record { band: 2, rule: 20, ..Record::default() });
+    let want = in_segment(LEGAL, 17, 9).automatic(0.0, 100.0);
+    verdict(&mut a, "7: band 2 excluded: verdict", 30.0, want);
+    list(&mut a, "7: band 2 excluded: list", &[]);
+    a.table.tables[EXCLUDED][0].band = 1;
+    let want = answer(BLOCKED, 11, 20, SHORT, (30.0, 35.0)).band(1);
+    verdict(&mut a, "7: band 1 excluded: verdict", 30.0, want);
+    list(&mut a, "7: band 1 excluded: list", &[(20.0, 80.0, 20.0, 75.0, 2, 9)]);
+}
+
+/// 8 and 9.
+fn ends_and_grid(run: &mut Run) {
+    let mut a = on(run, small(), 0.0, (0.0, 0.0));
+    a.table.tables[PRIVILEGES][0].high = 20.0;
+    let want = answer(LEGAL, 16, 13, (0.0, 0.0), (20.0, 20.0)).band(1).segment(20.0, 80.0, 13);
+    verdict(&mut a, "8: one point is held", 20.0, want);
+    list(&mut a, "8: no row", &[]);
+
+    let edges = (0.3, 0.7);
+    let mut a = on(run, small(), 12.200000000000001, edges);
+    a.table.data_limit = 1000.0;
+    // (20 − 0.3) + m and (80 − 0.7) − m; but (31.9 + 0.3) − m is 19.999999999999993
+    list(&mut a, "9: listed from 31.9", &[(20.0, 80.0, 31.9, 67.1, 1, 13)]);
+    let air = (32.199999999999996, 32.6);
+    let want = answer(BLOCKED, 13, 13, edges, air).band(1).segment(20.0, 80.0, 13);
+    verdict(&mut a, "9: 31.9 is blocked", 31.9, want.too_close(UPPER));
+    a.s.margin_hz = 2.4000000000000004;
+    // 22.1 is the figure above 22.099999999999998; (22.099999999999998 + 0.3) − m is 20
+    list(&mut a, "9: listed from 22.1", &[(20.0, 80.0, 22.1, 76.89999999999999, 1, 13)]);
+    let air = (22.4, 22.799999999999997);
+    let want = answer(LEGAL, 16, 13, edges, air).band(1).segment(20.0, 80.0, 13);
+    verdict(&mut a, "9: 22.099999999999998 is allowed", 22.099999999999998, want);
+}
+
+/// 10.
+fn believed(run: &mut Run) {
+    for class in 0..5 {
+        let mut a = on(run, small(), 0.0, SHORT);
+        a.s.license = class;
+        a.table.tables[PRIVILEGES][0] =
+            Record { class, flags: 3, emissions: 2, rule: 30, ..span(0.0, 100.0) };
+        verdict(&mut a, "10: rule 6 for every class", 30.0, in_segment(BLOCKED, 15, 6));
+    }
+
+    let mut a = on(run, small(), 0.0, SHORT);
+    a.s.control = 2;
+    a.table.flags = ELSEWHERE | RESPONSE;
+    (a.table.elsewhere_limit, a.table.rules[1]) = (10.0, 8);
+    verdict(&mut a, "10: originating", 30.0, in_segment(BLOCKED, 20, 8));
+    a.direction = 1;
+    verdict(&mut a, "10: any Respond is believed", 30.0, in_segment(LEGAL, 21, 8));
+
+    let mut a = on(run, sixty(), 0.0, SHORT);
+    (a.s.power_known, a.s.power_w) = (1, 100.0);
+    verdict(&mut a, "10: 100 W as given", 88.0, on_channel(LEGAL));
+    a.s.power_w = 100.00000000000001;
+    verdict(&mut a, "10: above 100 W", 88.0, on_channel(WARNING).above_channel_watts());
+    a.s.power_w = 9.15;
+    verdict(&mut a, "10: 9.15 W as given", 30.0, in_segment(LEGAL, 25, 13));
+    a.s.power_w = 9.150000000000002;
+    let want = in_segment(WARNING, 25, 13).above_segment_watts();
+    verdict(&mut a, "10: above 9.15 W", 30.0, want);
+}
+
+/// 11 to 13: where list and verdict part on 60 m besides.
+fn more_on_sixty(run: &mut Run) {
+    let mut a = on(run, sixty(), 0.0, SHORT);
+    a.table.flags |= HAS_EMISSIONS;
+    (a.table.emissions, a.table.rules[4]) = (2, 11);
+    let want = answer(BLOCKED, 22, 11, SHORT, (88.0, 93.0)).band(1);
+    verdict(&mut a, "11: data isn't among the emissions", 88.0, want);
+    list(&mut a, "11: the list doesn't ask", &[SEGMENT_ROW, CHANNEL_ROW]);
+
+    let mut a = on(run, sixty(), 0.0, SHORT);
+    let cw_only = Record { class: 4, flags: 1, emissions: 2, ..span(0.0, 100.0) };
+    a.table.tables[PRIVILEGES][0] = cw_only;
+    verdict(&mut a, "12: a privilege's emissions aren't read", 88.0, on_channel(LEGAL));
+    list(&mut a, "12: the list reads them", &[]);
+
+    let mut a = on(run, sixty(), 0.0, SHORT);
+    a.table.tables[CHANNELS][0] = centre(50.0);
+    let want = answer(BLOCKED, 24, 10, SHORT, (40.0, 45.0)).band(1).segment(45.0, 55.0, 10);
+    verdict(&mut a, "13: a channel in the segment comes first", 40.0, want);
+    let channel = (45.0, 55.0, 48.0, 48.0, 1, 10);
+    list(&mut a, "13: the segment's row isn't cut", &[SEGMENT_ROW, channel]);
+}
+
+/// Demand 3 with its premises met, and an input that breaks it once one is dropped.
+fn demand_3(run: &mut Run) {
+    let mut a = on(run, small(), 0.0, SHORT);
+    let rows = list(&mut a, "demand 3: the row", &[SEGMENT_ROW]);
+    for (dial, code, far) in
+        [(20.0, 16, 0.0), (75.0, 16, 0.0), (75.125, 13, 0.125), (5.0, 14, 15.0)]
+    {
+        distance(&mut a, "demand 3: the distance", &rows, dial, Some(far));
+        a.gives("demand 3: nought exactly if allowed", dial, if far == 0.0 { 0 } else { 2 }, code);
+    }
+    a.s.license = 0;
+    let rows = list(&mut a, "demand 3: no privilege, no row", &[]);
+    distance(&mut a, "demand 3: none listed", &rows, 30.0, None);
+    a.gives("demand 3: none listed, blocked", 30.0, 2, 15);
+    // "14,093,800–14,097,700, then 14,099,300–14,110,200"
+    let mut a = asked(run, practice(), 2, 2, 50.0, (1250.0, 1750.0));
+    a.s.control = 2;
+    let rows = a.rows(2);
+    for (dial, code, far) in
+        [(14_097_700.0, 17, 0.0), (14_098_000.0, 20, 300.0), (14_099_000.0, 20, 300.0)]
+    {
+        distance(&mut a, "demand 3: practice table", &rows, dial, Some(far));
+        a.gives("demand 3: practice table", dial, if far == 0.0 { 0 } else { 2 }, code);
+    }
+    // tidy dropped: item 7
+    let mut a = on(run, small(), 0.0, SHORT);
+    let cw_only = Record { class: 4, flags: 1, emissions: 2, ..span(0.0, 100.0) };
+    a.table.tables[PRIVILEGES].insert(0, cw_only);
+    let rows = list(&mut a, "untidy: listed", &[SEGMENT_ROW]);
+    distance(&mut a, "untidy: nought", &rows, 30.0, Some(0.0));
+    a.gives("untidy: but blocked", 30.0, 2, 15);
+    // eighths dropped: item 9
+    let mut a = on(run, small(), 12.200000000000001, (0.3, 0.7));
+    let rows = list(&mut a, "off the grid: listed", &[(20.0, 80.0, 31.9, 67.1, 1, 13)]);
+    distance(&mut a, "off the grid: nought", &rows, 31.9, Some(0.0));
+    a.gives("off the grid: but blocked", 31.9, 2, 13);
+    // the positive guarded width dropped: item 8
+    let mut a = on(run, small(), 0.0, (0.0, 0.0));
+    a.table.tables[PRIVILEGES][0].high = 20.0;
+    let rows = list(&mut a, "no width: no row", &[]);
+    distance(&mut a, "no width: none listed", &rows, 20.0, None);
+    a.gives("no width: but allowed", 20.0, 0, 16);
+    // off the channel band dropped: item 2
+    let mut a = on(run, sixty(), 0.0, SHORT);
+    let rows = list(&mut a, "channel band: listed", &[SEGMENT_ROW, CHANNEL_ROW]);
+    distance(&mut a, "channel band: its rows don't count", &rows, 88.0, None);
+    a.gives("channel band: but allowed", 88.0, 0, 24);
+}

@@ -1,0 +1,88 @@
+//! The distance of a dial and demand 3, from document 01. The distance of each list found is worked
+//! out here and, where the library has the call, compared; then demand 3's statement is asked of both
+//! sides' equal answers: nought exactly if data is allowed.
+
+use crate::ffi::{Edges, Station};
+use crate::image::{BANDS, HAS_CHANNELS, Record, SEGMENTS, Table, f64_at};
+
+/// "the least, over rows whose band byte isn't the channel band's number (all rows if flag bit 2 is
+/// clear), of how far the dial stands below the row's lower dial or above its upper, 0 on or between
+/// them. With no such row the answer is "none listed"."
+pub fn of(table: &Table, rows: &[u8], dial: f64) -> Option<f64> {
+    let counts = |r: &&[u8]| !table.has(HAS_CHANNELS) || r[32] != table.channel_band;
+    let far = |r: &[u8]| {
+        let (low, high) = (f64_at(r, 16), f64_at(r, 24));
+        if dial < low {
+            low - dial
+        } else if dial > high {
+            dial - high
+        } else {
+            0.0
+        }
+    };
+    rows.chunks(36).filter(counts).map(far).reduce(f64::min)
+}
+
+/// "A figure is in eighths if eight times it is whole."
+fn eighths(x: f64) -> bool {
+    (8.0 * x).fract() == 0.0
+}
+
+fn table_in_eighths(t: &Table) -> bool {
+    // watts are no hertz figure: table 6's third figure apart
+    let record = |number: usize, r: &Record| {
+        eighths(r.low) && eighths(r.high) && (number == 6 || eighths(r.figure))
+    };
+    [t.data_limit, t.elsewhere_limit, t.width, t.offset, t.tolerance].into_iter().all(eighths)
+        && t.tables.iter().enumerate().all(|(n, records)| records.iter().all(|r| record(n, r)))
+}
+
+/// What of a list demand 3 asks, the dial apart: "a tidy table in force, all hertz figures in
+/// eighths, prerequisites met, a positive guarded width".
+pub fn premises(t: &Table, tidy: bool, s: &Station, e: &Edges) -> bool {
+    let f = e.figures();
+    let (low, high) = read(t, e);
+    tidy && s.policy == 2
+        && s.itu_region == t.region
+        && [s.control, s.license, s.sideband].iter().all(|&code| code != 255)
+        && table_in_eighths(t)
+        && f.into_iter().chain([s.margin_hz]).all(eighths)
+        && high - low + 2.0 * s.margin_hz > 0.0
+}
+
+fn read(t: &Table, e: &Edges) -> (f64, f64) {
+    match t.reading {
+        0 => (e.power_low, e.power_high),
+        1 => (e.spectral_low, e.spectral_high),
+        _ => (e.power_low.min(e.spectral_low), e.power_high.max(e.spectral_high)),
+    }
+}
+
+/// "a dial that the gate doesn't refuse and whose guarded range the channel band doesn't hold": the
+/// second half, and that the dial is in eighths. A dial above 2^40 in size is refused.
+pub fn dial_premises(t: &Table, s: &Station, e: &Edges, dial: f64) -> bool {
+    let (low, high) = read(t, e);
+    let (lo, hi) =
+        if s.sideband == 0 { (dial + low, dial + high) } else { (dial - high, dial - low) };
+    let (glo, ghi) = (lo - s.margin_hz, hi + s.margin_hz);
+    let holds = |b: &Record| b.band == t.channel_band && b.low <= glo && ghi <= b.high;
+    eighths(dial)
+        && dial.abs() <= 1_099_511_627_776.0
+        && !(t.has(HAS_CHANNELS) && t.tables[BANDS].iter().any(holds))
+}
+
+/// A dial worth asking of a list: an end of a row or of a segment, or one beside it.
+pub fn some_dial(rng: &mut crate::draw::Rng, t: &Table, rows: &[u8]) -> f64 {
+    let x = if !rows.is_empty() && rng.chance(80) {
+        f64_at(&rows[36 * rng.below(rows.len() / 36)..], if rng.chance(50) { 16 } else { 24 })
+    } else {
+        let r = rng.pick(&t.tables[SEGMENTS]);
+        if rng.chance(50) { r.low } else { r.high }
+    };
+    match rng.below(6) {
+        0..=2 => x,
+        3 => x + 0.125,
+        4 => x - 0.125,
+        _ => x + rng.below(160) as f64 / 8.0 - 10.0,
+    }
+}
