@@ -14,7 +14,7 @@
  *
  * Refusals, in the order in which they are looked for:
  *   20  a station code, a presence byte, the plan mark, the kind or the direction outside its values
- *   21  a station figure that is not finite or above 2^40 in size (only where it is known)
+ *   21  a station figure, or a dial asked, that is not finite or above 2^40 in size (only where it is known)
  *   22  policy 2 and an image of no bytes
  *   1 to 14  the image (only with policy 2; pamuklid_check and pamuklid_tidy always):
  *       1 to 4 its form, 5 a coded byte outside its values or an unused one that is not zero,
@@ -128,6 +128,13 @@ typedef struct {
  *   34  u16  rule          the rule that the row goes by, as in pamuklid_decision */
 #define PAMUKLID_ROW 36
 
+/* The distance of a dial from a list. */
+typedef struct {
+    double distance_hz;   /* 0 on a row or between its dials; never negative; 0 where listed is 0 */
+    uint8_t listed;       /* 1 where a row outside the channel band is listed, else 0 ("none listed") */
+    uint8_t refusal;      /* 0; or 21, 23: then distance_hz and listed are 0 */
+} pamuklid_distance;
+
 /* Whether an image is accepted: 0, or its first refusal, 1 to 14. Reads image[0] to image[n - 1]. */
 uint8_t pamuklid_check(const uint8_t *image, size_t n);
 
@@ -171,6 +178,19 @@ pamuklid_ceiling pamuklid_ceiling_of(pamuklid_station s, uint8_t direction, pamu
  * are counted first). Reads the image with policy 2 only. Refusals 20 to 22, 1 to 14, 15, 23. */
 pamuklid_dials pamuklid_safe_dials(pamuklid_station s, uint8_t direction, pamuklid_edges e,
                                    const uint8_t *image, size_t n, uint8_t *rows, size_t rows_len);
+
+/* How far a dial stands from the nearest of the first count rows of a finished list: below the row's
+ * dial_low, above its dial_high, 0 on or between them. Rows of the channel band (60 m) do not count.
+ * flags and channel_band are image[42] and image[43] of the list's image; count is the list's. A dial of
+ * negative zero reads as zero. Where no row counts, listed is 0.
+ * For a tidy table whose figures, like edges, margin and dial, are whole eighths of a hertz, distance 0 with
+ * listed 1 says that pamuklid_evaluate allows data at that dial, and anything else that it does not (see
+ * README, demand 3, for all that this asks). Rows that no list call wrote: one whose dial_low is not at most
+ * its dial_high, or is no number, does not count.
+ * Reads rows[0] to rows[36 * count - 1] and changes no byte. Refusals: 21 the dial, 23 fewer than count
+ * whole rows in rows_len bytes. */
+pamuklid_distance pamuklid_distance_of(double dial_hz, uint8_t flags, uint8_t channel_band, uint32_t count,
+                                       const uint8_t *rows, size_t rows_len);
 
 #ifdef __cplusplus
 }

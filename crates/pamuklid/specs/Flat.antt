@@ -37,6 +37,9 @@ use Rattle.ceiling.specs.declared.CeilingAnswer.{CeilingAnswer}
 use Rattle.dials.specs.List.{listRows, listTests, answerOf, bytesOf}
 use Rattle.dials.specs.declared.DialList.{DialList}
 use Rattle.dials.specs.declared.DialList.the-variants.{Rows, Refused}
+use Rattle.distance.specs.declared.Distance.{Distance}
+use Rattle.distance.specs.declared.Distance.the-variants.{Hertz, NoneListed, Refused as NoAnswer}
+use Rattle.pamuklid.specs.declared.FlatDistance.{FlatDistance}
 use Rattle.pamuklid.specs.declared.FlatStation.{FlatStation}
 use Rattle.pamuklid.specs.declared.FlatEdges.{FlatEdges}
 use Rattle.pamuklid.specs.declared.FlatRange.{FlatRange}
@@ -242,3 +245,9 @@ dialsFlat (Refused n) = record { count = 0; refusal = n }
 pub record FlatDialed (r : StationRecord) (direction : ℕ) (e : Edges) (l lent left : List ℕ) (answer : FlatDials) : Type 0 where
   pub answered : answer ≡ dialsFlat (answerOf (refusalOf (listTests r direction e l lent)) (listRows r direction e l))
   pub bytes : left ≡ bytesOf (refusalOf (listTests r direction e l lent)) (listRows r direction e l) lent
+
+-- a distance: listed is 1 where there is one
+abbrev pub distanceFlat : Distance → FlatDistance
+distanceFlat (Hertz x) = record { «distance_hz» = x; listed = 1; refusal = 0 }
+distanceFlat NoneListed = record { «distance_hz» = zeroHz; listed = 0; refusal = 0 }
+distanceFlat (NoAnswer n) = record { «distance_hz» = zeroHz; listed = 0; refusal = n }

@@ -1,5 +1,5 @@
 // The boundary to C: the public calls, exported, with flat structs of numbers. It uses codes, profile, occupancy, station,
-// image, tidy, decision, numbers, verdict, ceiling and dials.
+// image, tidy, decision, numbers, verdict, ceiling, dials and distance.
 use ceiling::CeilingAnswer;
 use ceiling::Rung;
 use codes::Checked;
@@ -10,6 +10,7 @@ use decision::JudgedSegment;
 use decision::MaybeRange;
 use decision::Overshoot;
 use dials::DialList;
+use distance::Distance;
 use occupancy::Edges;
 use profile::Range;
 use profile::RuleName;
@@ -23,10 +24,11 @@ ghost use Rattle.tidy.specs.Tidy.{tidyOf};
 ghost use Rattle.station.specs.Station.{freshOf};
 ghost use Rattle.verdict.specs.Verdict.{evaluateOf, unmeasuredOf};
 ghost use Rattle.ceiling.specs.Ceiling.{ceilingOf};
+ghost use Rattle.distance.specs.Distance.{distanceOf};
 ghost use Rattle.numbers.specs.Refusal.{refusalNumber};
 ghost use Rattle.pamuklid.specs.Laws.{Numbered};
 ghost use Rattle.pamuklid.specs.Fits.{RungFits, Counted};
-ghost use Rattle.pamuklid.specs.Flat.{recordOf, stationOf, edgesOf, rangeFlat, segmentFlat, overshootFlat, guidanceFlat, ruleFlat, bandFlat, widthFlat, tidyNumber, flatOf, zeroAnswer, limitFlat, rungFlat, ceilingFlat, dialsFlat, FlatDialed};
+ghost use Rattle.pamuklid.specs.Flat.{recordOf, stationOf, edgesOf, rangeFlat, segmentFlat, overshootFlat, guidanceFlat, ruleFlat, bandFlat, widthFlat, tidyNumber, flatOf, zeroAnswer, limitFlat, rungFlat, ceilingFlat, dialsFlat, FlatDialed, distanceFlat};
 
 // The station record: codes and presence bytes as document 01 numbers them, figures whatever they are.
 #[repr(C)]
@@ -102,6 +104,14 @@ pub struct FlatCeiling {
 #[repr(C)]
 pub struct FlatDials {
     pub count: u32,
+    pub refusal: u8,
+}
+
+// The distance of a dial; listed is 0 where no row counts and on a refusal.
+#[repr(C)]
+pub struct FlatDistance {
+    pub distance_hz: f64,
+    pub listed: u8,
     pub refusal: u8,
 }
 
@@ -472,6 +482,29 @@ fn dials_flat(a: DialList) -> FlatDials
     }
 }
 
+// A distance, flat.
+fn distance_flat(d: Distance) -> FlatDistance
+    ensures { λ r. ⌜ r ≡ distanceFlat d ⌝ }
+{
+    match d {
+        Distance::Hertz(x) => FlatDistance {
+            distance_hz: x,
+            listed: 1,
+            refusal: 0,
+        },
+        Distance::NoneListed => FlatDistance {
+            distance_hz: 0.0,
+            listed: 0,
+            refusal: 0,
+        },
+        Distance::Refused(n) => FlatDistance {
+            distance_hz: 0.0,
+            listed: 0,
+            refusal: n,
+        },
+    }
+}
+
 // Whether an image is accepted: 0, or the number of its first refusal, 1 to 14.
 #[no_mangle]
 pub extern "C" fn pamuklid_check(image: &[u8]) -> u8
@@ -564,4 +597,19 @@ pub extern "C" fn pamuklid_safe_dials(
     let edges = edges_in(e);
     let answer = dials::safe_dials(record, direction, edges, image, rows);
     dials_flat(answer)
+}
+
+// How far a dial stands from the nearest of the first count rows of a list, those of the channel band left out. flags and channel_band
+// are bytes 42 and 43 of the list's image.
+#[no_mangle]
+pub extern "C" fn pamuklid_distance_of(
+    dial_hz: f64,
+    flags: u8,
+    channel_band: u8,
+    count: u32,
+    rows: &[u8],
+) -> FlatDistance
+    ensures { λ r. ⌜ r ≡ distanceFlat (distanceOf «dial_hz» flags «channel_band» count (now (rows .entry))) ⌝ }
+{
+    distance_flat(distance::distance_of(dial_hz, flags, channel_band, count as usize, rows))
 }
