@@ -10,8 +10,9 @@ _Static_assert(sizeof(pamuklid_edges) == 32, "edges");
 _Static_assert(sizeof(pamuklid_decision) == 360, "decision");
 _Static_assert(sizeof(pamuklid_ceiling) == 368, "ceiling");
 _Static_assert(sizeof(pamuklid_dials) == 8, "dials");
+_Static_assert(sizeof(pamuklid_distance) == 16, "distance");
 
-enum { RULES = 2, LOCAL = 0, AUTOMATIC = 2, GENERAL = 2, UPPER = 0 };
+enum { RULES = 2, LOCAL = 0, AUTOMATIC = 2, GENERAL = 2, UPPER = 0, ABSENT = 255 };
 enum { ORIGINATE = 0, RESPOND = 1 };
 enum { DATA = 0, TEST = 2 };
 #define POWER_UNKNOWN (-1.0)
@@ -166,6 +167,32 @@ static void list(size_t row_count)
     }
 }
 
+/* The list is made once, and every dial is asked of it. */
+static void distances(const char *title, uint8_t sideband, const double *dials, size_t dial_count)
+{
+    static uint8_t rows[16 * PAMUKLID_ROW];
+    pamuklid_station s = station_at(14100000, AUTOMATIC, POWER_UNKNOWN);
+    s.sideband = sideband;
+    pamuklid_dials list = pamuklid_safe_dials(s, ORIGINATE, both(1250, 1750), image, image_len, rows,
+                                              sizeof rows);
+    if (list.refusal != 0) {
+        printf("%s: refusal %u\n", title, list.refusal);
+        return;
+    }
+    for (size_t i = 0; i < dial_count; i++) {
+        /* A list under rules was made, so the image has these two bytes. */
+        pamuklid_distance d = pamuklid_distance_of(dials[i], image[42], image[43], list.count, rows,
+                                                   sizeof rows);
+        printf("%s, distance of dial %.13g: ", title, dials[i]);
+        if (d.refusal != 0)
+            printf("refusal %u\n", d.refusal);
+        else if (d.listed)
+            printf("%.12g Hz\n", d.distance_hz);
+        else
+            printf("none listed\n");
+    }
+}
+
 int main(int argc, char **argv)
 {
     FILE *file = argc == 2 ? fopen(argv[1], "rb") : NULL;
@@ -181,6 +208,9 @@ int main(int argc, char **argv)
     ceilings();
     list(16);
     list(1);
+    static const double dials[] = {14097700, 14098000, 14093799, 2e12};
+    distances("automatic, originating", UPPER, dials, 4);
+    distances("sideband absent", ABSENT, dials, 1);
     pamuklid_decision d = pamuklid_unmeasured(station_at(14100000, LOCAL, POWER_UNKNOWN), image,
                                               image_len);
     printf("spectrum not known: ");

@@ -5,8 +5,8 @@ use std::fs;
 use std::process::ExitCode;
 
 use pamuklid::{
-    Control, Decision, Direction, Edge, Edges, Kind, License, Overshoot, Policy, Refusal, Sideband,
-    Station, Verdict, ROW,
+    Control, Decision, Direction, Distance, Edge, Edges, Kind, License, Overshoot, Policy, Refusal,
+    Sideband, Station, Verdict, ROW,
 };
 
 fn station(dial_hz: f64, control: Control, power_w: Option<f64>) -> Station {
@@ -132,9 +132,9 @@ fn list(image: &[u8], row_count: usize) {
     print!("automatic, originating, list with room for {row_count}: ");
     match pamuklid::safe_dials(&s, Direction::Originate, &edges, image, &mut bytes) {
         Err(r) => println!("{}", refusal(r)),
-        Ok(rows) => {
-            println!("{} rows", rows.len());
-            for row in rows {
+        Ok(list) => {
+            println!("{} rows", list.rows().len());
+            for row in list.rows() {
                 println!(
                     "  dials {} to {}, segment {} to {}, band {}",
                     row.dial.low_hz,
@@ -145,6 +145,25 @@ fn list(image: &[u8], row_count: usize) {
                 );
             }
         }
+    }
+}
+
+/// The list is made once, and every dial is asked of it.
+fn distances(image: &[u8], title: &str, sideband: Option<Sideband>, dials: &[f64]) {
+    let mut bytes = [0; 16 * ROW];
+    let s = Station { sideband, ..station(14_100_000.0, Control::Automatic, None) };
+    let edges = Edges::both(1_250.0, 1_750.0);
+    let list = match pamuklid::safe_dials(&s, Direction::Originate, &edges, image, &mut bytes) {
+        Err(r) => return println!("{title}: {}", refusal(r)),
+        Ok(list) => list,
+    };
+    for &dial in dials {
+        let text = match list.distance(dial) {
+            Err(r) => refusal(r),
+            Ok(Distance::Hz(hertz)) => format!("{hertz} Hz"),
+            Ok(Distance::NoneListed) => "none listed".to_owned(),
+        };
+        println!("{title}, distance of dial {dial}: {text}");
     }
 }
 
@@ -163,6 +182,9 @@ fn main() -> ExitCode {
     ceiling(&image, &[]);
     list(&image, 16);
     list(&image, 1);
+    let dials = [14_097_700.0, 14_098_000.0, 14_093_799.0, 2e12];
+    distances(&image, "automatic, originating", Some(Sideband::Upper), &dials);
+    distances(&image, "sideband absent", None, &dials[..1]);
     let s = station(14_100_000.0, Control::Local, None);
     println!("spectrum not known: {}", answer(pamuklid::unmeasured(&s, &image)));
     let edges = Edges::both(1_250.0, 1_750.0);

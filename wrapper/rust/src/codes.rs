@@ -267,11 +267,13 @@ numbered! {
         /// A code of the station, the direction or the kind is outside its values; this crate's enums
         /// have no such code.
         StationCode = 20,
-        /// A figure of the station is not finite or above 2^40 in size.
+        /// A figure of the station, or a dial whose distance is asked, is not finite or above 2^40 in
+        /// size.
         StationFigure = 21,
         /// [`Policy::Rules`] and an image of no bytes.
         NoImage = 22,
-        /// The dial list is longer than the whole rows lent.
+        /// The dial list is longer than the whole rows lent: those to write, or those to ask a
+        /// distance of.
         Rows = 23,
     }
 }
@@ -296,7 +298,7 @@ impl fmt::Display for Refusal {
             Self::SignalEdge => "an edge is not finite or too large",
             Self::Rungs => "more than 256 rungs, or floor marks that are not one each",
             Self::StationCode => "a station code is outside its values",
-            Self::StationFigure => "a station figure is not finite or too large",
+            Self::StationFigure => "a station figure or a dial asked is not finite or too large",
             Self::NoImage => "rules are in force and there is no image",
             Self::Rows => "the dial list is longer than the rows lent",
         };

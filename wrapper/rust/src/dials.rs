@@ -1,7 +1,7 @@
-//! The rows of a dial list, as their bytes have them.
+//! A dial list: its rows, as their bytes have them, and the distance of a dial from it.
 
 use crate::answer::Range;
-use crate::codes::Rule;
+use crate::codes::{Refusal, Rule};
 
 /// The bytes of a dial row.
 pub const ROW: usize = 36;
@@ -72,3 +72,72 @@ impl Iterator for DialRows<'_> {
 }
 
 impl ExactSizeIterator for DialRows<'_> {}
+
+/// A finished dial list: its rows, and the two bytes of its image that the distance of a dial asks
+/// for.
+#[derive(Clone, Copy, Debug)]
+pub struct DialList<'a> {
+    bytes: &'a [u8],
+    flags: u8,
+    channel_band: u8,
+}
+
+impl<'a> DialList<'a> {
+    /// The list of these rows, made by this image. A list by an image that has no such bytes has no
+    /// rows, so that none is asked whether it counts.
+    pub(crate) fn new(bytes: &'a [u8], image: &[u8]) -> Self {
+        let byte = |at: usize| image.get(at).copied().unwrap_or(0);
+        Self { bytes, flags: byte(42), channel_band: byte(43) }
+    }
+
+    /// The rows, by their lower dial.
+    pub fn rows(&self) -> DialRows<'a> {
+        DialRows::new(self.bytes)
+    }
+
+    /// How far a dial stands from the nearest row of the whole list, rows of the channel band (60 m)
+    /// left out: see [`Distance`]. Refusal 21 ([`Refusal::StationFigure`]: the dial is not finite or
+    /// above 2^40 in size). The list has the rows that it counts, so 23 is not met.
+    pub fn distance(&self, dial_hz: f64) -> Result<Distance, Refusal> {
+        let count = (self.bytes.len() / ROW) as u32; // the library's own count
+        crate::distance(dial_hz, self.flags, self.channel_band, count, self.bytes)
+    }
+}
+
+/// How far a dial stands from the nearest row of a dial list, rows of the channel band (60 m) left
+/// out.
+///
+/// `Hz(0.0)` says that [`evaluate`](crate::evaluate) allows data at that dial, by the same image,
+/// edges, direction and station, and every other answer that it blocks it. This holds for a
+/// [`tidy`](crate::tidy) table under [`Policy::Rules`](crate::Policy::Rules), a station in the table's
+/// region with control, license and sideband known, all hertz in whole eighths, a width plus twice
+/// the margin above 0, and a signal that, with its margin, does not lie in the channel band. It is no
+/// verdict: judge every transmission all the same.
+#[derive(Clone, Copy, Debug, PartialEq)]
+pub enum Distance {
+    /// So far below a row's lower dial or above its upper, in hertz, the least of all rows; 0 on a
+    /// row's dials and between them. Never negative.
+    Hz(f64),
+    /// No row counts: the list is empty, or all its rows are of the channel band.
+    NoneListed,
+}
+
+impl Distance {
+    /// The value of its two numbers in an answer; `None` where the first stands for nothing. The
+    /// hertz are read only where the first number has a use for them.
+    pub const fn from_numbers(listed: u8, distance_hz: f64) -> Option<Self> {
+        match listed {
+            0 => Some(Self::NoneListed),
+            1 => Some(Self::Hz(distance_hz)),
+            _ => None,
+        }
+    }
+
+    /// The first of its numbers.
+    pub const fn number(self) -> u8 {
+        match self {
+            Self::NoneListed => 0,
+            Self::Hz(_) => 1,
+        }
+    }
+}

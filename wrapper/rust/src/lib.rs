@@ -12,6 +12,7 @@
 //! | [`unmeasured`] | the answer for a signal whose spectrum is not known |
 //! | [`ceiling`] | the fastest rung that may be sent |
 //! | [`safe_dials`] | the dials at which a signal stays inside the rules |
+//! | [`DialList::distance`], [`distance`] | how far a dial stands from those of a list |
 //!
 //! No call keeps what it is lent or has a state of its own: equal arguments give equal answers, and
 //! calls may run at once on several threads. Images, edges and rungs are only read. Frequencies are
@@ -66,7 +67,7 @@ pub use codes::{
     Code, Control, Direction, Edge, Guidance, Kind, License, Overshoot, Policy, Refusal, Rule,
     Sideband, Verdict,
 };
-pub use dials::{DialRow, DialRows, ROW};
+pub use dials::{DialList, DialRow, DialRows, Distance, ROW};
 pub use station::{Edges, Station};
 
 /// Whether an image is accepted; else the first of the refusals 1 to 14 that it meets.
@@ -140,15 +141,45 @@ pub fn ceiling(
 /// Without [`Policy::Rules`], or with control, license or sideband absent, the list is empty.
 /// Refusals 20 to 22, 1 to 14, 15, 23 ([`Refusal::Rows`]: the list is longer than the whole rows lent;
 /// lend more).
+///
+/// The list answers for its rows and for the distance of a dial from them ([`DialList::distance`]).
 pub fn safe_dials<'a>(
     station: &Station,
     direction: Direction,
     edges: &Edges,
     image: &[u8],
     rows: &'a mut [u8],
-) -> Result<DialRows<'a>, Refusal> {
+) -> Result<DialList<'a>, Refusal> {
     let flat = raw::safe_dials(station.flat(), direction.number(), *edges, image, rows);
     codes::refused(flat.refusal)?;
     let bytes: &'a [u8] = rows;
-    Ok(DialRows::new(&bytes[..ROW * flat.count as usize]))
+    Ok(DialList::new(&bytes[..ROW * flat.count as usize], image))
+}
+
+/// How far a dial stands from the nearest of the first `count` rows of a list, by its parts. Where the
+/// [`DialList`] is still at hand, [`DialList::distance`] has them right; this is for rows that were
+/// kept as bytes.
+///
+/// `flags` and `channel_band` are `image[42]` and `image[43]` of the image that the list was made by:
+/// under flag bit 2, rows of the band `channel_band` do not count. Rows are only read; past `count`
+/// they are not looked at. Refusals 21 ([`Refusal::StationFigure`]: the dial is not finite or above
+/// 2^40 in size), then 23 ([`Refusal::Rows`]: fewer than `count` whole rows are lent).
+///
+/// ```
+/// use pamuklid::{distance, Distance, Refusal};
+///
+/// assert_eq!(distance(14_100_000.0, 0, 0, 0, &[]), Ok(Distance::NoneListed));
+/// assert_eq!(distance(14_100_000.0, 0, 0, 1, &[]), Err(Refusal::Rows));
+/// ```
+pub fn distance(
+    dial_hz: f64,
+    flags: u8,
+    channel_band: u8,
+    count: u32,
+    rows: &[u8],
+) -> Result<Distance, Refusal> {
+    let flat = raw::distance(dial_hz, flags, channel_band, count, rows);
+    codes::refused(flat.refusal)?;
+    let value = Distance::from_numbers(flat.listed, flat.distance_hz);
+    Ok(codes::known("listed mark", flat.listed, value))
 }

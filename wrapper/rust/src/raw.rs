@@ -72,12 +72,21 @@ pub struct Dials {
     pub refusal: u8,
 }
 
+#[repr(C)]
+#[derive(Clone, Copy)]
+pub struct Distance {
+    pub distance_hz: f64,
+    pub listed: u8,
+    pub refusal: u8,
+}
+
 const _: () = {
     assert!(std::mem::size_of::<Station>() == 32);
     assert!(std::mem::size_of::<Edges>() == 32);
     assert!(std::mem::size_of::<Decision>() == 360);
     assert!(std::mem::size_of::<Ceiling>() == 368);
     assert!(std::mem::size_of::<Dials>() == 8);
+    assert!(std::mem::size_of::<Distance>() == 16);
 };
 
 extern "C" {
@@ -114,6 +123,14 @@ extern "C" {
         rows: *mut u8,
         rows_len: usize,
     ) -> Dials;
+    fn pamuklid_distance_of(
+        dial_hz: f64,
+        flags: u8,
+        channel_band: u8,
+        count: u32,
+        rows: *const u8,
+        rows_len: usize,
+    ) -> Distance;
 }
 
 pub fn check(image: &[u8]) -> u8 {
@@ -166,4 +183,9 @@ pub fn ceiling(
 pub fn safe_dials(s: Station, direction: u8, e: Edges, image: &[u8], rows: &mut [u8]) -> Dials {
     let (at, len) = (rows.as_mut_ptr(), rows.len());
     unsafe { pamuklid_safe_dials(s, direction, e, image.as_ptr(), image.len(), at, len) }
+}
+
+pub fn distance(dial_hz: f64, flags: u8, channel_band: u8, count: u32, rows: &[u8]) -> Distance {
+    let (at, len) = (rows.as_ptr(), rows.len());
+    unsafe { pamuklid_distance_of(dial_hz, flags, channel_band, count, at, len) }
 }

@@ -2,9 +2,9 @@
 //! library's.
 
 use pamuklid::{
-    ceiling, check, evaluate, safe_dials, tidy, unmeasured, Code, Control, DialRow, DialRows,
-    Direction, Edge, Edges, Guidance, Kind, License, Overshoot, Policy, Range, Refusal, Rule,
-    Segment, Sideband, SixtyNotes, Station, Verdict, ROW,
+    ceiling, check, distance, evaluate, safe_dials, tidy, unmeasured, Code, Control, DialRow,
+    DialRows, Direction, Distance, Edge, Edges, Guidance, Kind, License, Overshoot, Policy, Range,
+    Refusal, Rule, Segment, Sideband, SixtyNotes, Station, Verdict, ROW,
 };
 
 static IMAGE: &[u8] = include_bytes!("../../../tools/reference/practice.bin");
@@ -167,7 +167,7 @@ fn floor_frames() {
 fn dial_list() {
     let s = automatic(14_100_000.0);
     let mut bytes = [7; 3 * ROW + 5];
-    let rows = safe_dials(&s, Direction::Originate, &EDGES, IMAGE, &mut bytes).unwrap();
+    let rows = safe_dials(&s, Direction::Originate, &EDGES, IMAGE, &mut bytes).unwrap().rows();
     assert_eq!(rows.len(), 2);
     assert_eq!(rows.bytes().len(), 2 * ROW);
     let rows: Vec<DialRow> = rows.collect();
@@ -190,7 +190,87 @@ fn dial_list() {
 #[test]
 fn empty_lists() {
     let s = Station { sideband: None, ..station(14_100_000.0) };
-    assert_eq!(safe_dials(&s, Direction::Operator, &EDGES, IMAGE, &mut []).unwrap().len(), 0);
+    let list = safe_dials(&s, Direction::Operator, &EDGES, IMAGE, &mut []).unwrap();
+    assert_eq!(list.rows().len(), 0);
+    assert_eq!(list.distance(14_100_000.0), Ok(Distance::NoneListed));
+    assert_eq!(list.distance(f64::NAN), Err(Refusal::StationFigure));
+    // without rules no image is looked at, and it may have no bytes 42 and 43
+    let s = Station { policy: Policy::NoRules, ..station(14_100_000.0) };
+    let list = safe_dials(&s, Direction::Operator, &EDGES, &[], &mut []).unwrap();
+    assert_eq!(list.distance(14_100_000.0), Ok(Distance::NoneListed));
+}
+
+/// From the automatic originating list: 14,093,800 to 14,097,700 and 14,099,300 to 14,110,200.
+#[test]
+fn distances() {
+    let s = automatic(14_100_000.0);
+    let mut bytes = [7; 3 * ROW];
+    let list = safe_dials(&s, Direction::Originate, &EDGES, IMAGE, &mut bytes).unwrap();
+    let from = |dial_hz| list.distance(dial_hz);
+    for dial_hz in [14_093_800.0, 14_095_000.0, 14_097_700.0, 14_099_300.0, 14_110_200.0] {
+        assert_eq!(from(dial_hz), Ok(Distance::Hz(0.0)), "{dial_hz}");
+    }
+    assert_eq!(from(14_093_799.0), Ok(Distance::Hz(1.0)));
+    assert_eq!(from(14_093_799.875), Ok(Distance::Hz(0.125)));
+    assert_eq!(from(14_098_000.0), Ok(Distance::Hz(300.0)));
+    assert_eq!(from(14_098_500.0), Ok(Distance::Hz(800.0)));
+    assert_eq!(from(14_099_000.0), Ok(Distance::Hz(300.0)));
+    assert_eq!(from(14_110_200.125), Ok(Distance::Hz(0.125)));
+    assert_eq!(from(0.0), Ok(Distance::Hz(14_093_800.0)));
+    assert_eq!(from(-14_093_800.0), Ok(Distance::Hz(28_187_600.0)));
+
+    let most = 1_099_511_627_776.0; // 2^40
+    assert_eq!(from(most), Ok(Distance::Hz(1_099_497_517_576.0)));
+    for dial_hz in [most + 0.125, -most - 0.125, f64::INFINITY, f64::NEG_INFINITY, f64::NAN] {
+        assert_eq!(from(dial_hz), Err(Refusal::StationFigure), "{dial_hz}");
+    }
+}
+
+/// By the parts: the count says how many rows are asked.
+#[test]
+fn distance_of_parts() {
+    let s = automatic(14_100_000.0);
+    let mut bytes = [0; 2 * ROW];
+    let list = safe_dials(&s, Direction::Originate, &EDGES, IMAGE, &mut bytes).unwrap();
+    assert_eq!(list.rows().len(), 2);
+    let rows: &[u8] = &bytes;
+    let at = |dial_hz, count, rows| distance(dial_hz, IMAGE[42], IMAGE[43], count, rows);
+    assert_eq!(at(14_099_300.0, 2, rows), Ok(Distance::Hz(0.0)));
+    assert_eq!(at(14_099_300.0, 1, rows), Ok(Distance::Hz(1_600.0)));
+    assert_eq!(at(14_099_300.0, 0, rows), Ok(Distance::NoneListed));
+    assert_eq!(at(14_099_300.0, 0, &[]), Ok(Distance::NoneListed));
+    assert_eq!(at(14_099_300.0, 3, rows), Err(Refusal::Rows));
+    assert_eq!(at(14_099_300.0, 2, &rows[..2 * ROW - 1]), Err(Refusal::Rows));
+    assert_eq!(at(14_099_300.0, u32::MAX, rows), Err(Refusal::Rows));
+    assert_eq!(at(f64::NAN, 3, rows), Err(Refusal::StationFigure));
+    assert_eq!(at(14_099_300.0, 1, &rows[..2 * ROW - 1]), Ok(Distance::Hz(1_600.0)));
+}
+
+/// Rows of the channel band do not count, unless the image has no channels (flag bit 2 clear).
+#[test]
+fn distance_off_the_channel_band() {
+    let s = station(5_330_500.0);
+    let mut bytes = [0; 3 * ROW];
+    let list = safe_dials(&s, Direction::Originate, &EDGES, IMAGE, &mut bytes).unwrap();
+    // the channel's centre less the offset, the segments of 60 m and of 20 m
+    let want = [
+        (60, range(5_330_500.0, 5_330_500.0)),
+        (60, range(5_350_300.0, 5_364_700.0)),
+        (20, range(14_023_800.0, 14_148_200.0)),
+    ];
+    assert_eq!(list.rows().map(|row| (row.band, row.dial)).collect::<Vec<_>>(), want);
+    assert_eq!(list.distance(14_023_800.0), Ok(Distance::Hz(0.0)));
+    assert_eq!(list.distance(5_330_500.0), Ok(Distance::Hz(8_693_300.0)));
+    assert_eq!(list.distance(5_350_300.0), Ok(Distance::Hz(8_673_500.0)));
+
+    let rows: &[u8] = &bytes;
+    let at = |flags, channel_band, count| distance(5_330_550.0, flags, channel_band, count, rows);
+    assert_eq!(at(4, 60, 3), Ok(Distance::Hz(8_693_250.0)));
+    assert_eq!(at(4, 20, 3), Ok(Distance::Hz(50.0)));
+    assert_eq!(at(255 - 4, 60, 3), Ok(Distance::Hz(50.0)));
+    // both rows of 60 m alone
+    assert_eq!(at(4, 60, 2), Ok(Distance::NoneListed));
+    assert_eq!(at(0, 60, 2), Ok(Distance::Hz(50.0)));
 }
 
 /// A row by its bytes, written by hand.

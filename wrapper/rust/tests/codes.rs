@@ -1,8 +1,8 @@
 //! Every number that an enum knows goes to a value and back; every other stands for none.
 
 use pamuklid::{
-    Code, Control, Direction, Edge, Guidance, Kind, License, Overshoot, Policy, Refusal, Rule,
-    Sideband, Verdict,
+    Code, Control, Direction, Distance, Edge, Guidance, Kind, License, Overshoot, Policy, Refusal,
+    Rule, Sideband, Verdict,
 };
 
 /// All 256 bytes: those of `numbers` are values, each its own, and no other byte is.
@@ -87,7 +87,7 @@ fn rules() {
     assert_eq!(Rule::from_number(7).to_string(), "rule 7 of the table");
 }
 
-/// An overshoot and a guidance by all bytes of their numbers.
+/// An overshoot, a guidance and a distance by all bytes of their numbers.
 #[test]
 fn numbers_with_parts() {
     for byte in 0..=255 {
@@ -111,6 +111,18 @@ fn numbers_with_parts() {
                 1 => Some(Guidance::Avoid(index)),
                 2 => Some(Guidance::Inside(index)),
                 3 => Some(Guidance::Outside),
+                _ => None,
+            };
+            assert_eq!(value, want);
+            if let Some(value) = value {
+                assert_eq!(value.number(), byte);
+            }
+        }
+        for hertz in [0.0, 0.125, 300.0] {
+            let value = Distance::from_numbers(byte, hertz);
+            let want = match byte {
+                0 => Some(Distance::NoneListed),
+                1 => Some(Distance::Hz(hertz)),
                 _ => None,
             };
             assert_eq!(value, want);
