@@ -107,6 +107,35 @@ pub fn u64_at(s: &[u8], at: usize) -> u64
     u32_at(s, at) as u64 + u32_at(s, at + 4) as u64 * 4294967296
 }
 
+// Single fields of the record that begins at a place.
+pub fn low_at(s: &[u8], at: usize) -> u64
+    requires { ⌜ at + 32 ≤ length (now s) ⌝ }
+    ensures { λ r. ⌜ r ≡ recordAt (now (s .entry)) at .low ⌝ }
+{
+    u64_at(s, at)
+}
+
+pub fn high_at(s: &[u8], at: usize) -> u64
+    requires { ⌜ at + 32 ≤ length (now s) ⌝ }
+    ensures { λ r. ⌜ r ≡ recordAt (now (s .entry)) at .high ⌝ }
+{
+    u64_at(s, at + 8)
+}
+
+pub fn band_at(s: &[u8], at: usize) -> u8
+    requires { ⌜ at + 32 ≤ length (now s) ⌝ }
+    ensures { λ r. ⌜ r ≡ recordAt (now (s .entry)) at .band ⌝ }
+{
+    byte_at(s, at + 24)
+}
+
+pub fn class_at(s: &[u8], at: usize) -> u8
+    requires { ⌜ at + 32 ≤ length (now s) ⌝ }
+    ensures { λ r. ⌜ r ≡ recordAt (now (s .entry)) at .class ⌝ }
+{
+    byte_at(s, at + 25)
+}
+
 pub fn record_at(s: &[u8], at: usize) -> Record
     requires { ⌜ at + 32 ≤ length (now s) ⌝ }
     ensures { λ r. ⌜ r ≡ recordAt (now (s .entry)) at ⌝ }
