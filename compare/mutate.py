@@ -8,9 +8,10 @@ builds the driver against that copy and sees whether a run notices a difference.
 
 Without --stub the library is linked (PAMUKLID_LIB_DIR); with --stub its place is taken by a second,
 unchanged copy of the Rust, which measures how sharp the cases are without the library. --rust plants
-the mistakes of the Rust's three files alone. --check only sees that every old text occurs once. --report writes the list with the result as a page for docs/.
-Nothing else is written outside DIR (by default a temporary folder
-of its own, removed at the end). Exit 0: every mistake was noticed except those that change nothing.
+the mistakes of the Rust's three files alone. --check only sees that every old text occurs once.
+--report writes the list with the result as a page for docs/. Nothing else is written outside DIR (by
+default a temporary folder of its own, removed at the end). Exit 0: every mistake was noticed except
+those that change nothing.
 """
 
 import argparse

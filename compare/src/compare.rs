@@ -179,22 +179,23 @@ pub fn dials(
     Ok(Found { refusal, rows, lent })
 }
 
-/// The distance of a dial, asked of a finished list of an accepted image: document 01's, and the
-/// library's where it has the call.
-pub fn distance(_image: &[u8], p: &Prepared, rows: &[u8], dial: f64) -> Told<Option<f64>> {
-    let table = p.table.as_ref().ok_or("an accepted image")?;
-    let want = distance::of(table, rows, dial);
+/// The distance of a dial: document 01's, and the library's where it has the call.
+pub fn distance(a: &distance::Asked, rows: &[u8]) -> Told<Result<Option<f64>, u8>> {
+    let want = a.answer(rows);
     #[cfg(distance)]
     {
-        let (lent, listed) = (_image.to_vec(), rows.to_vec());
-        let got = ffi::distance(dial, &lent, &listed);
-        equal("distance's refusal", got.refusal.into(), 0)?;
-        equal("distance known", got.known.into(), want.is_some().into())?;
-        if got.hz.to_bits() != want.unwrap_or(0.0).to_bits() {
-            return Err(format!("distance of {dial:?}: library {:?}, expected {want:?}", got.hz));
+        let lent = rows.to_vec();
+        let got = ffi::distance(a.dial, a.flags, a.channel_band, a.count, &lent);
+        let (refusal, far) = match want {
+            Ok(far) => (0, far),
+            Err(refusal) => (refusal, None),
+        };
+        equal("distance's refusal", got.refusal.into(), refusal.into())?;
+        equal("listed", got.listed.into(), far.is_some().into())?;
+        if got.distance_hz.to_bits() != far.unwrap_or(0.0).to_bits() {
+            return Err(format!("distance_hz: library {:?}, expected {far:?}", got.distance_hz));
         }
-        unchanged(_image, &lent, "image")?;
-        unchanged(rows, &listed, "rows")?;
+        unchanged(rows, &lent, "rows")?;
     }
     Ok(want)
 }

@@ -7,7 +7,7 @@ use crate::image::*;
 use crate::tables::{World, whole};
 
 /// A figure that meets 6, 15 or 21, or just doesn't.
-fn odd_figure(rng: &mut Rng) -> f64 {
+pub fn odd_figure(rng: &mut Rng) -> f64 {
     let sign = rng.next() & 1 << 63;
     let x: f64 = match rng.below(8) {
         0 => f64::INFINITY,

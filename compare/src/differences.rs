@@ -3,6 +3,7 @@
 //! every other case; then the agreed answer must be the one written here, every part of it.
 
 use crate::Run;
+use crate::distance::Asked as Asking;
 use crate::ffi::{Decision, NOTHING};
 use crate::fixed::{Asked, asked, centre, practice, sixty, small, span, wrong};
 use crate::image::*;
@@ -93,10 +94,8 @@ fn list(a: &mut Asked, what: &str, want: &[Row]) -> Vec<u8> {
 
 /// The distance of a dial from that list: demand 3 holds or, where a premise is dropped, doesn't.
 fn distance(a: &mut Asked, what: &str, rows: &[u8], dial: f64, want: Option<f64>) {
-    let image = a.table.encode();
-    let p = a.run.image(&image);
-    let got = a.run.distance(&image, &p, rows, dial);
-    if got.map(f64::to_bits) != want.map(f64::to_bits) {
+    let got = a.run.distance(&Asking::of(&a.table, rows, dial), rows);
+    if got.map(|far| far.map(f64::to_bits)) != Ok(want.map(f64::to_bits)) {
         wrong(what, &format!("{got:?}"));
     }
 }

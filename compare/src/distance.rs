@@ -2,25 +2,91 @@
 //! out here and, where the library has the call, compared; then demand 3's statement is asked of both
 //! sides' equal answers: nought exactly if data is allowed.
 
+use crate::damage;
+use crate::draw::Rng;
+use crate::expect;
 use crate::ffi::{Edges, Station};
 use crate::image::{BANDS, HAS_CHANNELS, Record, SEGMENTS, Table, f64_at};
 
-/// "the least, over rows whose band byte isn't the channel band's number (all rows if flag bit 2 is
-/// clear), of how far the dial stands below the row's lower dial or above its upper, 0 on or between
-/// them. With no such row the answer is "none listed"."
-pub fn of(table: &Table, rows: &[u8], dial: f64) -> Option<f64> {
-    let counts = |r: &&[u8]| !table.has(HAS_CHANNELS) || r[32] != table.channel_band;
-    let far = |r: &[u8]| {
-        let (low, high) = (f64_at(r, 16), f64_at(r, 24));
-        if dial < low {
-            low - dial
-        } else if dial > high {
-            dial - high
-        } else {
-            0.0
+/// What is asked: a dial, bytes 42 and 43 of the list's image, and how many rows it has.
+#[derive(Clone, Copy, Debug)]
+pub struct Asked {
+    pub dial: f64,
+    pub flags: u8,
+    pub channel_band: u8,
+    pub count: u32,
+}
+
+impl Asked {
+    /// Of a finished list.
+    pub fn of(table: &Table, rows: &[u8], dial: f64) -> Self {
+        let count = (rows.len() / 36) as u32;
+        Self { dial, flags: table.flags, channel_band: table.channel_band, count }
+    }
+
+    /// "the least, over rows whose band byte isn't the channel band's number (all rows if flag bit 2
+    /// is clear), of how far the dial stands below the row's lower dial or above its upper, 0 on or
+    /// between them. With no such row the answer is "none listed"." A dial out of size meets 21, more
+    /// rows than were lent 23; a row whose dials aren't in their order, which no list has, doesn't
+    /// count (docs/DECISIONS.md).
+    pub fn answer(&self, rows: &[u8]) -> Result<Option<f64>, u8> {
+        if expect::out_of_size(self.dial) {
+            return Err(21);
         }
-    };
-    rows.chunks(36).filter(counts).map(far).reduce(f64::min)
+        let count = self.count as usize;
+        if rows.len() / 36 < count {
+            return Err(23);
+        }
+        let dial = expect::read(self.dial);
+        let mut least: Option<f64> = None;
+        for r in rows.chunks(36).take(count) {
+            let (low, high) = (f64_at(r, 16), f64_at(r, 24));
+            let channel = self.flags & HAS_CHANNELS != 0 && r[32] == self.channel_band;
+            let in_order = low <= high;
+            if channel || !in_order {
+                continue;
+            }
+            let far = if dial < low {
+                low - dial
+            } else if dial > high {
+                dial - high
+            } else {
+                0.0
+            };
+            if least.is_none_or(|best| far < best) {
+                least = Some(far);
+            }
+        }
+        Ok(least)
+    }
+
+    /// One that no list leads to: odd dials, wrong counts, damaged rows.
+    pub fn odd(rng: &mut Rng, table: &Table, rows: &[u8]) -> (Self, Vec<u8>) {
+        let mut a = Self::of(table, rows, some_dial(rng, table, rows));
+        let mut rows = rows.to_vec();
+        for _ in 0..1 + rng.below(2) {
+            match rng.below(7) {
+                0 => a.dial = damage::odd_figure(rng),
+                1 => a.count += 1 + rng.below(3) as u32,
+                2 => a.count = a.count.saturating_sub(1),
+                3 => (a.flags, a.channel_band) = (rng.next() as u8, rng.next() as u8),
+                4 => rows.extend((0..rng.below(80)).map(|_| rng.next() as u8)),
+                5 if !rows.is_empty() => {
+                    let at = 36 * rng.below(rows.len() / 36) + rng.pick(&[16, 24]);
+                    let x = damage::odd_figure(rng);
+                    if let Some(place) = rows.get_mut(at..at + 8) {
+                        place.copy_from_slice(&x.to_bits().to_le_bytes());
+                    }
+                }
+                _ if !rows.is_empty() => {
+                    let at = rng.below(rows.len());
+                    rows[at] ^= 1 << rng.below(8);
+                }
+                _ => a.dial = -0.0,
+            }
+        }
+        (a, rows)
+    }
 }
 
 /// "A figure is in eighths if eight times it is whole."
@@ -67,12 +133,12 @@ pub fn dial_premises(t: &Table, s: &Station, e: &Edges, dial: f64) -> bool {
     let (glo, ghi) = (lo - s.margin_hz, hi + s.margin_hz);
     let holds = |b: &Record| b.band == t.channel_band && b.low <= glo && ghi <= b.high;
     eighths(dial)
-        && dial.abs() <= 1_099_511_627_776.0
+        && !expect::out_of_size(dial)
         && !(t.has(HAS_CHANNELS) && t.tables[BANDS].iter().any(holds))
 }
 
 /// A dial worth asking of a list: an end of a row or of a segment, or one beside it.
-pub fn some_dial(rng: &mut crate::draw::Rng, t: &Table, rows: &[u8]) -> f64 {
+pub fn some_dial(rng: &mut Rng, t: &Table, rows: &[u8]) -> f64 {
     let x = if !rows.is_empty() && rng.chance(80) {
         f64_at(&rows[36 * rng.below(rows.len() / 36)..], if rng.chance(50) { 16 } else { 24 })
     } else {

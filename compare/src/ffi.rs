@@ -81,13 +81,13 @@ pub struct Dials {
     pub refusal: u8,
 }
 
-/// The distance of a dial: `known` 0 is "none listed".
+/// The distance of a dial: `listed` 0 is "none listed", or a refusal.
 #[cfg(distance)]
 #[repr(C)]
 #[derive(Clone, Copy, Debug)]
 pub struct Distance {
-    pub hz: f64,
-    pub known: u8,
+    pub distance_hz: f64,
+    pub listed: u8,
     pub refusal: u8,
 }
 
@@ -134,9 +134,10 @@ unsafe extern "C" {
     ) -> Dials;
     #[cfg(distance)]
     fn pamuklid_distance_of(
-        dial: f64,
-        image: *const u8,
-        n: usize,
+        dial_hz: f64,
+        flags: u8,
+        channel_band: u8,
+        count: u32,
         rows: *const u8,
         rows_len: usize,
     ) -> Distance;
@@ -204,8 +205,8 @@ pub fn safe_dials(s: Station, direction: u8, e: Edges, image: &[u8], rows: &mut 
 }
 
 #[cfg(distance)]
-pub fn distance(dial: f64, image: &[u8], rows: &[u8]) -> Distance {
-    unsafe { pamuklid_distance_of(dial, image.as_ptr(), image.len(), rows.as_ptr(), rows.len()) }
+pub fn distance(dial: f64, flags: u8, channel_band: u8, count: u32, rows: &[u8]) -> Distance {
+    unsafe { pamuklid_distance_of(dial, flags, channel_band, count, rows.as_ptr(), rows.len()) }
 }
 
 /// How the limit of a ceiling that has none is left: all zero.

@@ -204,13 +204,22 @@ impl Run {
         found
     }
 
-    /// The distance of a dial, asked of a finished list.
-    pub fn distance(&mut self, image: &[u8], p: &Prepared, rows: &[u8], dial: f64) -> Option<f64> {
+    /// The distance of a dial.
+    pub fn distance(&mut self, a: &distance::Asked, rows: &[u8]) -> Result<Option<f64>, u8> {
         self.distances += 1;
-        match compare::distance(image, p, rows, dial) {
-            Ok(far) => far,
+        match compare::distance(a, rows) {
+            Ok(far) => {
+                match far {
+                    Ok(None) => self.reach.count("distance", 0, 0),
+                    Ok(Some(0.0)) => self.reach.count("distance", 1, 0),
+                    Ok(Some(_)) => self.reach.count("distance", 2, 0),
+                    Err(refusal) => self.reach.count("distance refused", u16::from(refusal), 0),
+                }
+                far
+            }
             Err(what) => {
                 println!("DIFFERENCE (seed {}, world {}): {what}", self.seed, self.place);
+                println!("  {a:?}, rows {rows:?}");
                 exit(1)
             }
         }
@@ -230,10 +239,12 @@ impl Run {
         let Some(table) = &p.table else {
             return;
         };
+        let (a, odd) = distance::Asked::odd(rng, table, rows);
+        let _ = self.distance(&a, &odd);
         let met = distance::premises(table, adapter::tidy(p) == 1, s, e);
         for _ in 0..if met { 4 } else { 1 } {
             let dial = distance::some_dial(rng, table, rows);
-            let far = self.distance(image, p, rows, dial);
+            let far = self.distance(&distance::Asked::of(table, rows, dial), rows).unwrap_or(None);
             if !met || !distance::dial_premises(table, s, e, dial) {
                 continue;
             }

@@ -52,7 +52,7 @@ const VERDICTS: [(u16, &[u16]); 25] = [
 /// Codes that the limit of a ceiling can have: the blocked ones for data, 4 apart.
 const LIMITS: [u16; 19] = [1, 2, 5, 6, 7, 8, 9, 10, 11, 12, 13, 14, 15, 18, 19, 20, 22, 23, 24];
 
-pub const OTHER: [Key; 43] = [
+pub const OTHER: [Key; 48] = [
     // 1 beyond, 2 too close; edge 0 lower, 1 upper. "Too close" never names the lower edge.
     ("overshoot, edge", 1, 0),
     ("overshoot, edge", 1, 1),
@@ -104,6 +104,12 @@ pub const OTHER: [Key; 43] = [
     ("dial list rows", 1, 0),
     ("dial list rows", 2, 0),
     ("dial list rows", 3, 0),
+    // distances: none listed, nought, some; and refused
+    ("distance", 0, 0),
+    ("distance", 1, 0),
+    ("distance", 2, 0),
+    ("distance refused", 21, 0),
+    ("distance refused", 23, 0),
     // tidy or not
     ("tidy", 0, 0),
     ("tidy", 1, 0),

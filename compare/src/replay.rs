@@ -18,6 +18,8 @@
 //!           u16 rung, u8 limit known, DECISION (all zero if it isn't known)
 //!         4 dial list: STATION, u8 direction, EDGES, u32 bytes lent for rows; u8 refusal, u32 count,
 //!           count rows of 36 bytes
+//!         5 distance: f64 dial, u8 flags, u8 channel band, u32 count, u32 bytes of rows, those; u8
+//!           refusal, u8 listed, f64 distance (zero if none is listed)
 //!     STATION   f64 margin, dial, power; u8 policy, control, license, sideband, itu_region,
 //!               band_plan, dial_known, power_known (32 bytes)
 //!     EDGES     f64 power low, power high, spectral low, spectral high (32 bytes)
@@ -34,6 +36,7 @@ use std::collections::{BTreeMap, BTreeSet};
 use crate::cases::{self, Ladder};
 use crate::compare::Room;
 use crate::damage;
+use crate::distance::{self, Asked};
 use crate::draw::{Rng, Scale};
 use crate::ffi::{Decision, Edges, NOTHING, Station};
 use crate::oracle::adapter::Prepared;
@@ -45,7 +48,7 @@ struct List {
     bytes: Vec<u8>,
     images: u32,
     /// How many cases of each call.
-    calls: [u32; 5],
+    calls: [u32; 6],
     /// The refusal and the code that each call is there with.
     seen: BTreeSet<(u8, u8, u8)>,
     /// How often each thing worth having is there.
@@ -242,6 +245,40 @@ impl<'a> Page<'a> {
             out.extend(&found.rows);
             self.add(list, (4, found.refusal, 0), &out);
         }
+        if found.refusal == 0 && s.policy == 2 {
+            self.distance(run, rng, list, &found.rows, most);
+        }
+    }
+
+    /// The distance of a dial from a list, or from rows that no list wrote.
+    fn distance(&mut self, run: &mut Run, rng: &mut Rng, list: &mut List, rows: &[u8], most: u32) {
+        let Some(table) = &self.p.table else {
+            return;
+        };
+        let (a, rows) = if rng.chance(60) {
+            (Asked::of(table, rows, distance::some_dial(rng, table, rows)), rows.to_vec())
+        } else {
+            Asked::odd(rng, table, rows)
+        };
+        let far = run.distance(&a, &rows);
+        let class = match far {
+            Ok(None) => 0,
+            Ok(Some(0.0)) => 1,
+            Ok(Some(_)) => 2,
+            Err(refusal) => u16::from(refusal),
+        };
+        if list.wants((9, class, (rows.len() / 36).min(3) as u16, 0), most) {
+            let mut out = a.dial.to_bits().to_le_bytes().to_vec();
+            out.extend([a.flags, a.channel_band]);
+            out.extend(a.count.to_le_bytes());
+            out.extend((rows.len() as u32).to_le_bytes());
+            out.extend(&rows);
+            let refusal = far.err().unwrap_or(0);
+            let far = far.unwrap_or(None);
+            out.extend([refusal, u8::from(far.is_some())]);
+            out.extend(far.unwrap_or(0.0).to_bits().to_le_bytes());
+            self.add(list, (5, refusal, 0), &out);
+        }
     }
 }
 
@@ -280,10 +317,10 @@ pub fn write(run: &mut Run, file: &str) {
         eprintln!("{file}: {e}");
         std::process::exit(2);
     }
-    let [checks, verdicts, unmeasured, ceilings, dials] = list.calls;
+    let [checks, verdicts, unmeasured, ceilings, dials, distances] = list.calls;
     println!(
         "{} bytes; {} images, {checks} image cases, {verdicts} verdicts, {unmeasured} unmeasured, \
-         {ceilings} ceilings, {dials} dial lists; seed {}",
+         {ceilings} ceilings, {dials} dial lists, {distances} distances; seed {}",
         out.len(),
         list.images,
         run.seed
@@ -302,6 +339,7 @@ fn wanted() -> Vec<(u8, u8, u8)> {
             out.push((call, 0, 0));
         }
     }
+    out.extend([(5, 0, 0), (5, 21, 0), (5, 23, 0)]);
     out
 }
 

@@ -1,11 +1,12 @@
 // A program of the gate: it replays the cases of its input, each with its answer, and writes a line for each that the
 // calls answer otherwise, then how many there were. The input, the file `stdin` beside src/, was written by
 // `compare/run --replay crates/run_replay/stdin --seed 1`: verdicts, ceilings and dial lists as the Rust answers them,
-// refusals and the parts that the Rust has only as words as document 01 gives them. compare/src/replay.rs says what the
+// refusals, distances and the parts that the Rust has only as words as document 01 gives them. compare/src/replay.rs says what the
 // bytes mean, and makes sure that every code and every refusal of each call is there. It uses figures, layout and
 // pamuklid.
 use pamuklid::FlatCeiling;
 use pamuklid::FlatDecision;
+use pamuklid::FlatDistance;
 use pamuklid::FlatEdges;
 use pamuklid::FlatStation;
 
@@ -398,6 +399,44 @@ fn dials_case(s: &[u8], at: usize, image: &[u8]) -> Told {
     listed(b, s, end, &mut rows[0..lent], image)
 }
 
+// A distance against the one at a place.
+fn distance_told(d: FlatDistance, s: &[u8], at: usize) -> Told {
+    if s.len() < 10 {
+        return Told::Malformed;
+    }
+    if s.len() - 10 < at {
+        return Told::Malformed;
+    }
+    let end = at + 10;
+    let b = &s[at..end];
+    let listed = d.refusal == byte(b, 0) && d.listed == byte(b, 1);
+    ended(listed && is(d.distance_hz, b, 2), end)
+}
+
+fn distance_case(s: &[u8], at: usize) -> Told {
+    if s.len() < 18 {
+        return Told::Malformed;
+    }
+    if s.len() - 18 < at {
+        return Told::Malformed;
+    }
+    let start = at + 18;
+    let b = &s[at..start];
+    let size = long(b, 14) as usize;
+    if s.len() - start < size {
+        return Told::Malformed;
+    }
+    let end = start + size;
+    let answer = pamuklid::pamuklid_distance_of(
+        figure(b, 0),
+        byte(b, 8),
+        byte(b, 9),
+        long(b, 10),
+        &s[start..end],
+    );
+    distance_told(answer, s, end)
+}
+
 fn case(s: &[u8], at: usize, image: &[u8]) -> Told {
     if s.len() <= at {
         return Told::Malformed;
@@ -410,6 +449,7 @@ fn case(s: &[u8], at: usize, image: &[u8]) -> Told {
         2 => unmeasured_case(s, from, image),
         3 => ceiling_case(s, from, image),
         4 => dials_case(s, from, image),
+        5 => distance_case(s, from),
         _ => Told::Malformed,
     }
 }
