@@ -72,7 +72,7 @@ def plant_all(args, rust, work):
     place["stub.rs"] = os.path.join(driver, "src/stub.rs")
     text["stub.rs"] = open(os.path.join(HERE, "src/stub.rs"), encoding="utf-8").read()
     os.makedirs(os.path.join(work, "own"), exist_ok=True)
-    for name in ["expect.rs", "adapter.rs"]:
+    for name in ["expect.rs", "adapter.rs", "distance.rs"]:
         place[name] = os.path.join(driver, "src", name)
         text[name] = open(os.path.join(HERE, "src", name), encoding="utf-8").read()
         put(os.path.join(work, "own", name), text[name])
@@ -126,6 +126,8 @@ def plant_all(args, rust, work):
             continue
         if name == "stub.rs" and not args.stub or args.rust and name not in RUST:
             continue
+        if name == "distance.rs" and args.stub:
+            continue
         put(place[name], text[name].replace(old, new))
         built, code, what = attempt()
         put(place[name], text[name])
@@ -176,7 +178,7 @@ def report(args, lines, summary):
            "", summary + ".", "",
            "`mod.rs`, `profile.rs` and `occupancy.rs` are the Rust: mistakes at the comparisons, the "
            "`find` and `any`, the sums and the early returns of `check`, `evaluate` and what it calls, "
-           "`ceiling` and `safe_dials`. `expect.rs` and `adapter.rs` are the driver's own part, from "
+           "`ceiling` and `safe_dials`. The other files are the driver's own part, from "
            "document 01. Long texts are cut here; `compare/mutations.py` has them whole.", "",
            "## Survivors, and why they change nothing", ""]
     table = ["| | old | new | result |", "|---|---|---|---|"]

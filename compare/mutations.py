@@ -2,9 +2,9 @@
 file), new text. `same` says why a mistake changes no answer inside document 01's limits: such a one
 must survive, every other must be noticed.
 
-Files: profile.rs, occupancy.rs and mod.rs are the Rust; expect.rs and adapter.rs are the driver's
-own part, written from document 01 (refusals 1 to 6, 15, 16, 20 to 23 and their order, tidy, and what
-the Rust says only in words); stub.rs, with --stub, stands for a wrong library.
+Files: profile.rs, occupancy.rs and mod.rs are the Rust; expect.rs, adapter.rs and distance.rs are the
+driver's own part, written from document 01 (refusals 1 to 6, 15, 16, 20 to 23 and their order, tidy,
+the distance of a dial, and what the Rust says only in words); stub.rs, with --stub, stands for a wrong library.
 """
 
 MUTATIONS = []
@@ -842,6 +842,31 @@ at(E, LADDER, "edges_refused(ordinary) || edges_refused(floor)")
 at(E, LADDER, "edges_refused(ordinary) || edges_refused(floor) || rungs.iter().skip(4).any(|&x| out_of_size(x))")
 at(E, LADDER, "edges_refused(ordinary) || edges_refused(floor) || rungs.chunks_exact(4).flatten().any(|&x| out_of_size(x))")
 at(E, LADDER, "edges_refused(ordinary) || edges_refused(floor) || rungs.iter().take(1024).any(|&x| out_of_size(x))")
+
+# ------------------------------------------------------------------------------ distance.rs
+# The distance of a dial: a library that has the call is needed.
+D = "distance.rs"
+
+at(D, "if expect::out_of_size(self.dial) {", "if false {")
+at(D, "if rows.len() / 36 < count {", "if false {")
+at(D, "if rows.len() / 36 < count {", "if rows.len() / 36 <= count {")
+at(D, "if rows.len() / 36 < count {", "if rows.len() < 36 * count + 36 {")
+at(D, "        if expect::out_of_size(self.dial) {\n            return Err(21);\n        }\n        let count = self.count as usize;\n        if rows.len() / 36 < count {\n            return Err(23);\n        }\n", "        let count = self.count as usize;\n        if rows.len() / 36 < count {\n            return Err(23);\n        }\n        if expect::out_of_size(self.dial) {\n            return Err(21);\n        }\n")
+at(D, "rows.chunks(36).take(count)", "rows.chunks_exact(36)")
+at(D, "rows.chunks(36).take(count)", "rows.chunks(36).take(count.max(1) - 1)")
+at(D, "rows.chunks(36).take(count)", "rows.chunks(36).take(count).skip(1)")
+at(D, "self.flags & HAS_CHANNELS != 0 && r[32] == self.channel_band", "false")
+at(D, "self.flags & HAS_CHANNELS != 0 && r[32] == self.channel_band", "r[32] == self.channel_band")
+at(D, "self.flags & HAS_CHANNELS != 0 && r[32] == self.channel_band", "self.flags & HAS_CHANNELS != 0")
+at(D, "let in_order = low <= high;", "let in_order = low < high;")
+at(D, "let in_order = low <= high;", "let in_order = true;")
+at(D, "let far = if dial < low {", "let far = if dial <= low {", "on the row's lower dial both ways give nought")
+at(D, "                low - dial\n", "                high - dial\n")
+at(D, "                dial - high\n", "                dial - low\n")
+at(D, "} else if dial > high {", "} else if dial < high {")
+at(D, "} else if dial > high {", "} else if false {")
+at(D, "far < best", "far > best")
+at(D, "least = Some(far);", "least = least.or(Some(far));")
 
 # ---------------------------------------------------------------------------------- stub.rs
 # Only with --stub: answers and lent bytes that a wrong library could give. Every byte lent and
