@@ -1,3 +1,4 @@
+pub mod Class
 pub mod Dials
 pub mod Laws
 pub mod Sound

@@ -19,8 +19,12 @@ use table::Segment;
 ghost use mathlib.Core.Path.{_≡_};
 ghost use Prim.Native.Nat.{_+_, _≤_, _<_};
 ghost use Rattle.profile.specs.Range.{holdsOf};
+ghost use lib.ListN.{length};
 ghost use Rattle.layout.specs.Form.{Whole};
+ghost use Rattle.layout.specs.Layout.{recordAt};
+ghost use Rattle.table.specs.Parts.{privilegeOf};
 ghost use Rattle.rows.specs.Pour.{Poured};
+ghost use Rattle.dial_rows.specs.Class.{Ahead, Past, Kept};
 ghost use Rattle.dial_rows.specs.Dials.{requestOf, pieceRows, onShared, automaticRows, cutRows, mayUse, privilegeRows, tooWide, excludedBand, privilegesRows, segmentRows, dataRows, centreSpan, channelFound, isUpper, channelsOpen, channelRow, channelRows, openRows};
 
 // What a list is made for: the signal as it is read, and what the general block says of it.
@@ -194,26 +198,86 @@ fn excluded(image: &[u8], q: Request, s: Segment) -> bool
     false
 }
 
-// The rows of a segment under every privilege.
-fn privileges_rows(image: &[u8], rows: &mut [u8], n: usize, q: Request, s: Segment) -> usize
-    requires { ⌜ (Whole (now image)) × (n + 65536 ≤ 0x1_0000_0000) ⌝ }
-    ensures { λ r. ⌜ Poured (now (rows .entry)) n (now (rows .exit)) r (privilegesRows (now (image .entry)) q s) ⌝ }
+// The first privilege of a class; where there is none, how many privileges there are.
+fn class_first(image: &[u8], class: u8) -> usize
+    requires { ⌜ Whole (now image) ⌝ }
+    ensures { λ r. ⌜ Ahead (now (image .entry)) class r ⌝ }
 {
     let start = layout::start_of(image, layout::PRIVILEGES);
     let count = layout::count_of(image, layout::PRIVILEGES) as usize;
-    let mut held = n;
     let mut i: usize = 0;
     while i < count {
-        let r = layout::record_at(image, start + layout::RECORD_SIZE * i);
-        held = privilege_rows(image, rows, held, q, s, table::privilege_of(r));
+        if layout::class_at(image, start + layout::RECORD_SIZE * i) == class {
+            return i;
+        }
+        i += 1;
+    }
+    i
+}
+
+// The place after the last privilege of a class; where there is none, 0.
+fn class_end(image: &[u8], class: u8) -> usize
+    requires { ⌜ Whole (now image) ⌝ }
+    ensures { λ r. ⌜ Past (now (image .entry)) class r ⌝ }
+{
+    let start = layout::start_of(image, layout::PRIVILEGES);
+    let mut k = layout::count_of(image, layout::PRIVILEGES) as usize;
+    while 0 < k {
+        if layout::class_at(image, start + layout::RECORD_SIZE * (k - 1)) == class {
+            return k;
+        }
+        k -= 1;
+    }
+    k
+}
+
+// The rows of a segment under the privilege that begins at a place: its class is asked before the rest is read.
+fn record_rows(image: &[u8], rows: &mut [u8], n: usize, q: Request, s: Segment, at: usize) -> usize
+    requires { ⌜ (Whole (now image)) × (at + 32 ≤ length (now image)) × (n + 256 ≤ 0x1_0000_0000) ⌝ }
+    ensures { λ r. ⌜ Poured (now (rows .entry)) n (now (rows .exit)) r (privilegeRows (now (image .entry)) q s (privilegeOf (recordAt (now (image .entry)) at))) ⌝ }
+{
+    if layout::class_at(image, at) == q.class {
+        let r = layout::record_at(image, at);
+        return privilege_rows(image, rows, n, q, s, table::privilege_of(r));
+    }
+    n
+}
+
+// The rows of a segment under every privilege, in a table from start on in which those of the class lie from first to end.
+fn privileges_rows(
+    image: &[u8],
+    rows: &mut [u8],
+    n: usize,
+    q: Request,
+    s: Segment,
+    start: usize,
+    first: usize,
+    end: usize,
+) -> usize
+    requires { ⌜ (Whole (now image)) × (n + 65536 ≤ 0x1_0000_0000) × (Kept (now image) (q .class) start first end) ⌝ }
+    ensures { λ r. ⌜ Poured (now (rows .entry)) n (now (rows .exit)) r (privilegesRows (now (image .entry)) q s) ⌝ }
+{
+    let mut held = n;
+    let mut i = first;
+    while i < end {
+        held = record_rows(image, rows, held, q, s, start + layout::RECORD_SIZE * i);
         i += 1;
     }
     held
 }
 
 // The rows of a segment: none where the signal is too wide or kept out.
-fn segment_rows(image: &[u8], rows: &mut [u8], n: usize, q: Request, s: Segment) -> usize
-    requires { ⌜ (Whole (now image)) × (n + 65536 ≤ 0x1_0000_0000) ⌝ }
+fn segment_rows(
+    image: &[u8],
+    rows: &mut [u8],
+    n: usize,
+    q: Request,
+    s: Segment,
+    start: usize,
+    first: usize,
+    end: usize,
+) -> usize
+    requires { ⌜ (Whole (now image)) × (n + 65536 ≤ 0x1_0000_0000) × (Kept (now image) (q .class) start first end) ⌝ }
     ensures { λ r. ⌜ Poured (now (rows .entry)) n (now (rows .exit)) r (segmentRows (now (image .entry)) q s) ⌝ }
 {
     if too_wide(q, s) {
@@ -222,12 +286,19 @@ fn segment_rows(image: &[u8], rows: &mut [u8], n: usize, q: Request, s: Segment)
     if excluded(image, q, s) {
         return n;
     }
-    privileges_rows(image, rows, n, q, s)
+    privileges_rows(image, rows, n, q, s, start, first, end)
 }
 
-// The rows of every data segment.
-pub fn data_rows(image: &[u8], rows: &mut [u8], q: Request) -> usize
-    requires { ⌜ Whole (now image) ⌝ }
+// The rows of every data segment, with the same three numbers.
+fn segments_rows(
+    image: &[u8],
+    rows: &mut [u8],
+    q: Request,
+    privileges: usize,
+    first: usize,
+    end: usize,
+) -> usize
+    requires { ⌜ (Whole (now image)) × (Kept (now image) (q .class) privileges first end) ⌝ }
     ensures { λ r. ⌜ Poured (now (rows .entry)) 0 (now (rows .exit)) r (dataRows (now (image .entry)) q) ⌝ }
 {
     let start = layout::start_of(image, layout::SEGMENTS);
@@ -236,10 +307,30 @@ pub fn data_rows(image: &[u8], rows: &mut [u8], q: Request) -> usize
     let mut i: usize = 0;
     while i < count {
         let r = layout::record_at(image, start + layout::RECORD_SIZE * i);
-        held = segment_rows(image, rows, held, q, table::segment_of(r));
+        held = segment_rows(
+            image,
+            rows,
+            held,
+            q,
+            table::segment_of(r),
+            privileges,
+            first,
+            end,
+        );
         i += 1;
     }
     held
+}
+
+// The rows of every data segment.
+pub fn data_rows(image: &[u8], rows: &mut [u8], q: Request) -> usize
+    requires { ⌜ Whole (now image) ⌝ }
+    ensures { λ r. ⌜ Poured (now (rows .entry)) 0 (now (rows .exit)) r (dataRows (now (image .entry)) q) ⌝ }
+{
+    let start = layout::start_of(image, layout::PRIVILEGES);
+    let first = class_first(image, q.class);
+    let end = class_end(image, q.class);
+    segments_rows(image, rows, q, start, first, end)
 }
 
 fn is_upper(sideband: Sideband) -> bool

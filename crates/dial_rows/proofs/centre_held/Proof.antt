@@ -1,3 +1,4 @@
+-- `dial_rows::centre_held` meets its contract: on each way to a return, the tests and what the calls ensure say which case of the definition holds.
 use borrow.Author.Needs.{needs}
 use Rattle.dial_rows.proofs.centre_held.Statement.{statement}
 use Rattle.dial_rows.proofs.centre_held.Tie as tie

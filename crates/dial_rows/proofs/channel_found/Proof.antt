@@ -1,3 +1,4 @@
+-- `dial_rows::channel_found` meets its contract: a loop invariant, and a law for the first turn, each turn and the end.
 use Prim.Native.Nat.{_+_, _*_, _-_, _≤_}
 use mathlib.Core.Path.{_≡_, refl, sym, _∙_}
 use mathlib.Core.Bool.{Bool, true, false, _&&_}

@@ -1,3 +1,4 @@
+-- `dial_rows::channels_open` meets its contract: on each way to a return, the tests and what the calls ensure say which case of the definition holds.
 use borrow.Author.Needs.{needs}
 use Rattle.dial_rows.proofs.channels_open.Statement.{statement}
 use Rattle.dial_rows.proofs.channels_open.Tie as tie

@@ -1,3 +1,4 @@
+-- `dial_rows::cut_rows` meets its contract: on each way to a return, the tests and what the calls ensure say which case of the definition holds.
 use Rattle.dial_rows.specs.Laws.{cut-automatic, cut-elsewhere, cut-none}
 use borrow.Author.Needs.{needs}
 use Rattle.dial_rows.proofs.cut_rows.Statement.{statement}

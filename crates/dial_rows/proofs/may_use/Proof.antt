@@ -1,3 +1,4 @@
+-- `dial_rows::may_use` meets its contract: on each way to a return, the tests and what the calls ensure say which case of the definition holds.
 use borrow.Author.Tests.{eq-eqb, ne-eqb}
 use borrow.Author.Needs.{needs}
 use Rattle.dial_rows.proofs.may_use.Statement.{statement}

@@ -1,3 +1,4 @@
+-- `dial_rows::piece_row` meets its contract: on each way to a return, the tests and what the calls ensure say which case of the definition holds.
 use Rattle.rows.specs.Pour.{poured-none, poured-one}
 use Rattle.dial_rows.specs.Dials.{pieceRows}
 use borrow.Author.Needs.{needs}

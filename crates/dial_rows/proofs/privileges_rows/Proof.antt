@@ -1,22 +1,23 @@
-use Prim.Native.Nat.{_+_, _*_, _-_, _≤_}
+-- `dial_rows::privileges_rows` meets its contract: a loop invariant, and a law for the first turn, each turn and the end.
+use Prim.Native.Nat.{_+_, _*_, _-_, _<_, _≤_}
 use mathlib.Core.Path.{_≡_, _∙_}
 use lib.ListN.{length}
 use native.Mathlib.Omega.{arith}
-use borrow.Author.Needs.{needs}
 use Rattle.layout.specs.Layout.{recordSize, trailerSize, privileges, countOf, startOf}
 use Rattle.layout.specs.Form.{table-within}
 use Rattle.rows.specs.Each.{each-few}
-use Rattle.rows.specs.Pour.{Poured, Pouring, pouring-none, pouring-step, pouring-done}
-use Rattle.dial_rows.specs.Dials.{privilegeAt, privilegesRows}
+use Rattle.rows.specs.Pour.{Poured, Pouring, pouring-step}
+use Rattle.dial_rows.specs.Dials.{privilegeAt}
 use Rattle.dial_rows.specs.Laws.{privilege-few}
+use Rattle.dial_rows.specs.Class.{pouring-first, pouring-last}
 use Rattle.dial_rows.proofs.privileges_rows.Statement.{statement}
 use Rattle.dial_rows.proofs.privileges_rows.Tie as tie
 
 abbrev Inv-loop : tie.InvT-loop
-Inv-loop image rows₀ n q s start count held₀ i₀ rows held i = Pouring rows₀ n (privilegeAt image q s) count i rows held × (length rows ≡ length rows₀)
+Inv-loop image rows₀ n q s start first end held₀ i₀ rows held i = Pouring rows₀ n (privilegeAt image q s) (countOf image privileges) i rows held × (length rows ≡ length rows₀)
 
 abbrev μ-loop : tie.MeasureT-loop
-μ-loop image rows₀ n q s start count held₀ i₀ rows held i = count - i
+μ-loop image rows₀ n q s start first end held₀ i₀ rows held i = end - i
 
 within : (c : tie.Start Inv-loop μ-loop) → startOf (c .args .image .now) privileges + recordSize * countOf (c .args .image .now) privileges + trailerSize ≤ length (c .args .image .now)
 within c = table-within (c .args .image .now) (c .pre .0) privileges (omega arith)
@@ -24,51 +25,40 @@ within c = table-within (c .args .image .now) (c .pre .0) privileges (omega arit
 few : (c : tie.Start Inv-loop μ-loop) → countOf (c .args .image .now) privileges ≤ 256
 few c = c .pre .0 .few privileges (omega arith)
 
+-- a turn asks a privilege of the table
+below : (c : tie.In-loop Inv-loop μ-loop) → c .before .loop .i < countOf (c .before .before .before .before .args .image .now) privileges
+below c = omega (arith, c .loop-test .taken, c .before .before .before .before .pre .2 .past .within)
+
+-- and its record lies in the image
+placed : (c : tie.In-loop Inv-loop μ-loop) → c .before .before .before .before .args .start + recordSize * c .before .loop .i + recordSize ≤ length (c .before .before .before .before .args .image .now)
+placed c = omega (arith, below c, within (c .before .before .before .before), c .before .before .before .before .pre .2 .placed)
+
 -- at most 256 for each record passed
-so-far : (c : tie.In-loop Inv-loop μ-loop) → c .before .loop .held ≤ c .before .before .before .before .before .before .args .n + 256 * c .before .loop .i
+so-far : (c : tie.In-loop Inv-loop μ-loop) → c .before .loop .held ≤ c .before .before .before .before .args .n + 256 * c .before .loop .i
 so-far c =
     omega (
       arith,
       c .before .loop .inv .0 .so-far .counted,
-      each-few (c .before .loop .i) 256 (privilegeAt (c .before .before .before .before .before .before .args .image .now) (c .before .before .before .before .before .before .args .q) (c .before .before .before .before .before .before .args .s)) (λ i. privilege-few _ (c .before .before .before .before .before .before .pre .0) _ _ _),
+      each-few (c .before .loop .i) 256 (privilegeAt (c .before .before .before .before .args .image .now) (c .before .before .before .before .args .q) (c .before .before .before .before .args .s)) (λ i. privilege-few _ (c .before .before .before .before .pre .0) _ _ _),
     )
 
 -- what a turn did
 asked :
-    (c : tie.After-privilege-rows Inv-loop μ-loop)
-    → Poured (c .before .before .before .before .before .loop .rows) (c .before .before .before .before .before .loop .held) (c .privilege-rows .last .1 .0) (c .privilege-rows .result) (privilegeAt (c .before .before .before .before .before .before .before .before .before .before .args .image .now) (c .before .before .before .before .before .before .before .before .before .before .args .q) (c .before .before .before .before .before .before .before .before .before .before .args .s) (c .before .before .before .before .before .loop .i))
-asked c =
-    rw (c .before .before .before .before .before .before .before .start-of .ensures) at
-    (rw (c .before .before .before .record-at .ensures) at
-    (rw (c .before .privilege-of .ensures) at
-    (c .privilege-rows .ensures)))
-
-start-of-requires : tie.Need-start-of-requires Inv-loop μ-loop
-start-of-requires c κs = omega (arith, c .before .before .pre .0 .sized)
-
-count-of-requires : tie.Need-count-of-requires Inv-loop μ-loop
-count-of-requires c κs = omega (arith, c .before .before .before .pre .0 .sized)
-
-cast-count : tie.Need-cast-count Inv-loop μ-loop
-cast-count c = omega arith
+    (c : tie.After-record-rows Inv-loop μ-loop)
+    → Poured (c .before .before .before .loop .rows) (c .before .before .before .loop .held) (c .record-rows .last .1 .0) (c .record-rows .result) (privilegeAt (c .before .before .before .before .before .before .args .image .now) (c .before .before .before .before .before .before .args .q) (c .before .before .before .before .before .before .args .s) (c .before .before .before .loop .i))
+asked c = rw (c .before .before .before .before .before .before .pre .2 .placed) at (c .record-rows .ensures)
 
 loop-holds : tie.Need-loop-holds Inv-loop μ-loop
-loop-holds c = (pouring-none _ _ _ _, omega arith)
+loop-holds c = (pouring-first _ _ _ _ _ _ (c .before .before .pre .2 .ahead), omega arith)
 
-mul-record-at : tie.Need-mul-record-at Inv-loop μ-loop
-mul-record-at c = omega (arith, within (c .before .before .before .before .before .before))
+mul-record-rows : tie.Need-mul-record-rows Inv-loop μ-loop
+mul-record-rows c = omega (arith, placed (c .before))
 
-add-record-at : tie.Need-add-record-at Inv-loop μ-loop
-add-record-at c = omega (arith, within (c .before .before .before .before .before .before))
+add-record-rows : tie.Need-add-record-rows Inv-loop μ-loop
+add-record-rows c = omega (arith, placed (c .before))
 
-record-at-requires : tie.Need-record-at-requires Inv-loop μ-loop
-record-at-requires c κs = omega (arith, within (c .before .before .before .before .before .before))
-
-privilege-of-requires : tie.Need-privilege-of-requires Inv-loop μ-loop
-privilege-of-requires c κs = search needs
-
-privilege-rows-requires : tie.Need-privilege-rows-requires Inv-loop μ-loop
-privilege-rows-requires c κs = (c .before .before .before .before .before .before .before .before .before .pre .0, omega (arith, so-far (c .before .before .before), few (c .before .before .before .before .before .before .before .before .before), c .before .before .before .before .before .before .before .before .before .pre .1, c .before .before .before .before .before .count-of .ensures))
+record-rows-requires : tie.Need-record-rows-requires Inv-loop μ-loop
+record-rows-requires c κs = (c .before .before .before .before .before .pre .0, omega (arith, placed (c .before)), omega (arith, so-far (c .before), few (c .before .before .before .before .before), below (c .before), c .before .before .before .before .before .pre .1))
 
 add-i : tie.Need-add-i Inv-loop μ-loop
 add-i c = omega arith
@@ -77,14 +67,13 @@ loop-less : tie.Need-loop-less Inv-loop μ-loop
 loop-less c = omega arith
 
 loop-again : tie.Need-loop-again Inv-loop μ-loop
-loop-again c = (pouring-step _ _ _ _ _ _ _ _ _ (c .before .before .before .before .before .before .loop-test .taken) (c .before .before .before .before .before .before .before .loop .inv .0) (asked (c .before .before)), c .before .before .privilege-rows .kept .1 .0 ∙ c .before .before .before .before .before .before .before .loop .inv .1)
+loop-again c = (pouring-step _ _ _ _ _ _ _ _ _ (below (c .before .before .before .before)) (c .before .before .before .before .before .loop .inv .0) (asked (c .before .before)), c .before .before .record-rows .kept .1 .0 ∙ c .before .before .before .before .before .loop .inv .1)
 
 same-length : tie.Need-same-length Inv-loop μ-loop
 same-length c = c .before .loop .inv .1
 
 returns : tie.Need-returns Inv-loop μ-loop
-unfolding privilegesRows
-returns c = rw (← c .before .before .count-of .ensures) (pouring-done _ _ _ _ _ _ _ (c .loop-test .left) (c .before .loop .inv .0))
+returns c = pouring-last _ _ _ _ _ _ _ _ _ (c .before .before .before .before .pre .2 .past) (c .loop-test .left) (c .before .loop .inv .0)
 
 pub privileges-rows-spec : {M : Type 1} → statement M
 privileges-rows-spec =
@@ -92,15 +81,10 @@ privileges-rows-spec =
     (tie.spec
     Inv-loop
     μ-loop
-    start-of-requires
-    count-of-requires
-    cast-count
     loop-holds
-    mul-record-at
-    add-record-at
-    record-at-requires
-    privilege-of-requires
-    privilege-rows-requires
+    mul-record-rows
+    add-record-rows
+    record-rows-requires
     add-i
     loop-less
     loop-again

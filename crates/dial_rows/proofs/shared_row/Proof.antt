@@ -1,3 +1,4 @@
+-- `dial_rows::shared_row` meets its contract: on each way to a return, the tests and what the calls ensure say which case of the definition holds.
 use Rattle.rows.specs.Pour.{poured-none}
 use borrow.Author.Needs.{needs}
 use Rattle.dial_rows.proofs.shared_row.Statement.{statement}

@@ -1,3 +1,4 @@
+-- `dials::fill` meets its contract: on each way to a return, the tests and what the calls ensure say which case of the definition holds.
 use Prim.Native.Nat.{_*_, _/_, _≤_}
 use mathlib.Core.List.{[], _++_}
 use mathlib.Core.Path.{_≡_, sym}

@@ -1,3 +1,4 @@
+-- `dials::gather` meets its contract: on each way to a return, the tests and what the calls ensure say which case of the definition holds.
 use native.Mathlib.Omega.{arith}
 use Rattle.rows.specs.Pour.{poured-none, poured-more}
 use Rattle.dial_rows.specs.Laws.{data-few}

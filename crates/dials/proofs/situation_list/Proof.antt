@@ -1,3 +1,4 @@
+-- `dials::situation_list` meets its contract: on each way to a return, the tests and what the calls ensure say which case of the definition holds.
 use Rattle.dial_rows.specs.Dials.{rowsOf}
 use Rattle.dials.specs.List.{knownRows, Filled}
 use Rattle.dials.specs.Answer.{no-sideband, no-license, no-control, all-known, filled-empty, filled-as}

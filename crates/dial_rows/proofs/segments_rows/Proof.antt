@@ -1,3 +1,4 @@
+-- `dial_rows::segments_rows` meets its contract: a loop invariant, and a law for the first turn, each turn and the end.
 use Prim.Native.Nat.{_+_, _*_, _-_, _≤_}
 use mathlib.Core.Path.{_≡_, _∙_}
 use lib.ListN.{length}
@@ -9,20 +10,20 @@ use Rattle.rows.specs.Each.{each-few}
 use Rattle.rows.specs.Pour.{Poured, Pouring, pouring-none, pouring-step, pouring-done}
 use Rattle.dial_rows.specs.Dials.{segmentAt, dataRows}
 use Rattle.dial_rows.specs.Laws.{segment-few}
-use Rattle.dial_rows.proofs.data_rows.Statement.{statement}
-use Rattle.dial_rows.proofs.data_rows.Tie as tie
+use Rattle.dial_rows.proofs.segments_rows.Statement.{statement}
+use Rattle.dial_rows.proofs.segments_rows.Tie as tie
 
 abbrev Inv-loop : tie.InvT-loop
-Inv-loop image rows₀ q start count held₀ i₀ rows held i = Pouring rows₀ 0 (segmentAt image q) count i rows held × (length rows ≡ length rows₀)
+Inv-loop image rows₀ q privileges first end start count held₀ i₀ rows held i = Pouring rows₀ 0 (segmentAt image q) count i rows held × (length rows ≡ length rows₀)
 
 abbrev μ-loop : tie.MeasureT-loop
-μ-loop image rows₀ q start count held₀ i₀ rows held i = count - i
+μ-loop image rows₀ q privileges first end start count held₀ i₀ rows held i = count - i
 
 within : (c : tie.Start Inv-loop μ-loop) → startOf (c .args .image .now) segments + recordSize * countOf (c .args .image .now) segments + trailerSize ≤ length (c .args .image .now)
-within c = table-within (c .args .image .now) (c .pre) segments (omega arith)
+within c = table-within (c .args .image .now) (c .pre .0) segments (omega arith)
 
 few : (c : tie.Start Inv-loop μ-loop) → countOf (c .args .image .now) segments ≤ 256
-few c = c .pre .few segments (omega arith)
+few c = c .pre .0 .few segments (omega arith)
 
 -- at most 65536 for each record passed
 so-far : (c : tie.In-loop Inv-loop μ-loop) → c .before .loop .held ≤ 65536 * c .before .loop .i
@@ -30,7 +31,7 @@ so-far c =
     omega (
       arith,
       c .before .loop .inv .0 .so-far .counted,
-      each-few (c .before .loop .i) 65536 (segmentAt (c .before .before .before .before .before .before .args .image .now) (c .before .before .before .before .before .before .args .q)) (λ i. segment-few _ (c .before .before .before .before .before .before .pre) _ _),
+      each-few (c .before .loop .i) 65536 (segmentAt (c .before .before .before .before .before .before .args .image .now) (c .before .before .before .before .before .before .args .q)) (λ i. segment-few _ (c .before .before .before .before .before .before .pre .0) _ _),
     )
 
 -- what a turn did
@@ -44,10 +45,10 @@ asked c =
     (c .segment-rows .ensures)))
 
 start-of-requires : tie.Need-start-of-requires Inv-loop μ-loop
-start-of-requires c κs = omega (arith, c .before .before .pre .sized)
+start-of-requires c κs = omega (arith, c .before .before .pre .0 .sized)
 
 count-of-requires : tie.Need-count-of-requires Inv-loop μ-loop
-count-of-requires c κs = omega (arith, c .before .before .before .pre .sized)
+count-of-requires c κs = omega (arith, c .before .before .before .pre .0 .sized)
 
 cast-count : tie.Need-cast-count Inv-loop μ-loop
 cast-count c = omega arith
@@ -68,7 +69,7 @@ segment-of-requires : tie.Need-segment-of-requires Inv-loop μ-loop
 segment-of-requires c κs = search needs
 
 segment-rows-requires : tie.Need-segment-rows-requires Inv-loop μ-loop
-segment-rows-requires c κs = (c .before .before .before .before .before .before .before .before .before .pre, omega (arith, so-far (c .before .before .before), few (c .before .before .before .before .before .before .before .before .before), c .before .before .before .before .before .count-of .ensures))
+segment-rows-requires c κs = (c .before .before .before .before .before .before .before .before .before .pre .0, omega (arith, so-far (c .before .before .before), few (c .before .before .before .before .before .before .before .before .before), c .before .before .before .before .before .count-of .ensures), c .before .before .before .before .before .before .before .before .before .pre .1)
 
 add-i : tie.Need-add-i Inv-loop μ-loop
 add-i c = omega arith
@@ -86,8 +87,8 @@ returns : tie.Need-returns Inv-loop μ-loop
 unfolding dataRows
 returns c = rw (← c .before .before .count-of .ensures) (pouring-done _ _ _ _ _ _ _ (c .loop-test .left) (c .before .loop .inv .0))
 
-pub data-rows-spec : {M : Type 1} → statement M
-data-rows-spec =
+pub segments-rows-spec : {M : Type 1} → statement M
+segments-rows-spec =
     tie.close
     (tie.spec
     Inv-loop
