@@ -16,8 +16,12 @@ use Rattle.entry.specs.Entry.{entryTests}
 use Rattle.occupancy.specs.declared.Edges.{Edges}
 use Rattle.scan.specs.First.{cond-yes, cond-not}
 use Rattle.decision.specs.declared.Decision.{Decision}
-use Rattle.ceiling.specs.Ceiling.{startOf, rungJudged, stepOf, climbed, anyUnmarked, badRungs, rungTests, ceilingTests}
+use Rattle.ceiling.specs.Ceiling.{joinedOf, isBlocked, noDecision, startOf, endedOf, wentOn, judgedOf, rungJudged, stepOf, climbed, anyUnmarked, badRungs, rungTests, ceilingTests}
 use Rattle.ceiling.specs.declared.Climb.{Climb}
+use Rattle.ceiling.specs.declared.Envelope.{Envelope}
+use Rattle.ceiling.specs.declared.Envelope.the-variants.{Reached, Unreached}
+use Rattle.ceiling.specs.declared.Rung.{Rung}
+use Rattle.ceiling.specs.declared.Rung.the-variants.{Fastest, NoRung}
 
 -- What a loop over n rungs knows at rung i: c is the climb so far, and it goes on.
 pub record Climbing (judge : Edges → Decision) (burst : ℕ → Edges) (n i : ℕ) (c : Climb) : Type 0 where
@@ -68,6 +72,37 @@ module _ (judge : Edges → Decision) (burst : ℕ → Edges) where
 
     pub climb-done : (i : ℕ) (c : Climb) → Climbing judge burst n i c → n ≤ i → c ≡ climbed judge burst n
     climb-done i c p h = let q : i ≡ n = omega (arith, p .within) in p .is ∙ ap (climbed judge burst) q
+
+-- ---- a climb that goes on, by its envelope and its rung
+
+abbrev pub freeClimb : Envelope → Rung → Climb
+freeClimb envelope rung = record { envelope = envelope; rung = rung; limited = false; limit = noDecision }
+
+-- What the loop knows at rung i of n.
+abbrev pub Free : (Edges → Decision) → (ℕ → Edges) → ℕ → ℕ → Envelope → Rung → Type 0
+Free judge burst n i envelope rung = Climbing judge burst n i (freeClimb envelope rung)
+
+module _ (judge : Edges → Decision) (burst : ℕ → Edges) (n : ℕ) where
+  pub free-start : Free judge burst n 0 Unreached NoRung
+  unfolding startOf
+  free-start = climbing-start judge burst n (freeClimb Unreached NoRung) refl
+
+  module _ (i : ℕ) (envelope : Envelope) (rung : Rung) (p : Free judge burst n i envelope rung) (h : i < n) (e : Edges) (joined : e ≡ joinedOf envelope (burst i)) where
+    rung-of : (b : Bool) → isBlocked (judge e .verdict) ≡ b → cond b (endedOf rung e (judge e)) (wentOn i e) ≡ rungJudged judge (freeClimb envelope rung) i (burst i)
+    unfolding rungJudged judgedOf
+    rung-of b q =
+        ap (λ (x : Bool). cond x (endedOf rung e (judge e)) (wentOn i e)) (sym q)
+        ∙ ap (λ (x : Edges). cond (isBlocked (judge x .verdict)) (endedOf rung x (judge x)) (wentOn i x)) joined
+
+    -- rung i is allowed
+    pub free-again : isBlocked (judge e .verdict) ≡ false → Free judge burst n (i + 1) (Reached e) (Fastest i)
+    unfolding wentOn
+    free-again q = climbing-again judge burst n i (freeClimb envelope rung) (freeClimb (Reached e) (Fastest i)) p h (rung-of false q) refl
+
+    -- rung i is blocked
+    pub free-over : isBlocked (judge e .verdict) ≡ true → endedOf rung e (judge e) ≡ climbed judge burst n
+    unfolding endedOf
+    free-over q = climb-over judge burst n i (freeClimb envelope rung) (endedOf rung e (judge e)) p h (rung-of true q) refl
 
 -- Accepted, a call has one floor byte for each rung.
 one-each : (rungs : List Float) (floors : List ℕ) → badRungs rungs floors ≡ false → length floors ≡ length rungs / 4

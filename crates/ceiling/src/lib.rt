@@ -190,61 +190,6 @@ fn is_blocked(v: Verdict) -> bool
     }
 }
 
-// Below the first rung.
-fn start() -> Climb
-    ensures { λ x. ⌜ x ≡ startOf ⌝ }
-{
-    Climb {
-        envelope: Envelope::Unreached,
-        rung: Rung::NoRung,
-        limited: false,
-        limit: decision::refused(0),
-    }
-}
-
-// A climb after the decision on rung k's envelope.
-fn judged(c: Climb, k: usize, e: Edges, d: Decision) -> Climb
-    ensures { λ x. ⌜ x ≡ judgedOf c k e d ⌝ }
-{
-    let verdict = d.verdict;
-    let rung = c.rung;
-    if is_blocked(verdict) {
-        Climb {
-            envelope: Envelope::Reached(e),
-            rung,
-            limited: true,
-            limit: d,
-        }
-    } else {
-        Climb {
-            envelope: Envelope::Reached(e),
-            rung: Rung::Fastest(k),
-            limited: false,
-            limit: decision::refused(0),
-        }
-    }
-}
-
-// One rung more: its envelope is judged as data.
-fn judge_rung(
-    image: &[u8],
-    s: Situation,
-    direction: Direction,
-    c: Climb,
-    k: usize,
-    more: Edges,
-) -> Climb
-    requires { ⌜ (s .policy ≡ Rules → Whole (now image)) ⌝ }
-    ensures { λ x. ⌜ x ≡ rungJudged (judgeBy (now (image .entry)) s direction) c k more ⌝ }
-{
-    let policy = s.policy;
-    let dial = s.dial;
-    let before = c.envelope;
-    let e = joined(before, more);
-    let d = verdict::decide(image, s, policy, dial, EmissionKind::Data, direction, e);
-    judged(c, k, e, d)
-}
-
 // The climb over all rungs. It ends at the first that is blocked.
 fn climb_all(
     image: &[u8],
@@ -259,17 +204,34 @@ fn climb_all(
     ensures { λ x. ⌜ x ≡ climbed (judgeBy (now (image .entry)) s direction) (burstOf ordinary floor (now (rungs .entry)) (now (floors .entry))) (length (now (rungs .entry)) / 4) ⌝ }
 {
     let count = rungs.len() / 4;
-    let mut c = start();
+    let policy = s.policy;
+    let dial = s.dial;
+    let mut envelope = Envelope::Unreached;
+    let mut rung = Rung::NoRung;
     let mut i: usize = 0;
     while i < count {
         let more = burst(ordinary, floor, rungs, floors, i);
-        c = judge_rung(image, s, direction, c, i, more);
-        if c.limited {
-            return c;
+        let e = joined(envelope, more);
+        let d = verdict::decide(image, s, policy, dial, EmissionKind::Data, direction, e);
+        let verdict = d.verdict;
+        if is_blocked(verdict) {
+            return Climb {
+                envelope: Envelope::Reached(e),
+                rung,
+                limited: true,
+                limit: d,
+            };
         }
+        envelope = Envelope::Reached(e);
+        rung = Rung::Fastest(i);
         i += 1;
     }
-    c
+    Climb {
+        envelope,
+        rung,
+        limited: false,
+        limit: decision::refused(0),
+    }
 }
 
 // The fastest rung that may be sent, every slower one with it, and the verdict on the first that may not.

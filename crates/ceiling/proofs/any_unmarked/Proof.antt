@@ -4,12 +4,9 @@ use lib.ListN.{length}
 use Rattle.scan.specs.First.{Passed, passed-none, passed-step, some-here, some-none}
 use Rattle.ceiling.specs.Ceiling.{unmarkedAt}
 use native.Mathlib.Omega.{arith}
-use borrow.Author.Tests.{lt-ltb, lt-leb, le-ltb, le-leb, eq-eqb, ne-eqb, not-true, not-false}
+use borrow.Author.Tests.{lt-ltb, le-ltb}
 use Rattle.ceiling.proofs.any_unmarked.Statement.{statement}
 use Rattle.ceiling.proofs.any_unmarked.Tie as tie
-use Rattle.ceiling.proofs.any_unmarked.Reads as reads
-use Rattle.ceiling.proofs.any_unmarked.Lts as lts
-use Rattle.layout.proofs.byte_at.Reads as byte-at-reads
 
 abbrev Inv-loop : tie.InvT-loop
 Inv-loop floors i₀ i = Passed (unmarkedAt floors) (length floors) i
@@ -17,31 +14,24 @@ Inv-loop floors i₀ i = Passed (unmarkedAt floors) (length floors) i
 abbrev μ-loop : tie.MeasureT-loop
 μ-loop floors i₀ i = length floors - i
 
--- src/lib.rt:76:5
 loop-holds : tie.Need-loop-holds Inv-loop μ-loop
 loop-holds c = passed-none _ _
 
--- src/lib.rt:77:12
 byte-at-requires : tie.Need-byte-at-requires Inv-loop μ-loop
 byte-at-requires c κs = omega arith
 
--- src/lib.rt:78:13
 returns : tie.Need-returns Inv-loop μ-loop
 returns c = some-here _ _ _ (c .before .before .loop-test .taken) (c .before .before .before .loop .inv) (rw (← c .before .byte-at .ensures) (lt-ltb _ _ (c .if1 .taken)))
 
--- src/lib.rt:80:9
 add-i : tie.Need-add-i Inv-loop μ-loop
 add-i c = omega arith
 
--- src/lib.rt:76:5
 loop-less : tie.Need-loop-less Inv-loop μ-loop
 loop-less c = omega arith
 
--- src/lib.rt:76:5
 loop-again : tie.Need-loop-again Inv-loop μ-loop
 loop-again c = passed-step _ _ _ (c .before .before .loop-test .taken) (c .before .before .before .loop .inv) (rw (← c .before .byte-at .ensures) (le-ltb _ _ (c .if1 .left)))
 
--- src/lib.rt:72:1
 returns-2 : tie.Need-returns-2 Inv-loop μ-loop
 returns-2 c = some-none _ _ _ (c .loop-test .left) (c .before .loop .inv)
 

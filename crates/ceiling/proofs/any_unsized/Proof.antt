@@ -5,13 +5,8 @@ use lib.ListN.{length}
 use Rattle.scan.specs.First.{Passed, passed-none, passed-step, some-here, some-none}
 use Rattle.ceiling.specs.Ceiling.{unsizedAt}
 use native.Mathlib.Omega.{arith}
-use borrow.Author.Tests.{lt-ltb, lt-leb, le-ltb, le-leb, eq-eqb, ne-eqb, not-true, not-false}
 use Rattle.ceiling.proofs.any_unsized.Statement.{statement}
 use Rattle.ceiling.proofs.any_unsized.Tie as tie
-use Rattle.ceiling.proofs.any_unsized.Reads as reads
-use Rattle.ceiling.proofs.any_unsized.Lts as lts
-use Rattle.ceiling.proofs.figure_at.Reads as figure-at-reads
-use Rattle.figures.proofs.in_size.Reads as in-size-reads
 
 abbrev Inv-loop : tie.InvT-loop
 Inv-loop rungs i₀ i = Passed (unsizedAt rungs) (length rungs) i
@@ -19,35 +14,27 @@ Inv-loop rungs i₀ i = Passed (unsizedAt rungs) (length rungs) i
 abbrev μ-loop : tie.MeasureT-loop
 μ-loop rungs i₀ i = length rungs - i
 
--- src/lib.rt:62:5
 loop-holds : tie.Need-loop-holds Inv-loop μ-loop
 loop-holds c = passed-none _ _
 
--- src/lib.rt:63:46
 figure-at-requires : tie.Need-figure-at-requires Inv-loop μ-loop
 figure-at-requires c κs = omega arith
 
--- src/lib.rt:63:13
 in-size-requires : tie.Need-in-size-requires Inv-loop μ-loop
 in-size-requires c κs = search needs
 
--- src/lib.rt:64:13
 returns : tie.Need-returns Inv-loop μ-loop
 returns c = some-here _ _ _ (c .before .before .before .loop-test .taken) (c .before .before .before .before .loop .inv) (rw (← c .before .before .figure-at .ensures) (rw (← c .before .in-size .ensures) (c .if1 .taken)))
 
--- src/lib.rt:66:9
 add-i : tie.Need-add-i Inv-loop μ-loop
 add-i c = omega arith
 
--- src/lib.rt:62:5
 loop-less : tie.Need-loop-less Inv-loop μ-loop
 loop-less c = omega arith
 
--- src/lib.rt:62:5
 loop-again : tie.Need-loop-again Inv-loop μ-loop
 loop-again c = passed-step _ _ _ (c .before .before .before .loop-test .taken) (c .before .before .before .before .loop .inv) (rw (← c .before .before .figure-at .ensures) (rw (← c .before .in-size .ensures) (c .if1 .left)))
 
--- src/lib.rt:58:1
 returns-2 : tie.Need-returns-2 Inv-loop μ-loop
 returns-2 c = some-none _ _ _ (c .loop-test .left) (c .before .loop .inv)
 

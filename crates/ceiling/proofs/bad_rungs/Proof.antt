@@ -1,37 +1,28 @@
 -- Refusal 16, test by test.
-use native.Mathlib.Omega.{arith}
-use borrow.Author.Tests.{lt-ltb, lt-leb, le-ltb, le-leb, eq-eqb, ne-eqb, not-true, not-false}
+use borrow.Author.Tests.{lt-ltb, le-ltb, eq-eqb, ne-eqb}
 use Rattle.ceiling.specs.Ceiling.{badRungs}
 use borrow.Author.Needs.{needs}
 use Rattle.ceiling.proofs.bad_rungs.Statement.{statement}
 use Rattle.ceiling.proofs.bad_rungs.Tie as tie
-use Rattle.ceiling.proofs.bad_rungs.Reads as reads
-use Rattle.ceiling.proofs.bad_rungs.Lts as lts
-use Rattle.ceiling.proofs.any_unmarked.Reads as any-unmarked-reads
 
--- src/lib.rt:103:9
 returns : tie.Need-returns
 unfolding badRungs
 returns c = rw (ne-eqb _ _ (c .if1 .taken))
 
--- src/lib.rt:106:9
 returns-2 : tie.Need-returns-2
 unfolding badRungs
 returns-2 c = rw (eq-eqb _ _ (c .before .if1 .left))
     (rw (lt-ltb _ _ (c .if2 .taken)))
 
--- src/lib.rt:109:9
 returns-3 : tie.Need-returns-3
 unfolding badRungs
 returns-3 c = rw (eq-eqb _ _ (c .before .before .if1 .left))
     (rw (le-ltb _ _ (c .before .if2 .left))
     (rw (ne-eqb _ _ (c .if3 .taken))))
 
--- src/lib.rt:111:5
 any-unmarked-requires : tie.Need-any-unmarked-requires
 any-unmarked-requires c κs = search needs
 
--- src/lib.rt:99:1
 returns-4 : tie.Need-returns-4
 unfolding badRungs
 returns-4 c = rw (eq-eqb _ _ (c .before .before .before .if1 .left))

@@ -3,30 +3,19 @@ use Rattle.ceiling.specs.Ceiling.{burstOf}
 use borrow.Author.Needs.{needs}
 use Rattle.ceiling.proofs.burst.Statement.{statement}
 use Rattle.ceiling.proofs.burst.Tie as tie
-use Rattle.ceiling.proofs.burst.Reads as reads
-use Rattle.ceiling.proofs.burst.Lts as lts
-use Rattle.ceiling.proofs.control_edges.Reads as control-edges-reads
-use Rattle.ceiling.proofs.rung_edges.Reads as rung-edges-reads
-use Rattle.layout.proofs.byte_at.Reads as byte-at-reads
-use Rattle.occupancy.proofs.Edges.union.Reads as union-reads
 
--- src/lib.rt:169:9
 rung-edges-requires : tie.Need-rung-edges-requires
 rung-edges-requires c κs = search needs
 
--- src/lib.rt:170:50
 byte-at-requires : tie.Need-byte-at-requires
 byte-at-requires c κs = search needs
 
--- src/lib.rt:170:9
 control-edges-requires : tie.Need-control-edges-requires
 control-edges-requires c κs = search needs
 
--- src/lib.rt:171:5
 union-requires : tie.Need-union-requires
 union-requires c κs = search needs
 
--- src/lib.rt:165:1
 returns : tie.Need-returns
 unfolding burstOf
 returns c = rw (c .union .ensures)

@@ -7,11 +7,6 @@ use Rattle.ceiling.specs.Ceiling.{rungTests}
 use borrow.Author.Needs.{needs}
 use Rattle.ceiling.proofs.ceiling_refusals.Statement.{statement}
 use Rattle.ceiling.proofs.ceiling_refusals.Tie as tie
-use Rattle.ceiling.proofs.ceiling_refusals.Reads as reads
-use Rattle.ceiling.proofs.ceiling_refusals.Lts as lts
-use Rattle.ceiling.proofs.bad_edges.Reads as bad-edges-reads
-use Rattle.ceiling.proofs.bad_rungs.Reads as bad-rungs-reads
-use Rattle.entry.proofs.admit.Reads as admit-reads
 
 -- what the front of the call said
 said :
@@ -20,23 +15,18 @@ said :
 unfolding entryOf
 said c = sym (c .admit .ensures)
 
--- src/lib.rt:126:11
 admit-requires : tie.Need-admit-requires
 admit-requires c κs = search needs
 
--- src/lib.rt:127:26
 enum-known-n : tie.Need-enum-known-n
 enum-known-n c = search needs
 
--- src/lib.rt:129:16
 enum-told : tie.Need-enum-told
 enum-told c = search needs
 
--- src/lib.rt:129:16
 bad-edges-requires : tie.Need-bad-edges-requires
 bad-edges-requires c κs = search needs
 
--- src/lib.rt:130:17
 returns : tie.Need-returns
 returns c =
     let a = c .before .before .before .before .before .before .before .before .args in
@@ -45,11 +35,9 @@ returns c =
     (said (c .before .before .before .before) ∙ c .before .before .enum-told .given .1)
     ∙ rw (← c .before .bad-edges .ensures) (rw (c .if1 .taken)))
 
--- src/lib.rt:132:16
 bad-rungs-requires : tie.Need-bad-rungs-requires
 bad-rungs-requires c κs = search needs
 
--- src/lib.rt:133:17
 returns-2 : tie.Need-returns-2
 returns-2 c =
     let a = c .before .before .before .before .before .before .before .before .before .before .args in
@@ -60,7 +48,6 @@ returns-2 c =
     (rw (c .before .before .if1 .left)
     (rw (← c .before .bad-rungs .ensures) (rw (c .if2 .taken)))))
 
--- src/lib.rt:115:1
 returns-3 : tie.Need-returns-3
 returns-3 c =
     let a = c .before .before .before .before .before .before .before .args in
@@ -68,7 +55,6 @@ returns-3 c =
     (refusal-stays (entryTests (a .r) (directionValid (a .direction)) (a .image .now)) (rungTests (a .ordinary) (a .floor) (a .rungs .now) (a .floors .now)) _
     (said (c .before .before .before) ∙ c .before .n .given .1))
 
--- src/lib.rt:115:1
 returns-4 : tie.Need-returns-4
 returns-4 c =
     let a = c .before .before .before .before .before .before .before .before .before .before .args in

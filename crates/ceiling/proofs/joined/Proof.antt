@@ -2,27 +2,19 @@
 use borrow.Author.Needs.{needs}
 use Rattle.ceiling.proofs.joined.Statement.{statement}
 use Rattle.ceiling.proofs.joined.Tie as tie
-use Rattle.ceiling.proofs.joined.Reads as reads
-use Rattle.ceiling.proofs.joined.Lts as lts
-use Rattle.occupancy.proofs.Edges.union.Reads as union-reads
 
--- src/lib.rt:179:27
 enum-known-envelope : tie.Need-enum-known-envelope
 enum-known-envelope c = search needs
 
--- src/lib.rt:179:33
 union-requires : tie.Need-union-requires
 union-requires c κs = search needs
 
--- src/lib.rt:180:32
 enum-told : tie.Need-enum-told
 enum-told c = search needs
 
--- src/lib.rt:175:1
 returns : tie.Need-returns
 returns c = rw (c .union .ensures) (rw (c .before .before .envelope .given .1))
 
--- src/lib.rt:175:1
 returns-2 : tie.Need-returns-2
 returns-2 c = search needs
 

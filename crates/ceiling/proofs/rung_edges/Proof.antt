@@ -3,48 +3,34 @@ use Rattle.ceiling.specs.Ceiling.{rungOf}
 use borrow.Author.Needs.{needs}
 use Rattle.ceiling.proofs.rung_edges.Statement.{statement}
 use Rattle.ceiling.proofs.rung_edges.Tie as tie
-use Rattle.ceiling.proofs.rung_edges.Reads as reads
-use Rattle.ceiling.proofs.rung_edges.Lts as lts
-use Rattle.ceiling.proofs.figure_at.Reads as figure-at-reads
-use Rattle.entry.proofs.edges_read.Reads as edges-read-reads
 
--- src/lib.rt:145:14
 mul-at : tie.Need-mul-at
 mul-at c = search needs
 
--- src/lib.rt:147:17
 figure-at-requires : tie.Need-figure-at-requires
 figure-at-requires c κs = search needs
 
--- src/lib.rt:148:35
 add-figure-at : tie.Need-add-figure-at
 add-figure-at c = search needs
 
--- src/lib.rt:148:18
 figure-at-requires-2 : tie.Need-figure-at-requires-2
 figure-at-requires-2 c κs = search needs
 
--- src/lib.rt:151:34
 add-figure-at-2 : tie.Need-add-figure-at-2
 add-figure-at-2 c = search needs
 
--- src/lib.rt:151:17
 figure-at-requires-3 : tie.Need-figure-at-requires-3
 figure-at-requires-3 c κs = search needs
 
--- src/lib.rt:152:35
 add-figure-at-3 : tie.Need-add-figure-at-3
 add-figure-at-3 c = search needs
 
--- src/lib.rt:152:18
 figure-at-requires-4 : tie.Need-figure-at-requires-4
 figure-at-requires-4 c κs = search needs
 
--- src/lib.rt:154:5
 edges-read-requires : tie.Need-edges-read-requires
 edges-read-requires c κs = search needs
 
--- src/lib.rt:141:1
 returns : tie.Need-returns
 unfolding rungOf
 returns c = rw (c .edges-read .ensures)
