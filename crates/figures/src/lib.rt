@@ -80,10 +80,7 @@ pub fn read_hz(x: f64) -> f64
 pub fn figure(bits: u64) -> f64
     ensures { λ r. ⌜ r ≡ figureOf bits ⌝ }
 {
-    if bits % 0x8000_0000_0000_0000 / 0x10_0000_0000_0000 == 2047 {
-        if bits % 0x10_0000_0000_0000 == 0 {
-            return f64::from_bits(bits);
-        }
+    if bits % 0x8000_0000_0000_0000 > 0x7ff0_0000_0000_0000 {
         return 0.0 / 0.0;
     }
     f64::from_bits(bits)

@@ -7,8 +7,10 @@ use scan::Found;
 ghost use mathlib.Core.Path.{_≡_};
 ghost use Prim.Native.Nat.{_+_, _*_, _≤_, _<_};
 ghost use lib.ListN.{length};
-ghost use Rattle.scan.specs.First.{first, some};
+ghost use Rattle.scan.specs.First.{first, some, isAt};
+ghost use mathlib.Core.Bool.{false};
 ghost use Rattle.layout.specs.Form.{Whole};
+ghost use Rattle.find.specs.Home.{heldBy};
 ghost use Rattle.find.specs.Question.{soundBits, soundRecord, noLimit, asks, asksAt, firstIn, someIn, pickIn, homeQuestion, homelessOf};
 
 // What is asked of a record.
@@ -85,8 +87,72 @@ pub fn answers(q: Question, r: Record) -> bool
     }
 }
 
-// The first of the count records from a place on that a question fits.
-pub fn find_from(s: &[u8], start: usize, count: usize, q: Question) -> Found
+// The questions that judging asks most, each with a loop of its own that reads no more than it needs.
+fn holding(r: Record, a: Range) -> bool
+    ensures { λ x. ⌜ x ≡ asks (Question.Holds a) r ⌝ }
+{
+    table::span_of(r).holds(a)
+}
+
+fn overlapping(r: Record, a: Range) -> bool
+    ensures { λ x. ⌜ x ≡ asks (Question.Overlaps a) r ⌝ }
+{
+    table::span_of(r).overlaps(a)
+}
+
+fn class_holding(r: Record, n: u8, a: Range) -> bool
+    ensures { λ x. ⌜ x ≡ asks (Question.ClassHolds n a) r ⌝ }
+{
+    r.class == n && table::span_of(r).holds(a)
+}
+
+// The first that holds a range.
+fn find_holding(s: &[u8], start: usize, count: usize, a: Range) -> Found
+    requires { ⌜ start + 32 * count ≤ length (now s) ⌝ }
+    ensures { λ r. ⌜ r ≡ first (asksAt (now (s .entry)) start (Question.Holds a)) count ⌝ }
+{
+    let mut i: usize = 0;
+    while i < count {
+        if holding(layout::record_at(s, start + layout::RECORD_SIZE * i), a) {
+            return Found::At(i);
+        }
+        i += 1;
+    }
+    Found::Nothing
+}
+
+// The first that touches a range.
+fn find_overlapping(s: &[u8], start: usize, count: usize, a: Range) -> Found
+    requires { ⌜ start + 32 * count ≤ length (now s) ⌝ }
+    ensures { λ r. ⌜ r ≡ first (asksAt (now (s .entry)) start (Question.Overlaps a)) count ⌝ }
+{
+    let mut i: usize = 0;
+    while i < count {
+        if overlapping(layout::record_at(s, start + layout::RECORD_SIZE * i), a) {
+            return Found::At(i);
+        }
+        i += 1;
+    }
+    Found::Nothing
+}
+
+// The first of a class that holds a range.
+fn find_class(s: &[u8], start: usize, count: usize, n: u8, a: Range) -> Found
+    requires { ⌜ start + 32 * count ≤ length (now s) ⌝ }
+    ensures { λ r. ⌜ r ≡ first (asksAt (now (s .entry)) start (Question.ClassHolds n a)) count ⌝ }
+{
+    let mut i: usize = 0;
+    while i < count {
+        if class_holding(layout::record_at(s, start + layout::RECORD_SIZE * i), n, a) {
+            return Found::At(i);
+        }
+        i += 1;
+    }
+    Found::Nothing
+}
+
+// The first that any question fits.
+fn find_any(s: &[u8], start: usize, count: usize, q: Question) -> Found
     requires { ⌜ start + 32 * count ≤ length (now s) ⌝ }
     ensures { λ r. ⌜ r ≡ first (asksAt (now (s .entry)) start q) count ⌝ }
 {
@@ -98,6 +164,19 @@ pub fn find_from(s: &[u8], start: usize, count: usize, q: Question) -> Found
         i += 1;
     }
     Found::Nothing
+}
+
+// The first of the count records from a place on that a question fits.
+pub fn find_from(s: &[u8], start: usize, count: usize, q: Question) -> Found
+    requires { ⌜ start + 32 * count ≤ length (now s) ⌝ }
+    ensures { λ r. ⌜ r ≡ first (asksAt (now (s .entry)) start q) count ⌝ }
+{
+    match q {
+        Question::Holds(a) => find_holding(s, start, count, a),
+        Question::Overlaps(a) => find_overlapping(s, start, count, a),
+        Question::ClassHolds(n, a) => find_class(s, start, count, n, a),
+        _ => find_any(s, start, count, q),
+    }
 }
 
 // The first record of table t that a question fits.
@@ -155,6 +234,59 @@ pub fn homeless(s: &[u8], own: bool) -> bool
         let r = layout::record_at(s, start + layout::RECORD_SIZE * i);
         if !some_in(s, layout::BANDS, home_question(own, r)) {
             return true;
+        }
+        i += 1;
+    }
+    false
+}
+
+// Whether band j, where there is one, holds a range.
+fn held_by(s: &[u8], j: usize, a: Range) -> bool
+    requires { ⌜ Whole (now s) ⌝ }
+    ensures { λ x. ⌜ x ≡ heldBy (now (s .entry)) a j ⌝ }
+{
+    let count = layout::count_of(s, layout::BANDS) as usize;
+    if j < count {
+        return holding(table::record_of(s, layout::BANDS, j), a);
+    }
+    false
+}
+
+// A band that holds a range: band near, the next one, or else the first of all. Segments mostly stand in the bands' order.
+fn home_near(s: &[u8], near: usize, a: Range) -> Found
+    requires { ⌜ Whole (now s) ⌝ }
+    ensures { λ f. ⌜ isAt f ≡ someIn (now (s .entry)) 0 (Question.Holds a) ⌝ }
+{
+    if held_by(s, near, a) {
+        return Found::At(near);
+    }
+    if near < 256 {
+        let next = near + 1;
+        if held_by(s, next, a) {
+            return Found::At(next);
+        }
+    }
+    find_in(s, layout::BANDS, Question::Holds(a))
+}
+
+// Whether a data segment lies in no band, of whatever number.
+pub fn is_homeless(s: &[u8]) -> bool
+    requires { ⌜ Whole (now s) ⌝ }
+    ensures { λ r. ⌜ r ≡ homelessOf (now (s .entry)) false ⌝ }
+{
+    let start = layout::start_of(s, layout::SEGMENTS);
+    let count = layout::count_of(s, layout::SEGMENTS) as usize;
+    let mut near: usize = 0;
+    let mut i: usize = 0;
+    while i < count {
+        let r = layout::record_at(s, start + layout::RECORD_SIZE * i);
+        match home_near(s, near, table::span_of(r)) {
+            Found::At(k) => {
+                near = k;
+            }
+            Found::Nothing => {
+                return true;
+            }
         }
         i += 1;
     }

@@ -1,4 +1,4 @@
-// The image check: refusals 1 to 14, in their order. A public call. It uses figures, codes, scan, layout, coded and find.
+// The image check: refusals 1 to 14, in their order. A public call. It uses figures, codes, scan, layout, coded, find and plain.
 use codes::Checked;
 use find::Question;
 use layout::General;
@@ -9,6 +9,7 @@ ghost use lib.ListN.{length};
 ghost use Rattle.codes.specs.Refusal.{refusalOf};
 ghost use Rattle.layout.specs.Form.{Whole};
 ghost use Rattle.image.specs.Check.{codedBlock, miscoded, soundBlock, unsound, bare, unlimited, contentTests, checkOf};
+ghost use Rattle.image.specs.Short.{plainImage, leftTests};
 
 // The general block's codes, with the counts of the tables whose part may be absent.
 fn coded_block(s: &[u8]) -> bool
@@ -80,8 +81,8 @@ fn is_unlimited(g: General) -> bool
     figures::figure(g.data_limit) <= 0.0
 }
 
-// Refusals 5 to 14 of a whole image.
-fn content(s: &[u8]) -> Checked
+// Refusals 5 to 14 of a whole image, test by test.
+fn in_order(s: &[u8]) -> Checked
     requires { ⌜ Whole (now s) ⌝ }
     ensures { λ r. ⌜ r ≡ refusalOf (contentTests (now (s .entry))) ⌝ }
 {
@@ -116,6 +117,42 @@ fn content(s: &[u8]) -> Checked
         return Checked::Refused(14);
     }
     Checked::Accepted
+}
+
+// The general block is coded and sound, and every record is plain.
+fn is_plain(s: &[u8]) -> bool
+    requires { ⌜ Whole (now s) ⌝ }
+    ensures { λ r. ⌜ r ≡ plainImage (now (s .entry)) ⌝ }
+{
+    coded_block(s) && (sound_block(layout::general_of(s)) && !plain::is_rough(s))
+}
+
+// The refusals that are left of a plain image.
+fn left(s: &[u8]) -> Checked
+    requires { ⌜ Whole (now s) ⌝ }
+    ensures { λ r. ⌜ r ≡ refusalOf (leftTests (now (s .entry))) ⌝ }
+{
+    if is_bare(s) {
+        return Checked::Refused(11);
+    }
+    if find::is_homeless(s) {
+        return Checked::Refused(12);
+    }
+    if is_unlimited(layout::general_of(s)) {
+        return Checked::Refused(14);
+    }
+    Checked::Accepted
+}
+
+// Refusals 5 to 14 of a whole image. A plain one, as most are, is visited once.
+fn content(s: &[u8]) -> Checked
+    requires { ⌜ Whole (now s) ⌝ }
+    ensures { λ r. ⌜ r ≡ refusalOf (contentTests (now (s .entry))) ⌝ }
+{
+    if is_plain(s) {
+        return left(s);
+    }
+    in_order(s)
 }
 
 // Whether an image is accepted, or the first refusal of 1 to 14.

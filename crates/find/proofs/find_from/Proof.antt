@@ -1,65 +1,56 @@
--- `find::find_from` meets its contract: on each way to a return, the tests and what the calls ensure say which case of the definition holds.
-use Prim.Native.Nat.{_-_}
+-- `find::find_from` meets its contract. Each arm by its loop.
 use borrow.Author.Needs.{needs}
-use Rattle.scan.specs.First.{Passed, passed-none, passed-step, found-here, found-none}
-use Rattle.find.specs.Question.{asksAt}
-use native.Mathlib.Omega.{arith}
 use Rattle.find.proofs.find_from.Statement.{statement}
 use Rattle.find.proofs.find_from.Tie as tie
 
-abbrev Inv-loop : tie.InvT-loop
-Inv-loop s start count q i₀ i = Passed (asksAt s start q) count i
+enum-known-q : tie.Need-enum-known-q
+enum-known-q c = search needs
 
-abbrev μ-loop : tie.MeasureT-loop
-μ-loop s start count q i₀ i = count - i
+find-holding-requires : tie.Need-find-holding-requires
+find-holding-requires c κs = search needs
 
-loop-holds : tie.Need-loop-holds Inv-loop μ-loop
-loop-holds c = passed-none _ _
+enum-known-q-2 : tie.Need-enum-known-q-2
+enum-known-q-2 c = search needs
 
-mul-record-at : tie.Need-mul-record-at Inv-loop μ-loop
-mul-record-at c = omega arith
+find-overlapping-requires : tie.Need-find-overlapping-requires
+find-overlapping-requires c κs = search needs
 
-add-record-at : tie.Need-add-record-at Inv-loop μ-loop
-add-record-at c = omega arith
+enum-known-q-3 : tie.Need-enum-known-q-3
+enum-known-q-3 c = search needs
 
-record-at-requires : tie.Need-record-at-requires Inv-loop μ-loop
-record-at-requires c κs = omega arith
+find-class-requires : tie.Need-find-class-requires
+find-class-requires c κs = search needs
 
-answers-requires : tie.Need-answers-requires Inv-loop μ-loop
-answers-requires c κs = search needs
+find-any-requires : tie.Need-find-any-requires
+find-any-requires c κs = search needs
 
-returns : tie.Need-returns Inv-loop μ-loop
+returns : tie.Need-returns
 returns c =
-    found-here _ _ _ (c .before .before .before .loop-test .taken) (c .before .before .before .before .loop .inv)
-    (rw (← c .before .before .record-at .ensures) (rw (← c .before .answers .ensures) (c .if1 .taken)))
+    rw (c .before .before .q .given .1) (c .find-holding .ensures)
 
-add-i : tie.Need-add-i Inv-loop μ-loop
-add-i c = omega arith
+returns-2 : tie.Need-returns-2
+returns-2 c =
+    rw (c .before .before .q2 .given .1) (c .find-overlapping .ensures)
 
-loop-less : tie.Need-loop-less Inv-loop μ-loop
-loop-less c = omega arith
+returns-3 : tie.Need-returns-3
+returns-3 c =
+    rw (c .before .before .q3 .given .1) (c .find-class .ensures)
 
-loop-again : tie.Need-loop-again Inv-loop μ-loop
-loop-again c =
-    passed-step _ _ _ (c .before .before .before .loop-test .taken) (c .before .before .before .before .loop .inv)
-    (rw (← c .before .before .record-at .ensures) (rw (← c .before .answers .ensures) (c .if1 .left)))
-
-returns-2 : tie.Need-returns-2 Inv-loop μ-loop
-returns-2 c = found-none _ _ _ (c .loop-test .left) (c .before .loop .inv)
+returns-4 : tie.Need-returns-4
+returns-4 c = search needs
 
 pub find-from-spec : {M : Type 1} → statement M
 find-from-spec =
     tie.close
     (tie.spec
-    Inv-loop
-    μ-loop
-    loop-holds
-    mul-record-at
-    add-record-at
-    record-at-requires
-    answers-requires
+    enum-known-q
+    find-holding-requires
+    enum-known-q-2
+    find-overlapping-requires
+    enum-known-q-3
+    find-class-requires
+    find-any-requires
     returns
-    add-i
-    loop-less
-    loop-again
-    returns-2)
+    returns-2
+    returns-3
+    returns-4)

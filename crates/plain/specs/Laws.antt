@@ -1,0 +1,138 @@
+-- Where no record is rough, none of the tests 5 to 10 and 13 that go record by record fails.
+use Prim.Native.Nat.{ℕ, zero, suc, _+_, _*_, _-_, _≤_, _<_}
+use mathlib.Core.Path.{_≡_, refl, sym, ap, subst, _∙_}
+use mathlib.Core.Bool.{Bool, true, false, not, cond, _&&_, true≢false, false≢true}
+use mathlib.Core.List.{List}
+use native.Mathlib.Omega.{arith}
+use native.Mathlib.Decide.{decLe}
+use lib.Dec.{eqb, leb, ltb}
+use lib.Ieee.{lt, le}
+use borrow.Author.Tests.{leb-true, ltb-true, ne-eqb, not-false}
+use Rattle.figures.specs.Figure.{zeroHz, figureOf, limit40, inSize}
+use Rattle.bit_order.specs.Order.{limitBits, bits-lt, bits-le-not, bits-sized}
+use Rattle.codes.specs.Code.{bitOf}
+use Rattle.layout.specs.Layout.{generalSize, recordSize, bands, segments, privileges, automatic, tables, countOf, recordOf, recordAt, recordsBefore}
+use Rattle.layout.specs.declared.Record.{Record}
+use Rattle.coded.specs.Coded.{codedOf}
+use Rattle.scan.specs.First.{first, some, isAt, first-at, some-false}
+use Rattle.scan.specs.declared.Found.{Found}
+use Rattle.scan.specs.declared.Found.the-variants.{At, Nothing}
+use Rattle.find.specs.Question.{soundBits, soundRecord, asks, asksAt, someIn}
+use Rattle.find.specs.declared.Question.{Question}
+use Rattle.find.specs.declared.Question.the-variants.{Miscoded, Unsound, NotLengthy, NoLimit}
+use Rattle.plain.specs.Plain.{sizedOf, longer, longOf, limitedOf, plainOf, roughAt, roughIn, isRough}
+
+-- ---- small things
+
+and-true : (a b : Bool) → (a && b) ≡ true → (a ≡ true) × (b ≡ true)
+and-true true b e = (refl, e)
+and-true false b e = absurd (false≢true e)
+
+-- no index passes: there is none
+some-all : (test : ℕ → Bool) (n : ℕ) → ((i : ℕ) → i < n → test i ≡ false) → some test n ≡ false
+some-all test n h = go (first test n) refl
+  where
+    go : (f : Found) → first test n ≡ f → isAt f ≡ false
+    go (At i) p = let r = first-at test n i p in absurd (true≢false (sym (r .passes) ∙ h i (r .below)))
+    go Nothing p = refl
+
+-- ---- one record
+
+sound-plain : (b : ℕ) → b ≤ limitBits → soundBits b ≡ true
+unfolding soundBits
+sound-plain b h = rw (bits-sized b h) (rw (ne-eqb b 0x8000_0000_0000_0000 (λ e. omega arith)))
+
+record Parts (t : ℕ) (r : Record) : Type 0 where
+  low-le : r .low ≤ limitBits
+  high-le : r .high ≤ limitBits
+  figure-le : r .figure ≤ limitBits
+  long : longOf t r ≡ true
+  limited : limitedOf t r ≡ true
+  coded : codedOf t r ≡ true
+
+parts : (t : ℕ) (r : Record) → plainOf t r ≡ true → Parts t r
+unfolding plainOf sizedOf
+parts t r e =
+    let a = and-true _ _ e in
+    let b = and-true _ _ (a .1) in
+    let c = and-true _ _ (b .1) in
+    let s = and-true _ _ (a .0) in
+    let s2 = and-true _ _ (s .1) in
+    record {
+      low-le = leb-true _ _ (s .0);
+      high-le = leb-true _ _ (s2 .0);
+      figure-le = leb-true _ _ (s2 .1);
+      long = b .0;
+      limited = c .0;
+      coded = c .1;
+    }
+
+plain-coded : (t : ℕ) (r : Record) → plainOf t r ≡ true → asks (Miscoded t) r ≡ false
+unfolding asks
+plain-coded t r e = ap not (parts t r e .coded)
+
+plain-sound : (t : ℕ) (r : Record) → plainOf t r ≡ true → asks Unsound r ≡ false
+unfolding asks soundRecord
+plain-sound t r e =
+    let p = parts t r e in
+    rw (sound-plain (r .low) (p .low-le)) (rw (sound-plain (r .high) (p .high-le)) (rw (sound-plain (r .figure) (p .figure-le))))
+
+long-lengthy : (r : Record) → longer r ≡ true → r .high ≤ limitBits → asks NotLengthy r ≡ false
+unfolding asks
+long-lengthy r e h = rw (bits-lt (r .low) (r .high) (ltb-true _ _ e) h)
+
+plain-lengthy : (t : ℕ) (r : Record) → longOf t r ≡ longer r → plainOf t r ≡ true → asks NotLengthy r ≡ false
+plain-lengthy t r l e = let p = parts t r e in long-lengthy r (sym l ∙ p .long) (p .high-le)
+
+limited-by : (r : Record) (b : Bool) → bitOf (r .flags) 0 ≡ b → limitedOf segments r ≡ true → r .figure ≤ limitBits → asks NoLimit r ≡ false
+unfolding asks limitedOf
+limited-by r true e l h = rw e (bits-le-not 0 (r .figure) (ltb-true 0 (r .figure) (rw e at l)) h)
+limited-by r false e l h = rw e
+
+plain-limited : (r : Record) → plainOf segments r ≡ true → asks NoLimit r ≡ false
+plain-limited r e = let p = parts segments r e in limited-by r (bitOf (r .flags) 0) refl (p .limited) (p .figure-le)
+
+-- ---- the whole image
+
+module _ (l : List ℕ) (smooth : isRough l ≡ false) where
+  plain-at : (t i : ℕ) → t < tables → i < countOf l t → plainOf t (recordOf l t i) ≡ true
+  unfolding isRough roughIn
+  plain-at t i h k = not-false (plainOf t (recordOf l t i)) (some-false (roughAt l t) (countOf l t) (some-false (roughIn l) tables smooth t h) i k)
+
+  -- a test that no plain record of table t passes
+  none-in : (t : ℕ) (q : Question) → t < tables → ((r : Record) → plainOf t r ≡ true → asks q r ≡ false) → someIn l t q ≡ false
+  none-in t q h f = some-all (λ i. asks q (recordOf l t i)) (countOf l t) (λ i k. f (recordOf l t i) (plain-at t i h k))
+
+  pub none-miscoded : some (λ t. someIn l t (Miscoded t)) tables ≡ false
+  none-miscoded = some-all (λ t. someIn l t (Miscoded t)) tables (λ t h. none-in t (Miscoded t) h (plain-coded t))
+
+  pub bands-lengthy : someIn l bands NotLengthy ≡ false
+  bands-lengthy = none-in bands NotLengthy (omega arith) (λ r. plain-lengthy bands r (unfold longOf in refl))
+
+  pub segments-lengthy : someIn l segments NotLengthy ≡ false
+  segments-lengthy = none-in segments NotLengthy (omega arith) (λ r. plain-lengthy segments r (unfold longOf in refl))
+
+  pub automatic-lengthy : someIn l automatic NotLengthy ≡ false
+  automatic-lengthy = none-in automatic NotLengthy (omega arith) (λ r. plain-lengthy automatic r (unfold longOf in refl))
+
+  pub privileges-lengthy : someIn l privileges NotLengthy ≡ false
+  privileges-lengthy = none-in privileges NotLengthy (omega arith) (λ r. plain-lengthy privileges r (unfold longOf in refl))
+
+  pub segments-limited : someIn l segments NoLimit ≡ false
+  segments-limited = none-in segments NoLimit (omega arith) plain-limited
+
+  -- the records of the first t tables, one after the other
+  sound-before : (t : ℕ) → t ≤ tables → (i : ℕ) → i < recordsBefore l t → asksAt l generalSize Unsound i ≡ false
+  unfolding recordsBefore
+  sound-before zero h i k = absurd (omega arith)
+  sound-before (suc t) h i k = go (sound-before t (omega arith) i) (decLe (suc i) (recordsBefore l t))
+    where
+      go : (i < recordsBefore l t → asksAt l generalSize Unsound i ≡ false) → Dec (suc i ≤ recordsBefore l t) → asksAt l generalSize Unsound i ≡ false
+      go before (yes e) = before e
+      go before (no e) =
+          let p : generalSize + recordSize * recordsBefore l t + recordSize * (i - recordsBefore l t) ≡ generalSize + recordSize * i = omega arith in
+          subst (λ (n : ℕ). asks Unsound (recordAt l n) ≡ false) p
+          (plain-sound t (recordOf l t (i - recordsBefore l t)) (plain-at t (i - recordsBefore l t) (omega arith) (omega arith)))
+
+  pub none-unsound : some (asksAt l generalSize Unsound) (recordsBefore l tables) ≡ false
+  none-unsound = some-all (asksAt l generalSize Unsound) (recordsBefore l tables) (sound-before tables (omega arith))
