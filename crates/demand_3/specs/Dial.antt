@@ -1,21 +1,21 @@
 -- On the grid of eighths every sum is exact: a dial lies between the ends of a piece's dial range exactly if the piece holds the guarded
 -- signal at that dial, on either sideband and for margins of either sign.
 use Prim.Native.Nat.{ℕ, _+_, _*_, _≤_, _^_}
-use mathlib.Core.Bool.{Bool, true}
-use mathlib.Core.Path.{_≡_, refl}
+use mathlib.Core.Bool.{true}
+use mathlib.Core.Path.{_≡_}
 use native.Mathlib.Omega.{arith}
-use lib.Ieee.{Float, binary64, add, lt, le}
+use lib.Ieee.{Float, lt, le}
 use Rattle.figures.specs.Figure.{zeroHz}
 use Rattle.codes.specs.declared.Sideband.{Sideband}
 use Rattle.codes.specs.declared.Sideband.the-variants.{Usb, Lsb}
-use Rattle.profile.specs.Range.{range, lengthy}
+use Rattle.profile.specs.Range.{lengthy}
 use Rattle.profile.specs.declared.Range.{Range}
-use Rattle.air.specs.Air.{rfRangeOf, guardedOf, widthOf, dialEndsOf}
+use Rattle.air.specs.Air.{rfRangeOf, guardedOf, dialEndsOf}
 use Rattle.eighths.specs.Grid.{Figure, Eighths, plusEighths, minusEighths}
 use Rattle.eighths.specs.Laws.{zero-eighths, add-eighths, le-eighths}
 use Rattle.exact.specs.Air.{guarded-usb-low, guarded-usb-high, guarded-lsb-low, guarded-lsb-high, width, dial-usb-low, dial-usb-high, dial-lsb-low, dial-lsb-high}
 use Rattle.demand_3.specs.Words.{guardedWidth}
-use Rattle.demand_3.specs.Order.{Grid, grid, lt-true, lt-of, Ends, Figures}
+use Rattle.demand_3.specs.Order.{grid, lt-true, lt-of, Ends, Figures}
 
 -- Two comparisons of figures that differ by the same number of eighths are one.
 same-le :

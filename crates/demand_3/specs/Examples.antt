@@ -3,8 +3,9 @@
 use Prim.Native.Nat.{ℕ}
 use mathlib.Core.Bool.{Bool, true, false, not, false≢true}
 use mathlib.Core.List.{List, [], _∷_, _++_}
-use mathlib.Core.Path.{_≡_, refl, sym, ap, _∙_}
-use lib.ListN.{length, replicate, getD}
+use mathlib.Core.Path.{_≡_, refl, ap}
+use borrow.Author.Tests.{not-true}
+use lib.ListN.{replicate, getD}
 use lib.Ieee.{Float, binary64, ofBits, toBits, lt, le, eq, ne, neg, add, sub, mul, div}
 use Rattle.scan.specs.First.{firstFrom}
 use Rattle.codes.specs.Refusal.{refusalOf}
@@ -26,9 +27,9 @@ use Rattle.occupancy.specs.declared.Edges.{Edges}
 use Rattle.decision.specs.Decision.{noAdvice, finishOf, simpleOf, refusedOf}
 use Rattle.part97.specs.Part97.{draftOf, draftInside, draftAutomatic, privilegedOf, noted, notesUpTo, anyNote, planSays, wantsPlan, guidanceOf, adviceOf, adviceWarns, advised, automaticElsewhere, automaticData, considered, nearestUpTo, overshootOf, outsideSegments, insideSegment, judgeData, allowedOnSixty, sixtyChannel, sixtySegment, sixtyPlace, sixtyEmission, sixtyKind, sixty, judgeOnBand, judgeInBand, touching, judge}
 use Rattle.verdict.specs.Verdict.{airOf, signalOf, caseOf, ruledOf, underRulesOf, unruledOf, decideOf, evaluateOf}
-use Rattle.dials.specs.List.{situationRows, listRows, listTests, answerOf, bytesOf, Listed, SafeDials}
+use Rattle.dials.specs.List.{situationRows, listRows, listTests, answerOf, bytesOf, SafeDials}
 use Rattle.dials.specs.declared.DialList.{DialList}
-use Rattle.dials.specs.declared.DialList.the-variants.{Rows, Refused as NoList}
+use Rattle.dials.specs.declared.DialList.the-variants.{Rows}
 use Rattle.dial_rows.specs.Dials.{requestOf, pieceRows, automaticRows, cutRows, privilegeRows, privilegesRows, segmentRows, dataRows, channelFound, channelRow, channelRows, openRows, rowsOf}
 use Rattle.rows.specs.Rows.{insertRow, insertAll, little, figuresOf, encodeRow, encodeAll}
 use Rattle.rows.specs.Each.{each}
@@ -36,7 +37,7 @@ use Rattle.eighths.specs.Grid.{inEighths}
 use Rattle.distance.specs.Distance.{isOutside, consideredAt, leastUpTo, distanceOf}
 use Rattle.distance.specs.declared.Distance.{Distance}
 use Rattle.distance.specs.declared.Distance.the-variants.{Hertz, NoneListed}
-use Rattle.demand_3.specs.Words.{recordInEighths, blockInEighths, imageInEighths, edgesInEighths, stationInEighths, hertzInEighths, tuned, accepted, inForce, prerequisitesMet, guardedWidth, positiveWidth, channelBandHolds, onChannelBand, verdictAt, allows, distanceAt, Premises, Demand3}
+use Rattle.demand_3.specs.Words.{recordInEighths, blockInEighths, imageInEighths, edgesInEighths, stationInEighths, hertzInEighths, tuned, accepted, inForce, prerequisitesMet, guardedWidth, positiveWidth, channelBandHolds, onChannelBand, verdictAt, allows, distanceAt, Demand3}
 use Rattle.demand_3.specs.Theorem.{demand-3}
 
 -- ---- small tables, put together field by field
@@ -165,10 +166,6 @@ accepted-yes : (c : Checked) → accepted c ≡ true → c ≡ Accepted
 accepted-yes Accepted e = refl
 accepted-yes (Refused n) e = absurd (false≢true e)
 
-not-yes : (b : Bool) → not b ≡ true → b ≡ false
-not-yes true e = absurd (false≢true e)
-not-yes false e = refl
-
 -- So the statement holds of such an input.
 holds : (r : StationRecord) (e : Edges) (l : List ℕ) (dial : Float) (count : ℕ) (distance : Distance) (allowed : Bool) → Outcome r e l dial count all distance allowed → Demand3 r 0 e l count (left r e l) dial
 holds r e l dial count distance allowed o =
@@ -181,7 +178,7 @@ holds r e l dial count distance allowed o =
       width = ap (at 4) (o .premises-are);
       fitted = o .fitted;
       not-refused = accepted-yes (verdictAt r 0 e l dial .refusal) (ap (at 5) (o .premises-are));
-      off-channels = not-yes (onChannelBand r e l dial) (ap (at 6) (o .premises-are));
+      off-channels = not-true (onChannelBand r e l dial) (ap (at 6) (o .premises-are));
     })
 
 -- ---- the inputs

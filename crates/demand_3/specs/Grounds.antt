@@ -1,17 +1,16 @@
 -- From the premises to the grid: every figure that list and verdict add or compare is in eighths and at most 2^40 in size.
 use Prim.Native.Nat.{ℕ, _+_, _*_, _<_, _≤_, _^_}
-use mathlib.Core.Bool.{Bool, true, false, not, cond, _&&_, _||_, true≢false, false≢true}
+use mathlib.Core.Bool.{Bool, true, false, not, cond, _&&_, _||_, true≢false}
 use mathlib.Core.List.{List}
-use mathlib.Core.Path.{_≡_, refl, sym, ap, subst, _∙_}
+use mathlib.Core.Path.{_≡_, refl, sym, subst, _∙_}
 use native.Mathlib.Omega.{arith}
 use lib.Dec.{eqb}
-use borrow.Author.Tests.{eqb-true}
-use lib.Ieee.{Float, binary64, ofBits, neg, add, sub, lt, le, eq, ne}
-use Rattle.figures.specs.Figure.{zeroHz, limit40, absOf, inSize, readHz, figureOf, minOf, maxOf}
+use borrow.Author.Tests.{eqb-true, not-true, not-false}
+use lib.Ieee.{Float, ofBits, neg, lt, le, eq}
+use Rattle.figures.specs.Figure.{zeroHz, limit40, inSize, readHz, figureOf, minOf, maxOf}
 use Rattle.codes.specs.Code.{bitOf}
-use Rattle.codes.specs.Refusal.{refusalOf, none-fails, refusal-both}
+use Rattle.codes.specs.Refusal.{none-fails, refusal-both}
 use Rattle.codes.specs.declared.Checked.the-variants.{Accepted}
-use Rattle.profile.specs.Range.{range}
 use Rattle.profile.specs.declared.Range.{Range}
 use Rattle.occupancy.specs.Edges.{rangeOf}
 use Rattle.occupancy.specs.declared.Edges.{Edges}
@@ -22,8 +21,7 @@ use Rattle.scan.specs.First.{some, some-false}
 use Rattle.layout.specs.Form.{Whole, formTests, table-within}
 use Rattle.layout.specs.Layout.{tables, power, generalSize, recordSize, recordsBefore, recordAt, startOf, generalOf, recordOf, countOf}
 use Rattle.layout.specs.declared.General.{General}
-use Rattle.layout.specs.declared.Record.{Record}
-use Rattle.table.specs.Parts.{spanOf, elsewhereOf, readingOf}
+use Rattle.table.specs.Parts.{elsewhereOf}
 use Rattle.table.specs.declared.ElsewhereRule.the-variants.{Under, Nowhere}
 use Rattle.find.specs.Question.{asks, asksAt, soundBits, soundRecord}
 use Rattle.find.specs.declared.Question.the-variants.{Unsound}
@@ -33,7 +31,8 @@ use Rattle.eighths.specs.Grid.{Figure, Eighths, inEighths}
 use Rattle.eighths.specs.Laws.{eighths-of, in-eighths, zero-eighths, neg-eighths, eq-eighths, figure-of}
 use Rattle.exact.specs.Air.{width}
 use Rattle.demand_3.specs.Words.{recordInEighths, blockInEighths, offGridAt, offGridIn, imageInEighths, edgesInEighths}
-use Rattle.demand_3.specs.Order.{and-left, and-right, Grid, grid, le-true, le-of, lt-true, lt-false, le-by-lt, by-max, by-min, figure-grid, Figures}
+use Rattle.demand_3.specs.Tests.{and-left, and-right}
+use Rattle.demand_3.specs.Order.{Grid, grid, le-true, le-of, lt-true, lt-false, le-by-lt, by-max, by-min, figure-grid, Figures}
 use Rattle.demand_3.specs.Listed.{Spans}
 use Rattle.demand_3.specs.Judged.{Comparable}
 
@@ -88,10 +87,6 @@ bits-figure b s on = figure-size (figureOf b) on (and-left (inSize limit40 (figu
 
 -- ---- the image
 
-not-not : (b : Bool) → not b ≡ false → b ≡ true
-not-not true e = refl
-not-not false e = absurd (true≢false e)
-
 or-false-left : (a b : Bool) → (a || b) ≡ false → a ≡ false
 or-false-left true b e = e
 or-false-left false b e = refl
@@ -116,20 +111,16 @@ module _ (l : List ℕ) (C : checkOf l ≡ Accepted) (E : imageInEighths l ≡ t
       let h : n < recordsBefore l tables = omega (arith, table-within l whole t ht, whole .filled) in
       let e : generalSize + recordSize * n ≡ startOf l t + recordSize * i = omega arith in
       subst (λ (at : ℕ). soundRecord (recordAt l at) ≡ true) e
-      (not-not (soundRecord (recordAt l (generalSize + recordSize * n)))
+      (not-false (soundRecord (recordAt l (generalSize + recordSize * n)))
       (some-false (asksAt l generalSize Unsound) (recordsBefore l tables)
       (or-false-right (not (soundBlock (generalOf l))) (some (asksAt l generalSize Unsound) (recordsBefore l tables)) sound) n h))
 
   record-on : (t i : ℕ) → t < tables → i < countOf l t → recordInEighths t (recordOf l t i) ≡ true
   unfolding imageInEighths
   record-on t i ht hi =
-      not-not (recordInEighths t (recordOf l t i))
+      not-false (recordInEighths t (recordOf l t i))
       (some-false (offGridAt l t) (countOf l t)
-      (some-false (offGridIn l) tables (not-yes (some (offGridIn l) tables) (and-right (blockInEighths (generalOf l)) (not (some (offGridIn l) tables)) E)) t ht) i hi)
-    where
-      not-yes : (b : Bool) → not b ≡ true → b ≡ false
-      not-yes true e = absurd (false≢true e)
-      not-yes false e = refl
+      (some-false (offGridIn l) tables (not-true (some (offGridIn l) tables) (and-right (blockInEighths (generalOf l)) (not (some (offGridIn l) tables)) E)) t ht) i hi)
 
   pub spans : Spans l
   unfolding soundRecord recordInEighths
@@ -153,7 +144,7 @@ module _ (l : List ℕ) (C : checkOf l ≡ Accepted) (E : imageInEighths l ≡ t
       inEighths (figureOf (g .«channel_width»)) && (inEighths (figureOf (g .«carrier_offset»)) && inEighths (figureOf (g .«carrier_tolerance»))) in
       let s =
       all-three (soundBits (g .«data_limit»)) (soundBits (g .«elsewhere_limit»)) rest
-      (not-not (soundBlock g) (or-false-left (not (soundBlock g)) (some (asksAt l generalSize Unsound) (recordsBefore l tables)) sound)) in
+      (not-false (soundBlock g) (or-false-left (not (soundBlock g)) (some (asksAt l generalSize Unsound) (recordsBefore l tables)) sound)) in
       let o =
       all-three (inEighths (figureOf (g .«data_limit»))) (inEighths (figureOf (g .«elsewhere_limit»))) on
       (and-left (blockInEighths g) (not (some (offGridIn l) tables)) E) in

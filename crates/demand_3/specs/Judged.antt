@@ -1,6 +1,6 @@
 -- When the gate allows data off the channel band, test by test in Part97's order: the first band that holds the guarded signal is not
 -- excluded, the first data segment that holds it is not too narrow, the first privilege that holds it allows data, and 97.221 is met.
-use Prim.Native.Nat.{ℕ, _<_}
+use Prim.Native.Nat.{ℕ}
 use mathlib.Core.Bool.{Bool, true, false, not, cond, _&&_, _||_, true≢false, false≢true}
 use mathlib.Core.List.{List}
 use mathlib.Core.Path.{_≡_, refl, sym, ap, _∙_}
@@ -8,38 +8,34 @@ use lib.Dec.{eqb}
 use borrow.Author.Tests.{eqb-true, eq-eqb}
 use lib.Ieee.{Float, lt, le}
 use Rattle.figures.specs.Figure.{figureOf}
-use Rattle.codes.specs.Code.{bitOf, classCode}
+use Rattle.codes.specs.Code.{bitOf}
 use Rattle.codes.specs.declared.EmissionKind.{EmissionKind}
 use Rattle.codes.specs.declared.EmissionKind.the-variants.{Data}
-use Rattle.codes.specs.declared.Direction.{Direction}
-use Rattle.profile.specs.Limit.{allowsOf}
 use Rattle.profile.specs.declared.Range.{Range}
 use Rattle.air.specs.Air.{unguardedOf}
 use Rattle.scan.specs.First.{isAt, onFound}
 use Rattle.scan.specs.declared.Found.{Found}
 use Rattle.scan.specs.declared.Found.the-variants.{At, Nothing}
-use Rattle.layout.specs.Layout.{bands, segments, privileges, automatic, excluded, generalOf, recordOf, countOf}
+use Rattle.layout.specs.Layout.{bands, segments, automatic, excluded, generalOf, recordOf, countOf}
 use Rattle.layout.specs.declared.General.{General}
 use Rattle.table.specs.Parts.{spanOf, excludedOf, elsewhereOf, channelsOf, channelSidebandOf}
 use Rattle.table.specs.declared.Segment.{Segment}
 use Rattle.table.specs.declared.ElsewhereRule.{ElsewhereRule}
 use Rattle.table.specs.declared.ElsewhereRule.the-variants.{Under, Nowhere}
 use Rattle.table.specs.declared.Channels.{Channels}
-use Rattle.table.specs.declared.ChannelBand.{ChannelBand}
 use Rattle.table.specs.declared.ChannelBand.the-variants.{On, NoChannels}
 use Rattle.find.specs.Question.{firstIn, someIn}
-use Rattle.find.specs.declared.Question.the-variants.{Holds, OfBand, ClassHolds}
+use Rattle.find.specs.declared.Question.the-variants.{Holds, OfBand}
 use Rattle.automatic_97_221.specs.Automatic.{responds, elsewhereAllows}
 use Rattle.decision.specs.Number.{§97-301, §97-305c, §97-307f9}
 use Rattle.decision.specs.Decision.{noAdvice, finishOf, simpleOf}
-use Rattle.decision.specs.declared.Verdict.{Verdict}
-use Rattle.decision.specs.declared.Verdict.the-variants.{Legal, Warning, Blocked}
+use Rattle.decision.specs.declared.Verdict.the-variants.{Blocked}
 use Rattle.decision.specs.declared.Code.{Code}
 use Rattle.decision.specs.declared.Code.the-variants.{OutOfBand, AutomaticExcluded, TooWide, OutsideDataSegment, NoDataHere, Privilege, Permitted, AutomaticSegment, AutomaticBandwidth, AutomaticOriginate, AutomaticResponse}
 use Rattle.decision.specs.declared.BandNumber.the-variants.{Band}
 use Rattle.decision.specs.declared.Draft.{Draft}
 use Rattle.decision.specs.declared.Decision.{Decision}
-use Rattle.part97.specs.Part97.{bandAt, segmentAt, privilegeAt, generalLimit, limitFor, tooWide, warned, adviceWarns, automaticRule, draftOf, draftInside, draftAutomatic, privilegedOf, underPrivilege, advised, advisedAutomatic, automaticElsewhere, automaticData, nearestUpTo, onNearest, outsideSegments, overshootOf, insideSegment, judgeData, offSixty, sixty, judgeOnBand, judgeInBand, touching, judge}
+use Rattle.part97.specs.Part97.{bandAt, segmentAt, limitFor, tooWide, warned, adviceWarns, automaticRule, draftOf, draftInside, draftAutomatic, privilegedOf, underPrivilege, advised, advisedAutomatic, automaticElsewhere, automaticData, nearestUpTo, onNearest, outsideSegments, overshootOf, insideSegment, judgeData, offSixty, sixty, judgeOnBand, judgeInBand, touching, judge}
 use Rattle.part97.specs.declared.Case.{Case}
 use Rattle.part97.specs.declared.Nearest.{Nearest}
 use Rattle.part97.specs.declared.Nearest.the-variants.{Near, NoneNear}

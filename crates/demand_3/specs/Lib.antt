@@ -1,4 +1,5 @@
 pub mod Words
+pub mod Tests
 pub mod Order
 pub mod Dial
 pub mod Listed

@@ -1,44 +1,34 @@
 -- When a dial lies in a row outside the channel band: exactly if some data segment and some privilege that may use it hold the guarded
 -- signal there, and, where the list is cut to them, some automatic segment does.
 use Prim.Native.Nat.{ℕ, _<_}
-use mathlib.Core.Bool.{Bool, true, false, not, cond, _&&_, _||_, true≢false, false≢true}
-use mathlib.Core.List.{List, [], _∷_, _++_}
-use mathlib.Core.Path.{_≡_, refl, sym, ap, _∙_}
+use mathlib.Core.Bool.{Bool, true, false, cond, _&&_, _||_, true≢false, false≢true}
+use mathlib.Core.List.{List, []}
+use mathlib.Core.Path.{_≡_, refl, sym, _∙_}
 use native.Mathlib.Omega.{arith}
-use lib.Dec.{eqb}
 use lib.Ieee.{Float, le}
-use Rattle.codes.specs.Code.{bitOf}
-use Rattle.codes.specs.declared.Sideband.{Sideband}
 use Rattle.profile.specs.Range.{range, holdsOf, lengthy, commonOf, intersectOf}
 use Rattle.profile.specs.declared.Range.{Range}
-use Rattle.profile.specs.declared.Shared.{Shared}
 use Rattle.profile.specs.declared.Shared.the-variants.{Stretch, Nothing}
 use Rattle.air.specs.Air.{rfRangeOf, guardedOf, dialEndsOf}
-use Rattle.air.specs.declared.DialRange.{DialRange}
 use Rattle.air.specs.declared.DialRange.the-variants.{Dials, NoDial}
-use Rattle.scan.specs.First.{first, some, Hit, isAt, first-at, first-nothing}
+use Rattle.scan.specs.First.{first, some, isAt, first-at, first-nothing}
 use Rattle.scan.specs.declared.Found.{Found}
 use Rattle.scan.specs.declared.Found.the-variants.{At, Nothing as NotFound}
-use Rattle.layout.specs.Layout.{segments, channels, privileges, automatic, excluded, generalOf, recordOf, countOf, tables}
-use Rattle.layout.specs.declared.General.{General}
+use Rattle.layout.specs.Layout.{segments, privileges, automatic, recordOf, countOf, tables}
 use Rattle.layout.specs.declared.Record.{Record}
-use Rattle.table.specs.Parts.{spanOf, segmentOf, privilegeOf, channelsOf, channelSidebandOf, centreOf}
+use Rattle.table.specs.Parts.{spanOf, segmentOf, privilegeOf}
 use Rattle.table.specs.declared.Segment.{Segment}
 use Rattle.table.specs.declared.Privilege.{Privilege}
-use Rattle.table.specs.declared.Channels.{Channels}
-use Rattle.table.specs.declared.ChannelBand.{ChannelBand}
-use Rattle.table.specs.declared.ChannelBand.the-variants.{On, NoChannels}
-use Rattle.figures.specs.Figure.{figureOf}
 use Rattle.find.specs.Question.{asks, someIn}
 use Rattle.find.specs.declared.Question.the-variants.{Holds}
 use Rattle.eighths.specs.Grid.{Figure}
-use Rattle.rows.specs.Each.{each, Every, every-each, every-append, every-map}
-use Rattle.rows.specs.Order.{anyRow, any-append, Index, any-each-in, any-each-of}
+use Rattle.rows.specs.Each.{each}
+use Rattle.rows.specs.Order.{anyRow, Index, any-each-in, any-each-of}
 use Rattle.rows.specs.declared.SafeDial.{SafeDial}
-use Rattle.dial_rows.specs.Dials.{safeDial, dialRows, pieceRows, onShared, automaticAt, automaticRows, cut, cutRows, mayUse, privilegeRows, privilegeAt, privilegesRows, tooWide, excludedBand, segmentRows, segmentAt, dataRows, channelSafe, channelHolds, channelRow, channelAt, channelRows, channelsOpen, channelFound, openRows, bandRows, rowsOf}
+use Rattle.dial_rows.specs.Dials.{dialRows, pieceRows, onShared, automaticAt, automaticRows, cut, cutRows, mayUse, privilegeRows, privilegeAt, privilegesRows, tooWide, excludedBand, segmentRows, segmentAt, dataRows}
 use Rattle.dial_rows.specs.declared.Request.{Request}
 use Rattle.distance.specs.Distance.{isOutside, counts}
-use Rattle.demand_3.specs.Order.{and-left, and-right, and-both, Grid, grid, le-trans, Ends, Figures, ends, held, held-low, held-high, common-holds, holds-common, share, common-figures, figure-grid}
+use Rattle.demand_3.specs.Order.{Grid, grid, le-trans, Ends, Figures, ends, held, held-low, held-high, common-holds, holds-common, share, common-figures, figure-grid}
 use Rattle.demand_3.specs.Dial.{RowEnd, guarded-ends, dial-low, dial-high, end-low, end-high}
 
 -- ---- a scan that found one

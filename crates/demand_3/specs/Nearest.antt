@@ -6,7 +6,6 @@ use mathlib.Core.Path.{_≡_, refl, sym, ap, subst, _∙_}
 use native.Mathlib.Omega.{arith}
 use native.Mathlib.Decide.{decLe}
 use borrow.Author.Tests.{eqb-true, eq-eqb, ne-eqb}
-use lib.Dec.{eqb}
 use lib.Ieee.{Float, binary64, sub, lt, le, eq}
 use Rattle.figures.specs.Figure.{zeroHz}
 use Rattle.scan.specs.First.{some}
@@ -18,7 +17,8 @@ use Rattle.distance.specs.Distance.{isOutside, counts, distanceTo, nearerOf, co
 use Rattle.distance.specs.declared.Distance.{Distance}
 use Rattle.distance.specs.declared.Distance.the-variants.{Hertz, NoneListed, Refused as NoAnswer}
 use Rattle.demand_3.specs.Words.{nought}
-use Rattle.demand_3.specs.Order.{Grid, grid, figure-grid, le-of, lt-true, lt-false, lt-of, not-lt-of, le-by-lt, and-left, and-right, and-both}
+use Rattle.demand_3.specs.Tests.{and-left, and-right, and-both, same}
+use Rattle.demand_3.specs.Order.{Grid, grid, figure-grid, lt-true, lt-false, le-by-lt}
 use Rattle.demand_3.specs.Dial.{RowEnd}
 use Rattle.demand_3.specs.Listed.{Some, some-of, some-true}
 
@@ -221,18 +221,12 @@ module _ (dial : Float) (flags channel : ℕ) (rows : List ℕ) where
       pub least-nought : nought (leastUpTo dial flags channel rows count) ≡ some liesAt count
       least-nought = go (leastUpTo dial flags channel rows count) (least-of count (omega arith))
         where
-          without : (a b : Bool) → (a ≡ true → b ≡ true) → (b ≡ true → a ≡ true) → a ≡ b
-          without true true f g = refl
-          without true false f g = sym (f refl)
-          without false true f g = g refl
-          without false false f g = refl
-
           go : (best : Distance) → LeastOf best count → nought best ≡ some liesAt count
           go (Hertz d) L =
-              without (eq d zeroHz) (some liesAt count) (λ e. let s = L .nought-of e in some-of liesAt count (s .index) (s .below) (s .passes))
+              same (eq d zeroHz) (some liesAt count) (λ e. let s = L .nought-of e in some-of liesAt count (s .index) (s .below) (s .passes))
               (λ e. let s = some-true liesAt count e in L .of-nought (s .index) (s .below) (s .passes))
           go NoneListed L =
-              without false (some liesAt count) (λ e. absurd (false≢true e))
+              same false (some liesAt count) (λ e. absurd (false≢true e))
               (λ e.
               let s = some-true liesAt count e in
               absurd

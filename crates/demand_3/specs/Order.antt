@@ -1,28 +1,16 @@
 -- Orders among figures in eighths, as orders among whole numbers, and what they say of ranges.
 use Prim.Native.Nat.{ℕ, _+_, _≤_, _<_}
-use mathlib.Core.Bool.{Bool, true, false, not, cond, _&&_}
+use mathlib.Core.Bool.{Bool, true, false, not, cond}
 use mathlib.Core.Path.{_≡_, refl, sym, ap, _∙_}
 use native.Mathlib.Omega.{arith}
 use borrow.Author.Tests.{leb-true, le-leb, ltb-true, ltb-false, lt-ltb, le-ltb, eq-eqb}
-use lib.Ieee.{Float, lt, le, eq, ne}
+use lib.Ieee.{Float, lt, le, ne}
 use Rattle.figures.specs.Figure.{minOf, maxOf}
-use Rattle.profile.specs.Range.{range, holdsOf, lengthy, commonOf}
+use Rattle.profile.specs.Range.{holdsOf, lengthy, commonOf}
 use Rattle.profile.specs.declared.Range.{Range}
 use Rattle.eighths.specs.Grid.{Figure, Eighths}
 use Rattle.eighths.specs.Laws.{lt-eighths, le-eighths, eq-eighths}
-
--- ---- tests joined by `&&`
-
-pub and-left : (a b : Bool) → (a && b) ≡ true → a ≡ true
-and-left true b e = refl
-and-left false b e = e
-
-pub and-right : (a b : Bool) → (a && b) ≡ true → b ≡ true
-and-right true b e = e
-and-right false b e = cc
-
-pub and-both : (a b : Bool) → a ≡ true → b ≡ true → (a && b) ≡ true
-and-both a b p q = rw p (rw q)
+use Rattle.demand_3.specs.Tests.{and-left, and-right, and-both}
 
 -- ---- a figure on the grid: above less below, in eighths
 

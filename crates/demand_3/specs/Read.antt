@@ -1,13 +1,12 @@
 -- The rows as the distance reads them: from the bytes that the list call leaves, the distance is nought exactly if the dial lies in a row
 -- that counts.
 use Prim.Native.Nat.{ℕ, zero, suc, _*_, _<_}
-use mathlib.Core.Bool.{Bool, true, false, _&&_, _||_, true≢false, false≢true}
+use mathlib.Core.Bool.{Bool, true, false, _||_, false≢true}
 use mathlib.Core.List.{List, [], _∷_, _++_}
 use mathlib.Core.Path.{_≡_, refl, sym, ap, subst, _∙_}
 use native.Mathlib.Omega.{arith}
-use lib.Dec.{T}
 use lib.ListN.{length, getD}
-use lib.Ieee.{Float, binary64, fits}
+use lib.Ieee.{Float}
 use Rattle.figures.specs.Figure.{zeroHz}
 use Rattle.profile.specs.Range.{range}
 use Rattle.scan.specs.First.{some}
@@ -19,6 +18,7 @@ use Rattle.rows.specs.Read.{low-of, high-of, band-of}
 use Rattle.rows.specs.declared.SafeDial.{SafeDial}
 use Rattle.dial_rows.specs.Laws.{DialsFit}
 use Rattle.distance.specs.Distance.{isOutside, leastUpTo}
+use Rattle.demand_3.specs.Tests.{or-left, or-right, same}
 use Rattle.demand_3.specs.Words.{nought}
 use Rattle.demand_3.specs.Dial.{RowEnd}
 use Rattle.demand_3.specs.Listed.{Some, some-true, some-of, lies}
@@ -33,13 +33,6 @@ pub every-get : (P : SafeDial → Type 0) (xs : List SafeDial) → Every P xs �
 every-get P [] h i k = absurd (omega arith)
 every-get P (x ∷ xs) h zero k = h .0
 every-get P (x ∷ xs) h (suc i) k = every-get P xs (h .1) i (omega arith)
-
-or-left : (a b : Bool) → a ≡ true → (a || b) ≡ true
-or-left a b e = rw e
-
-or-right : (a b : Bool) → b ≡ true → (a || b) ≡ true
-or-right true b e = refl
-or-right false b e = e
 
 -- whether a row passes, row by row
 any-in : (test : SafeDial → Bool) (xs : List SafeDial) (i : ℕ) → i < length xs → test (getD xs i noRow) ≡ true → anyRow test xs ≡ true
@@ -56,12 +49,6 @@ any-of test (x ∷ xs) e = go (test x) refl (any-of test xs) e
         → Some (λ i. test (getD (x ∷ xs) i noRow)) (suc (length xs))
     go true p next q = record { index = 0; below = omega arith; passes = p }
     go false p next q = let s = next q in record { index = suc (s .index); below = omega (arith, s .below); passes = s .passes }
-
-same : (a b : Bool) → (a ≡ true → b ≡ true) → (b ≡ true → a ≡ true) → a ≡ b
-same true true f g = refl
-same true false f g = sym (f refl)
-same false true f g = g refl
-same false false f g = refl
 
 module _ (dial : Float) (flags channel : ℕ) (D : Figure dial) (ys : List SafeDial) (rest : List ℕ) (F : Every DialsFit ys) where
   abbrev bytes : List ℕ

@@ -1,16 +1,15 @@
 -- The whole list: no channel row counts, so a dial lies in a row that counts exactly if it lies in a data row; and both dials of every
 -- row that counts are on the grid.
 use Prim.Native.Nat.{ℕ, zero, suc, _<_}
-use mathlib.Core.Bool.{Bool, true, false, not, cond, _&&_, _||_, true≢false}
-use mathlib.Core.List.{List, [], _∷_, _++_}
-use mathlib.Core.Path.{_≡_, refl, sym, ap, _∙_}
+use mathlib.Core.Bool.{Bool, true, false, cond, _&&_, _||_, true≢false}
+use mathlib.Core.List.{List, [], _∷_}
+use mathlib.Core.Path.{_≡_, refl, sym, _∙_}
 use native.Mathlib.Omega.{arith}
-use lib.Dec.{eqb}
 use lib.Ieee.{Float, le}
 use borrow.Author.Tests.{eq-eqb}
 use Rattle.figures.specs.Figure.{figureOf}
 use Rattle.codes.specs.Code.{bitOf}
-use Rattle.profile.specs.Range.{range, lengthy, commonOf, intersectOf, channelRangeOf}
+use Rattle.profile.specs.Range.{lengthy, commonOf, intersectOf}
 use Rattle.profile.specs.declared.Range.{Range}
 use Rattle.profile.specs.declared.Shared.the-variants.{Stretch, Nothing}
 use Rattle.air.specs.Air.{dialEndsOf}
@@ -19,7 +18,6 @@ use Rattle.layout.specs.Layout.{segments, channels, privileges, automatic, gene
 use Rattle.layout.specs.declared.General.{General}
 use Rattle.table.specs.Parts.{spanOf, segmentOf, privilegeOf, channelsOf, channelSidebandOf, centreOf}
 use Rattle.table.specs.declared.Segment.{Segment}
-use Rattle.table.specs.declared.Privilege.{Privilege}
 use Rattle.table.specs.declared.Channels.{Channels}
 use Rattle.table.specs.declared.ChannelBand.the-variants.{On, NoChannels}
 use Rattle.eighths.specs.Grid.{Figure}
@@ -28,7 +26,7 @@ use Rattle.rows.specs.Order.{anyRow, any-append}
 use Rattle.rows.specs.declared.SafeDial.{SafeDial}
 use Rattle.dial_rows.specs.Dials.{dialRows, pieceRows, onShared, automaticAt, automaticRows, cut, cutRows, mayUse, privilegeRows, privilegeAt, privilegesRows, tooWide, excludedBand, segmentRows, segmentAt, dataRows, channelSafe, channelHolds, channelRow, channelAt, channelRows, channelsOpen, channelFound, openRows, bandRows, rowsOf}
 use Rattle.dial_rows.specs.declared.Request.{Request}
-use Rattle.distance.specs.Distance.{isOutside, counts}
+use Rattle.distance.specs.Distance.{isOutside}
 use Rattle.demand_3.specs.Order.{Figures, common-figures}
 use Rattle.demand_3.specs.Dial.{RowEnd, end-low, end-high}
 use Rattle.demand_3.specs.Listed.{lies, Spans}

@@ -7,45 +7,35 @@ use mathlib.Core.Path.{_≡_, refl, sym, ap, subst, _∙_}
 use native.Mathlib.Omega.{arith}
 use native.Mathlib.Decide.{decLe}
 use lib.Dec.{eqb}
-use borrow.Author.Tests.{eqb-true, eq-eqb}
+use borrow.Author.Tests.{eqb-true, eq-eqb, not-true, not-false}
 use lib.Ieee.{Float, lt}
-use Rattle.codes.specs.Code.{bitOf, classCode}
+use Rattle.codes.specs.Code.{classCode}
 use Rattle.codes.specs.declared.EmissionKind.the-variants.{Data}
-use Rattle.codes.specs.declared.ControlMode.{ControlMode}
-use Rattle.codes.specs.declared.LicenseClass.{LicenseClass}
-use Rattle.codes.specs.declared.Sideband.{Sideband}
-use Rattle.codes.specs.declared.Direction.{Direction}
-use Rattle.profile.specs.Range.{holdsOf, lengthy, commonOf, shareOf}
+use Rattle.profile.specs.Range.{holdsOf, lengthy, shareOf}
 use Rattle.profile.specs.Limit.{allowsOf}
 use Rattle.profile.specs.declared.Range.{Range}
-use Rattle.air.specs.Air.{rfRangeOf, guardedOf, widthOf}
-use Rattle.scan.specs.First.{first, some, isAt, onFound, Hit, first-at, first-nothing, some-false}
+use Rattle.scan.specs.First.{first, onFound, first-at, first-nothing, some-false}
 use Rattle.scan.specs.declared.Found.{Found}
 use Rattle.scan.specs.declared.Found.the-variants.{At, Nothing}
-use Rattle.station.specs.declared.Situation.{Situation}
 use Rattle.layout.specs.Layout.{tables, bands, segments, privileges, automatic, excluded, generalOf, recordOf, countOf}
-use Rattle.layout.specs.declared.General.{General}
-use Rattle.layout.specs.declared.Record.{Record}
 use Rattle.table.specs.Parts.{spanOf, elsewhereOf, segmentOf, privilegeOf}
-use Rattle.table.specs.declared.Privilege.{Privilege}
 use Rattle.find.specs.Question.{asks, firstIn, someIn, homelessAt, homelessOf, homeQuestion}
-use Rattle.find.specs.declared.Question.{Question}
-use Rattle.find.specs.declared.Question.the-variants.{Holds, Shares, OfBand, BandHolds, ClassHolds, ClassShares}
+use Rattle.find.specs.declared.Question.the-variants.{Holds, OfBand, BandHolds, ClassHolds}
 use Rattle.tidy.specs.Tidy.{pairQuestion, sharesEarlier, twoShare, tidyTable}
-use Rattle.automatic_97_221.specs.Automatic.{appliesOf, elsewhereAllows}
-use Rattle.dial_rows.specs.Dials.{requestOf, mayUse, tooWide, excludedBand, cut}
+use Rattle.automatic_97_221.specs.Automatic.{elsewhereAllows}
+use Rattle.dial_rows.specs.Dials.{mayUse, tooWide, cut}
 use Rattle.dial_rows.specs.declared.Request.{Request}
-use Rattle.verdict.specs.Verdict.{caseOf}
-use Rattle.part97.specs.Part97.{bandAt, privilegeAt, limitFor, privilegedOf}
+use Rattle.part97.specs.Part97.{privilegeAt, limitFor, privilegedOf}
 use Rattle.part97.specs.declared.Case.{Case}
 use Rattle.part97.specs.declared.Privileged.{Privileged}
 use Rattle.part97.specs.declared.Privileged.the-variants.{Granted, Forbidden, Unheld}
 use Rattle.distance.specs.Distance.{isOutside}
 use Rattle.eighths.specs.Grid.{Figure}
-use Rattle.demand_3.specs.Order.{and-left, and-right, and-both, Ends, Figures, ends, holds-trans, share}
+use Rattle.demand_3.specs.Tests.{and-left, and-right, and-both, or-left, or-right}
+use Rattle.demand_3.specs.Order.{Ends, Figures, ends, holds-trans, share}
 use Rattle.demand_3.specs.Dial.{guarded-ends}
-use Rattle.demand_3.specs.Listed.{Some, some-true, some-of, asks-holds, Spans, guardedAt, Lawful, PairOf}
-use Rattle.demand_3.specs.Judged.{Comparable, automaticMet, Inside, Placed, Judged, OffChannels}
+use Rattle.demand_3.specs.Listed.{some-true, asks-holds, Spans, guardedAt, Lawful}
+use Rattle.demand_3.specs.Judged.{automaticMet, Judged, OffChannels}
 
 -- ---- the only one that passes is the first
 
@@ -117,17 +107,13 @@ home : (l : List ℕ) → homelessOf l true ≡ false → (i : ℕ) → i < coun
 unfolding asks
 home l h i k =
     let s = some-true (λ b. asks (BandHolds (recordOf l segments i .band) (spanOf (recordOf l segments i))) (recordOf l bands b)) (countOf l bands)
-    (not-not (someIn l bands (homeQuestion true (recordOf l segments i))) (some-false (homelessAt l true) (countOf l segments) h i k)) in
+    (not-false (someIn l bands (homeQuestion true (recordOf l segments i))) (some-false (homelessAt l true) (countOf l segments) h i k)) in
     record {
       band = s .index;
       below = s .below;
       number = eqb-true _ _ (and-left _ (holdsOf (spanOf (recordOf l bands (s .index))) (spanOf (recordOf l segments i))) (s .passes));
       holds = and-right (eqb (recordOf l bands (s .index) .band) (recordOf l segments i .band)) _ (s .passes);
     }
-  where
-    not-not : (b : Bool) → not b ≡ false → b ≡ true
-    not-not true e = refl
-    not-not false e = absurd (true≢false e)
 
 -- the parts of a tidy table
 pub record Tidied (l : List ℕ) : Type 0 where
@@ -158,13 +144,6 @@ pub record Match (l : List ℕ) (q : Request) (c : Case) (dial : Float) : Type 0
   pub automatic : q .automatic ≡ c .automatic
   pub elsewhere : q .«elsewhere_ok» ≡ elsewhereAllows (elsewhereOf (generalOf l)) (c .width) (c .direction)
   pub general : (s : ℕ) → tooWide q (segmentOf (recordOf l segments s)) ≡ lt (limitFor l (At s) .«max_bandwidth_hz») (c .width)
-
-or-right : (a b : Bool) → b ≡ true → (a || b) ≡ true
-or-right true b e = refl
-or-right false b e = e
-
-or-left : (a b : Bool) → a ≡ true → (a || b) ≡ true
-or-left a b e = rw e
 
 or-other : (a b : Bool) → (a || b) ≡ true → b ≡ false → a ≡ true
 or-other true b e f = refl

@@ -1,19 +1,19 @@
 -- Demand 3: for a tidy table in force, all hertz figures in eighths, prerequisites met, a positive guarded width, a list that fitted, and a
 -- dial that the gate doesn't refuse and whose guarded range the channel band doesn't hold, the distance of the dial from the rows that the
 -- list call left is nought exactly when the gate allows data at that dial. The list's own dial is another than the one asked.
-use Prim.Native.Nat.{ℕ, _+_, _*_, _/_, _<_, _≤_}
+use Prim.Native.Nat.{ℕ, _+_, _*_, _/_, _≤_}
 use mathlib.Core.Bool.{Bool, true, false, not, cond, _&&_, _||_, true≢false, false≢true}
 use mathlib.Core.List.{List, [], _∷_, _++_}
-use mathlib.Core.Path.{_≡_, refl, sym, ap, subst, _∙_}
+use mathlib.Core.Path.{_≡_, refl, sym, ap, _∙_}
 use native.Mathlib.Omega.{arith}
-use lib.Dec.{eqb, ltb}
+use lib.Dec.{eqb}
 use lib.ListN.{length, drop, length-append}
-use borrow.Author.Tests.{eqb-true, le-ltb, ltb-false}
+use borrow.Author.Tests.{eqb-true, le-ltb, not-false}
 use lib.Ieee.{Float}
 use Rattle.figures.specs.Figure.{limit40, inSize, readHz}
 use Rattle.codes.specs.Code.{bitOf}
 use Rattle.codes.specs.Read.{policyOf, directionOf, directionValid, kindOf}
-use Rattle.codes.specs.Refusal.{Test, test, refusalOf, refusal-both, none-fails}
+use Rattle.codes.specs.Refusal.{test, refusalOf, refusal-both, none-fails}
 use Rattle.codes.specs.declared.Checked.{Checked}
 use Rattle.codes.specs.declared.Checked.the-variants.{Accepted, Refused}
 use Rattle.codes.specs.declared.Policy.{Policy}
@@ -33,30 +33,27 @@ use Rattle.profile.specs.declared.Range.{Range}
 use Rattle.occupancy.specs.declared.Edges.{Edges}
 use Rattle.air.specs.Air.{rfRangeOf, guardedOf}
 use Rattle.scan.specs.First.{first-at}
-use Rattle.scan.specs.declared.Found.the-variants.{At}
-use Rattle.station.specs.Station.{underRules, codesValid, figuresValid, figureValid, stationTests, situationOf}
+use Rattle.station.specs.Station.{underRules, figuresValid, figureValid, stationTests, situationOf}
 use Rattle.station.specs.declared.StationRecord.{StationRecord}
 use Rattle.station.specs.declared.Situation.{Situation}
-use Rattle.station.specs.declared.Figure.the-variants.{Known}
 use Rattle.layout.specs.Layout.{bands, generalOf, recordOf, countOf}
 use Rattle.table.specs.Parts.{spanOf, readingOf, elsewhereOf}
-use Rattle.find.specs.Question.{asks, firstIn, someIn}
+use Rattle.find.specs.Question.{asks, someIn}
 use Rattle.find.specs.declared.Question.the-variants.{Holds, BandHolds}
 use Rattle.image.specs.Check.{checkOf}
 use Rattle.entry.specs.Entry.{imageTests, entryTests, edgesValid, edgesRead}
-use Rattle.tidy.specs.Tidy.{tidyTable, tidinessOf, tidyOf}
-use Rattle.tidy.specs.declared.Tidiness.the-variants.{Tidy, Untidy, NotJudged}
-use Rattle.rows.specs.Rows.{rowSize, sorted, encodeAll, bandAt}
+use Rattle.tidy.specs.Tidy.{tidyTable, tidinessOf}
+use Rattle.tidy.specs.declared.Tidiness.the-variants.{Tidy}
+use Rattle.rows.specs.Rows.{rowSize, sorted, encodeAll}
 use Rattle.rows.specs.Back.{length-encode}
-use Rattle.rows.specs.Each.{Every}
 use Rattle.rows.specs.Order.{anyRow, any-sorted, length-sorted, every-sorted}
 use Rattle.rows.specs.declared.SafeDial.{SafeDial}
 use Rattle.dial_rows.specs.Dials.{requestOf, dataRows, rowsOf}
 use Rattle.dial_rows.specs.Laws.{DialsFit, rows-fit}
 use Rattle.dial_rows.specs.declared.Request.{Request}
-use Rattle.dials.specs.List.{withSideband, withLicense, withControl, knownRows, situationRows, listRows, lentTests, listTests, answerOf, bytesOf, Listed, SafeDials}
+use Rattle.dials.specs.List.{withSideband, withLicense, withControl, knownRows, situationRows, listRows, lentTests, listTests, answerOf, bytesOf, SafeDials}
 use Rattle.dials.specs.declared.DialList.{DialList}
-use Rattle.dials.specs.declared.DialList.the-variants.{Rows, Refused as NoList}
+use Rattle.dials.specs.declared.DialList.the-variants.{Rows}
 use Rattle.decision.specs.Decision.{refusedOf}
 use Rattle.decision.specs.declared.Verdict.{Verdict}
 use Rattle.decision.specs.declared.Verdict.the-variants.{Legal, Warning, Blocked}
@@ -65,26 +62,20 @@ use Rattle.part97.specs.Part97.{bandAt as bandRecordAt, judge}
 use Rattle.part97.specs.declared.Case.{Case}
 use Rattle.verdict.specs.Verdict.{caseOf, signalOf, underRulesOf, decideOf, besideValid, edgeTests, evaluateTests, unlessRefused, evaluateOf}
 use Rattle.verdict.specs.Laws.{ruled-met}
-use Rattle.distance.specs.Distance.{isOutside, counts, leastUpTo, distanceTests, unlessRefused as unlessNoAnswer, distanceOf}
-use Rattle.distance.specs.declared.Distance.{Distance}
-use Rattle.distance.specs.declared.Distance.the-variants.{Hertz, NoneListed, Refused as NoAnswer}
+use Rattle.distance.specs.Distance.{isOutside, leastUpTo, distanceOf}
+use Rattle.distance.specs.declared.Distance.the-variants.{NoneListed}
 use Rattle.eighths.specs.Grid.{Figure, inEighths}
-use Rattle.demand_3.specs.Words.{imageInEighths, edgesInEighths, stationInEighths, hertzInEighths, tuned, audioOf, accepted, inForce, hasControl, hasLicense, hasSideband, hasDial, prerequisitesMet, guardedWidth, positiveWidth, channelBandHolds, channelsHold, onChannelBand, verdictAt, sent, allows, distanceAt, nought, NoneOutside, Premises, Demand3}
-use Rattle.demand_3.specs.Order.{and-left, and-right, and-both, Figures}
+use Rattle.demand_3.specs.Words.{imageInEighths, edgesInEighths, stationInEighths, hertzInEighths, tuned, audioOf, accepted, inForce, hasControl, hasLicense, hasSideband, prerequisitesMet, positiveWidth, channelBandHolds, channelsHold, onChannelBand, verdictAt, sent, allows, distanceAt, nought, NoneOutside, Premises, Demand3}
+use Rattle.demand_3.specs.Tests.{and-left, and-right, and-both, same}
+use Rattle.demand_3.specs.Order.{Figures}
 use Rattle.demand_3.specs.Dial.{guarded-lengthy}
-use Rattle.demand_3.specs.Listed.{some-of, asks-holds, Spans, guardedAt, lies, data-in, data-of}
+use Rattle.demand_3.specs.Listed.{some-of, Spans, guardedAt, lies, data-in, data-of}
 use Rattle.demand_3.specs.Rows.{RowEnds, rows-listed, rows-ends}
 use Rattle.demand_3.specs.Nearest.{least-none}
 use Rattle.demand_3.specs.Read.{rows-nought}
 use Rattle.demand_3.specs.Judged.{Comparable, OffChannels, judged-in, judged-of}
 use Rattle.demand_3.specs.Same.{Tidied, tidied, Match, lawful-judged, judged-lawful}
 use Rattle.demand_3.specs.Grounds.{figure-read, spans, comparable, audio-figures}
-
-same : (a b : Bool) → (a ≡ true → b ≡ true) → (b ≡ true → a ≡ true) → a ≡ b
-same true true f g = refl
-same true false f g = sym (f refl)
-same false true f g = g refl
-same false false f g = refl
 
 -- ---- what the calls' answers say of their tests
 
@@ -110,10 +101,6 @@ tidy-of : (c : Checked) (b : Bool) → tidinessOf c b ≡ Tidy → b ≡ true
 tidy-of (Refused n) b e = absurd (let z : _≡_ {A = ℕ} 0 1 = cc in omega arith)
 tidy-of Accepted true e = refl
 tidy-of Accepted false e = absurd (let z : _≡_ {A = ℕ} 0 1 = cc in omega arith)
-
-not-false : (b : Bool) → not b ≡ false → b ≡ true
-not-false true e = refl
-not-false false e = absurd (true≢false e)
 
 blocked-of : (v : Verdict) → sent v ≡ false → v ≡ Blocked
 blocked-of Legal e = absurd (true≢false e)

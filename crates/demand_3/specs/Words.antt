@@ -1,7 +1,7 @@
 -- Document 01's words for demand 3, each a definition of its own. Tidy is the tidy question's (Rattle.tidy), in eighths the grid's
 -- (Rattle.eighths).
 use Prim.Native.Nat.{ℕ, _*_, _<_}
-use mathlib.Core.Bool.{Bool, true, false, not, cond, _&&_, _||_}
+use mathlib.Core.Bool.{Bool, true, false, not, _&&_, _||_}
 use mathlib.Core.List.{List}
 use mathlib.Core.Path.{_≡_}
 use lib.Dec.{eqb}
@@ -16,7 +16,6 @@ use Rattle.codes.specs.declared.License.{License}
 use Rattle.codes.specs.declared.License.the-variants.{LicenseIs, NoLicense}
 use Rattle.codes.specs.declared.SidebandSet.{SidebandSet}
 use Rattle.codes.specs.declared.SidebandSet.the-variants.{SidebandIs, NoSideband}
-use Rattle.codes.specs.declared.Sideband.{Sideband}
 use Rattle.profile.specs.declared.Range.{Range}
 use Rattle.occupancy.specs.Edges.{rangeOf}
 use Rattle.occupancy.specs.declared.Edges.{Edges}

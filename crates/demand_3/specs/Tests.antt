@@ -1,0 +1,28 @@
+-- Tests joined by `&&` and `||`.
+use mathlib.Core.Bool.{Bool, true, false, _&&_, _||_, false≢true}
+use mathlib.Core.Path.{_≡_, refl, sym}
+
+pub and-left : (a b : Bool) → (a && b) ≡ true → a ≡ true
+and-left true b e = refl
+and-left false b e = e
+
+pub and-right : (a b : Bool) → (a && b) ≡ true → b ≡ true
+and-right true b e = e
+and-right false b e = absurd (false≢true e)
+
+pub and-both : (a b : Bool) → a ≡ true → b ≡ true → (a && b) ≡ true
+and-both a b p q = rw p (rw q)
+
+pub or-left : (a b : Bool) → a ≡ true → (a || b) ≡ true
+or-left a b e = rw e
+
+pub or-right : (a b : Bool) → b ≡ true → (a || b) ≡ true
+or-right true b e = refl
+or-right false b e = e
+
+-- Tests that imply each other are equal.
+pub same : (a b : Bool) → (a ≡ true → b ≡ true) → (b ≡ true → a ≡ true) → a ≡ b
+same true true f g = refl
+same true false f g = sym (f refl)
+same false true f g = g refl
+same false false f g = refl
