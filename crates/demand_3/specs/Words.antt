@@ -158,9 +158,14 @@ channelsHold l audio margin dial NoSideband = false
 unfoldable pub onChannelBand : StationRecord → Edges → List ℕ → Float → Bool
 onChannelBand r e l dial = channelsHold l (audioOf l e) (readHz (r .«margin_hz»)) (readHz dial) (situationOf r .sideband)
 
+-- ---- fitted: "A list fitted if its call wasn't refused."
+
+abbrev pub Fitted : DialList → ℕ → Type 0
+Fitted answer count = answer ≡ Rows count
+
 -- ---- the three answers
 
--- the verdict on data (kind 0) at a dial
+-- the verdict on data (kind 0) at a dial: list and verdict "go by the same image, edges, direction and station record"
 abbrev pub verdictAt : StationRecord → ℕ → Edges → List ℕ → Float → Decision
 verdictAt r direction e l dial = evaluateOf (tuned r dial) 0 direction e l
 
@@ -197,8 +202,7 @@ pub record Premises (r : StationRecord) (direction : ℕ) (e : Edges) (l : List 
   pub eighths : hertzInEighths r e l dial ≡ true
   pub prerequisites : prerequisitesMet l (situationOf (tuned r dial)) ≡ true
   pub width : positiveWidth r e l ≡ true
-  -- "A list fitted if its call wasn't refused."
-  pub fitted : answer ≡ Rows count
+  pub fitted : Fitted answer count
   -- "a dial that the gate doesn't refuse"
   pub not-refused : verdictAt r direction e l dial .refusal ≡ Accepted
   pub off-channels : onChannelBand r e l dial ≡ false
