@@ -1,23 +1,27 @@
 -- Where the privileges of a class lie in their table: none before a first place, none from an end on. The others give no row, so a list
 -- passes over them.
 use Prim.Native.Nat.{ℕ, zero, suc, _+_, _-_, _<_, _≤_}
-use mathlib.Core.Bool.{Bool, false, _&&_}
+use mathlib.Core.Bool.{Bool, true, false, cond, _&&_}
 use mathlib.Core.List.{List, [], _++_, append-nil}
-use mathlib.Core.Path.{_≡_, subst, ap, sym, _∙_}
+use mathlib.Core.Path.{_≡_, refl, subst, ap, sym, _∙_}
 use native.Mathlib.Omega.{arith}
 use native.Mathlib.Decide.{decLe}
 use native.Mathlib.Nat.{zero-add}
 use lib.Dec.{eqb}
 use Rattle.layout.specs.Layout.{privileges, recordOf, countOf, startOf}
 use Rattle.layout.specs.declared.Record.{Record}
+use Rattle.profile.specs.Range.{intersectOf}
 use Rattle.profile.specs.Limit.{allowsOf}
+use Rattle.profile.specs.declared.Shared.{Shared}
+use Rattle.profile.specs.declared.Shared.the-variants.{Nothing}
 use Rattle.codes.specs.declared.EmissionKind.the-variants.{Data}
 use Rattle.table.specs.Parts.{privilegeOf}
 use Rattle.table.specs.declared.Segment.{Segment}
+use Rattle.table.specs.declared.Privilege.{Privilege}
 use Rattle.rows.specs.Each.{each, each-none, each-more}
 use Rattle.rows.specs.Pour.{Poured, Pouring, poured-none}
 use Rattle.rows.specs.declared.SafeDial.{SafeDial}
-use Rattle.dial_rows.specs.Dials.{privilegeRows, privilegeAt, privilegesRows}
+use Rattle.dial_rows.specs.Dials.{onShared, cutRows, mayUse, privilegeRows, privilegeAt, privilegesRows}
 use Rattle.dial_rows.specs.declared.Request.{Request}
 
 -- privilege i is the class's
@@ -88,6 +92,14 @@ and-none a b e = rw e
 pub other-class : (l : List ℕ) (q : Request) (s : Segment) (r : Record) → eqb (r .class) (q .class) ≡ false → privilegeRows l q s (privilegeOf r) ≡ []
 unfolding privilegeRows
 other-class l q s r e = rw (and-none (eqb (r .class) (q .class)) (allowsOf (privilegeOf r .emissions) Data) e)
+
+none-either-way : (b : Bool) (xs : List SafeDial) → xs ≡ [] → cond b xs [] ≡ []
+none-either-way true xs e = e
+none-either-way false xs e = refl
+
+pub nothing-shared : (l : List ℕ) (q : Request) (s : Segment) (p : Privilege) → intersectOf (s .range) (p .range) ≡ Nothing → privilegeRows l q s p ≡ []
+unfolding privilegeRows
+nothing-shared l q s p e = none-either-way (mayUse q p) (onShared (intersectOf (s .range) (p .range)) (cutRows l q s)) (ap (λ (x : Shared). onShared x (cutRows l q s)) e)
 
 module _ (l : List ℕ) (q : Request) (s : Segment) where
   -- nothing before the first

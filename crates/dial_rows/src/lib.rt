@@ -164,15 +164,16 @@ fn privilege_rows(
     requires { ⌜ (Whole (now image)) × (n + 256 ≤ 0x1_0000_0000) ⌝ }
     ensures { λ r. ⌜ Poured (now (rows .entry)) n (now (rows .exit)) r (privilegeRows (now (image .entry)) q s p) ⌝ }
 {
-    if may_use(q, p) {
-        let a = s.range;
-        let b = p.range;
-        match profile::intersect(a, b) {
-            Shared::Stretch(piece) => cut_rows(image, rows, n, q, s, piece),
-            Shared::Nothing => n,
+    let a = s.range;
+    let b = p.range;
+    match profile::intersect(a, b) {
+        Shared::Stretch(piece) => {
+            if may_use(q, p) {
+                return cut_rows(image, rows, n, q, s, piece);
+            }
+            n
         }
-    } else {
-        n
+        Shared::Nothing => n,
     }
 }
 

@@ -1,11 +1,11 @@
 -- The answer case by case, as the code comes to it.
-use Prim.Native.Nat.{ℕ, _*_, _/_, _<_, _≤_}
+use Prim.Native.Nat.{ℕ, suc, _+_, _*_, _/_, _<_, _≤_}
 use mathlib.Core.Bool.{Bool, true, false, not, cond}
 use mathlib.Core.List.{List, [], _∷_, _++_, append-nil}
 use mathlib.Core.Path.{_≡_, refl, sym, ap, _∙_}
 use native.Mathlib.Omega.{arith}
-use lib.ListN.{length, take, drop}
-use lib.Seq.{length-take-le, drop-length}
+use lib.ListN.{length, getD, set, take, drop, length-set}
+use lib.Seq.{length-take-le, drop-length, take-at, paste, paste-zero, paste-suc}
 use borrow.Author.Tests.{lt-ltb, le-ltb}
 use Rattle.codes.specs.Read.{directionValid, directionOf}
 use Rattle.codes.specs.Refusal.{Test, test, refusalOf, refusal-next, refusal-stays}
@@ -26,9 +26,10 @@ use Rattle.entry.specs.Entry.{entryTests, entryOf, edgesValid, edgesRead}
 use Rattle.rows.specs.Rows.{rowSize, insertAll, sorted, encodeAll}
 use Rattle.rows.specs.Each.{Every}
 use Rattle.rows.specs.Pour.{pour}
-use Rattle.rows.specs.Back.{LowFits, pour-all}
+use Rattle.rows.specs.Back.{LowFits, length-encode, pour-all}
+use Rattle.rows.specs.Order.{length-sorted}
 use Rattle.rows.specs.declared.SafeDial.{SafeDial}
-use Rattle.dials.specs.List.{withSideband, withLicense, withControl, knownRows, situationRows, listRows, lentTests, listTests, Listed, Filled, SafeDials}
+use Rattle.dials.specs.List.{withSideband, withLicense, withControl, knownRows, situationRows, listRows, lentTests, listTests, Listed, Begun, Filled, SafeDials}
 use Rattle.dials.specs.declared.DialList.{DialList}
 use Rattle.dials.specs.declared.DialList.the-variants.{Rows, Refused as NoList}
 
@@ -36,11 +37,6 @@ listed-as :
     (c d : Checked) (xs ys : List SafeDial) (lent left : List ℕ) (a : DialList) → c ≡ d → xs ≡ ys → Listed d ys lent left a
     → Listed c xs lent left a
 listed-as c d xs ys lent left a e f h = rw e (rw f h)
-
--- no bytes were lent for the count
-pub none-left : (l : List ℕ) → length l ≡ 0 → l ≡ []
-none-left [] e = refl
-none-left (x ∷ l) e = absurd (omega arith)
 
 -- ---- rows counted, and then refused or written
 
@@ -52,18 +48,48 @@ filled-none lent =
     refl
     (record { answered = refl; bytes = refl })
 
-pub filled-long : (xs : List SafeDial) (lent : List ℕ) → length lent / rowSize < length xs → Filled xs lent lent (NoList 23)
-filled-long xs lent h =
-    listed-as (refusalOf (lentTests xs lent)) (Refused 23) xs xs lent lent (NoList 23)
+pub filled-long : (xs : List SafeDial) (lent left : List ℕ) → left ≡ lent → length lent / rowSize < length xs → Filled xs lent left (NoList 23)
+filled-long xs lent left e h =
+    listed-as (refusalOf (lentTests xs lent)) (Refused 23) xs xs lent left (NoList 23)
     (rw (lt-ltb (length lent / rowSize) (length xs) h))
     refl
-    (record { answered = refl; bytes = refl })
+    (record { answered = refl; bytes = e })
 
 pub filled-fit :
-    (xs : List SafeDial) (lent part : List ℕ) (n : ℕ) → Every LowFits xs → n ≡ length xs → n ≤ length lent / rowSize
-    → part ≡ pour (take (n * rowSize) lent) 0 xs → Filled xs lent (part ++ drop (n * rowSize) lent) (Rows n)
-filled-fit xs lent part n f e h p =
-    let room : n * rowSize ≤ length lent = omega arith in
+    (xs : List SafeDial) (lent left : List ℕ) (n : ℕ) → n ≡ length xs → n ≤ length lent / rowSize
+    → left ≡ encodeAll (sorted xs) ++ drop (n * rowSize) lent → Filled xs lent left (Rows n)
+filled-fit xs lent left n e h p =
+    listed-as (refusalOf (lentTests xs lent)) Accepted xs xs lent left (Rows n)
+    (rw (le-ltb (length lent / rowSize) (length xs) (omega arith)))
+    refl
+    (record {
+      answered = ap Rows e;
+      bytes = p ∙ ap (λ (i : ℕ). encodeAll (sorted xs) ++ drop (i * rowSize) lent) e;
+    })
+
+-- rows poured into bytes, with room or without
+pub begun : (xs : List SafeDial) (l own : List ℕ) → Every LowFits xs → length own ≡ length l → own ≡ pour l 0 xs → Begun xs own
+begun xs l own f s p h =
+    let a : length (encodeAll (sorted xs)) ≡ length (sorted xs) * rowSize = length-encode (sorted xs) in
+    let b : length (sorted xs) ≡ length xs = length-sorted xs in
+    ap (λ (m : List ℕ). take (length xs * rowSize) m) (p ∙ pour-all l xs f (omega arith))
+    ∙ take-at (encodeAll (sorted xs)) (drop (length xs * rowSize) l) (length xs * rowSize) (omega arith)
+
+-- and copied from there
+pub copied :
+    (xs : List SafeDial) (lent own : List ℕ) (n : ℕ) → Begun xs own → n ≡ length xs → n * rowSize ≤ length own
+    → paste lent 0 own (n * rowSize) ≡ encodeAll (sorted xs) ++ drop (n * rowSize) lent
+copied xs lent own n b e h =
+    let z : 0 + n * rowSize ≡ n * rowSize = omega arith in
+    let k : length xs * rowSize ≡ n * rowSize = omega arith in
+    let t : take (n * rowSize) own ≡ encodeAll (sorted xs) = rw k at (b (omega arith)) in
+    rw z (ap (λ (m : List ℕ). m ++ drop (n * rowSize) lent) t)
+
+-- rows poured into as many bytes as they need
+pub poured-whole :
+    (xs : List SafeDial) (lent part : List ℕ) (n : ℕ) → Every LowFits xs → n ≡ length xs → n * rowSize ≤ length lent
+    → part ≡ pour (take (n * rowSize) lent) 0 xs → part ++ drop (n * rowSize) lent ≡ encodeAll (sorted xs) ++ drop (n * rowSize) lent
+poured-whole xs lent part n f e room p =
     let t : length (take (n * rowSize) lent) ≡ n * rowSize = length-take-le (n * rowSize) lent room in
     let k : length xs * rowSize ≡ length (take (n * rowSize) lent) = omega arith in
     let w : part ≡ encodeAll (sorted xs) =
@@ -71,13 +97,38 @@ filled-fit xs lent part n f e h p =
     ∙ ap (λ (i : ℕ). encodeAll (sorted xs) ++ drop i (take (n * rowSize) lent)) k
     ∙ ap (λ (m : List ℕ). encodeAll (sorted xs) ++ m) (drop-length (take (n * rowSize) lent))
     ∙ append-nil (encodeAll (sorted xs)) in
-    listed-as (refusalOf (lentTests xs lent)) Accepted xs xs lent (part ++ drop (n * rowSize) lent) (Rows n)
-    (rw (le-ltb (length lent / rowSize) (length xs) (omega arith)))
-    refl
-    (record {
-      answered = ap Rows e;
-      bytes = ap (λ (m : List ℕ). m ++ drop (n * rowSize) lent) w ∙ ap (λ (i : ℕ). encodeAll (sorted xs) ++ drop (i * rowSize) lent) e;
-    })
+    ap (λ (m : List ℕ). m ++ drop (n * rowSize) lent) w
+
+-- ---- a copy, byte by byte
+
+pub record Copying (lent own : List ℕ) (room : ℕ) (l : List ℕ) (k : ℕ) : Type 0 where
+  pub within : k ≤ room
+  pub same : length l ≡ length lent
+  pub held : l ≡ paste lent 0 own k
+
+module _ (lent own : List ℕ) (room : ℕ) where
+  pub copy-none : Copying lent own room lent 0
+  copy-none = record { within = omega arith; same = refl; held = paste-zero lent 0 own }
+
+  pub copy-step :
+      (l : List ℕ) (k : ℕ) → Copying lent own room l k → k < room → room ≤ length lent → room ≤ length own
+      → Copying lent own room (set l k (getD own k 0)) (k + 1)
+  copy-step l k c h a b =
+      let z : 0 + k ≡ k = omega arith in
+      let s : k + 1 ≡ suc k = omega arith in
+      let e : set (paste lent 0 own k) (0 + k) (getD own k 0) ≡ paste lent 0 own (suc k) = paste-suc lent 0 own k 0 (omega arith) (omega arith) in
+      record {
+        within = omega arith;
+        same = length-set l k (getD own k 0) ∙ c .same;
+        held =
+            ap (λ (m : List ℕ). set m k (getD own k 0)) (c .held) ∙ ap (λ (i : ℕ). set (paste lent 0 own k) i (getD own k 0)) (sym z)
+            ∙ e ∙ ap (λ (i : ℕ). paste lent 0 own i) (sym s);
+      }
+
+  pub copy-done : (l : List ℕ) (k : ℕ) → Copying lent own room l k → room ≤ k → l ≡ paste lent 0 own room
+  copy-done l k c h =
+      let e : k ≡ room = omega (arith, c .within) in
+      c .held ∙ ap (λ (i : ℕ). paste lent 0 own i) e
 
 -- ---- a station as it is read
 

@@ -1,10 +1,10 @@
 -- What the list call answers, and what it leaves in the lent bytes.
-use Prim.Native.Nat.{ℕ, _*_, _/_}
+use Prim.Native.Nat.{ℕ, _*_, _/_, _≤_}
 use mathlib.Core.Bool.{not, cond}
 use mathlib.Core.List.{List, [], _∷_, _++_}
 use mathlib.Core.Path.{_≡_}
 use lib.Dec.{ltb}
-use lib.ListN.{length, drop}
+use lib.ListN.{length, take, drop}
 use Rattle.codes.specs.Read.{directionValid, directionOf}
 use Rattle.codes.specs.Refusal.{Test, test, refusalOf}
 use Rattle.codes.specs.declared.LicenseClass.{LicenseClass}
@@ -85,6 +85,10 @@ bytesOf (Refused n) xs lent = lent
 pub record Listed (c : Checked) (xs : List SafeDial) (lent left : List ℕ) (answer : DialList) : Type 0 where
   pub answered : answer ≡ answerOf c xs
   pub bytes : left ≡ bytesOf c xs lent
+
+-- bytes with room for all the rows begin with them, in their order
+abbrev pub Begun : List SafeDial → List ℕ → Type 0
+Begun xs own = length xs * rowSize ≤ length own → take (length xs * rowSize) own ≡ encodeAll (sorted xs)
 
 -- rows that have only their length against them
 abbrev pub Filled : List SafeDial → List ℕ → List ℕ → DialList → Type 0

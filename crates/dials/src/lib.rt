@@ -11,16 +11,24 @@ use station::Situation;
 use station::StationRecord;
 use table::ChannelBand;
 ghost use mathlib.Core.List.{_++_};
+ghost use mathlib.Core.Path.{_≡_};
+ghost use Prim.Native.Nat.{_*_, _≤_};
+ghost use lib.ListN.{length, drop};
+ghost use lib.Seq.{paste};
+ghost use Rattle.rows.specs.Rows.{sorted, encodeAll};
 ghost use Rattle.layout.specs.Form.{Whole};
 ghost use Rattle.rows.specs.Pour.{Poured};
 ghost use Rattle.dial_rows.specs.Dials.{dataRows, bandRows};
-ghost use Rattle.dials.specs.List.{situationRows, Filled, SafeDials};
+ghost use Rattle.dials.specs.List.{situationRows, Begun, Filled, SafeDials};
 
 // A list of so many rows, or the number of the refusal.
 pub enum DialList {
     Rows(usize),
     Refused(u8),
 }
+
+// The bytes that rows are counted on: 64 rows. A list of no more takes one pass.
+const OWN: usize = 2304;
 
 // Every row, one after the other, into bytes that may have room for them or not; and their count.
 fn gather(image: &[u8], rows: &mut [u8], q: Request, band: ChannelBand) -> usize
@@ -34,19 +42,57 @@ fn gather(image: &[u8], rows: &mut [u8], q: Request, band: ChannelBand) -> usize
     }
 }
 
-// Counts the rows, refuses a list longer than the whole rows lent, and writes the rows where they fit.
+// The first bytes of one slice into another.
+fn copy(rows: &mut [u8], own: &[u8], room: usize)
+    requires { ⌜ (room ≤ length (now rows)) × (room ≤ length (now own)) ⌝ }
+    ensures { λ r. ⌜ now (rows .exit) ≡ paste (now (rows .entry)) 0 (now (own .entry)) room ⌝ }
+{
+    let mut k: usize = 0;
+    while k < room {
+        rows[k] = own[k];
+        k += 1;
+    }
+}
+
+// Writes the rows, which fit: from the bytes that they were counted on, where these had room for all, and else by one more pass.
+fn settle(image: &[u8], rows: &mut [u8], q: Request, band: ChannelBand, own: &[u8], count: usize)
+    requires { ⌜ (Whole (now image)) × (Begun (dataRows (now image) q ++ bandRows (now image) q band) (now own)) × (count ≡ length (dataRows (now image) q ++ bandRows (now image) q band)) × (count * 36 ≤ length (now rows)) ⌝ }
+    ensures { λ r. ⌜ now (rows .exit) ≡ encodeAll (sorted (dataRows (now (image .entry)) q ++ bandRows (now (image .entry)) q band)) ++ drop (count * 36) (now (rows .entry)) ⌝ }
+{
+    let room = count * rows::ROW_SIZE;
+    if room <= own.len() {
+        copy(rows, own, room);
+        return;
+    }
+    gather(image, &mut rows[..room], q, band);
+}
+
+// Counts the rows on bytes of their own, refuses a list longer than the whole rows lent, and writes the rows where they fit.
+fn fill_from(
+    image: &[u8],
+    rows: &mut [u8],
+    own: &mut [u8],
+    q: Request,
+    band: ChannelBand,
+) -> DialList
+    requires { ⌜ Whole (now image) ⌝ }
+    ensures { λ a. ⌜ Filled (dataRows (now (image .entry)) q ++ bandRows (now (image .entry)) q band) (now (rows .entry)) (now (rows .exit)) a ⌝ }
+{
+    let count = gather(image, own, q, band);
+    if rows.len() / rows::ROW_SIZE < count {
+        return DialList::Refused(23);
+    }
+    settle(image, rows, q, band, own, count);
+    DialList::Rows(count)
+}
+
+// The same with bytes made for it.
 fn fill(image: &[u8], rows: &mut [u8], q: Request, band: ChannelBand) -> DialList
     requires { ⌜ Whole (now image) ⌝ }
     ensures { λ a. ⌜ Filled (dataRows (now (image .entry)) q ++ bandRows (now (image .entry)) q band) (now (rows .entry)) (now (rows .exit)) a ⌝ }
 {
-    let none: usize = 0;
-    let count = gather(image, &mut rows[..none], q, band);
-    if rows.len() / rows::ROW_SIZE < count {
-        return DialList::Refused(23);
-    }
-    let room = count * rows::ROW_SIZE;
-    gather(image, &mut rows[..room], q, band);
-    DialList::Rows(count)
+    let mut own = [0u8; OWN];
+    fill_from(image, rows, &mut own, q, band)
 }
 
 // The list for a station and edges as they are read, under Rules.
