@@ -5,16 +5,12 @@ use borrow.Author.Needs.{needs}
 use Rattle.find.proofs.class_holding.Statement.{statement}
 use Rattle.find.proofs.class_holding.Tie as tie
 
-span-of-requires : tie.Need-span-of-requires
-span-of-requires c κs = search needs
-
-holds-requires : tie.Need-holds-requires
-holds-requires c κs = search needs
+holding-requires : tie.Need-holding-requires
+holding-requires c κs = search needs
 
 returns : tie.Need-returns
 unfolding asks
-returns c =
-    rw (eq-eqb _ _ (c .before .before .if1 .taken)) (rw (c .holds .ensures) (rw (c .before .span-of .ensures)))
+returns c = rw (eq-eqb _ _ (c .before .if1 .taken)) (rw (c .holding .ensures))
 
 returns-2 : tie.Need-returns-2
 unfolding asks
@@ -22,4 +18,4 @@ returns-2 c =
     rw (ne-eqb _ _ (c .if1 .left))
 
 pub class-holding-spec : {M : Type 1} → statement M
-class-holding-spec = tie.close (tie.spec span-of-requires holds-requires returns returns-2)
+class-holding-spec = tie.close (tie.spec holding-requires returns returns-2)
