@@ -16,7 +16,7 @@ use Rattle.rows.specs.Rows.{rowSize, lowAt, highAt, bandAt}
 use Rattle.distance.specs.Distance.{isOutside, counts, distanceTo, nearerOf, consideredAt, leastUpTo}
 use Rattle.distance.specs.declared.Distance.{Distance}
 use Rattle.distance.specs.declared.Distance.the-variants.{Hertz, NoneListed, Refused as NoAnswer}
-use Rattle.demand_3.specs.Words.{nought}
+use Rattle.demand_3.specs.Words.{nought, answers}
 use Rattle.demand_3.specs.Tests.{and-left, and-right, and-both, same}
 use Rattle.demand_3.specs.Order.{Grid, grid, figure-grid, lt-true, lt-false, le-by-lt}
 use Rattle.demand_3.specs.Dial.{RowEnd}
@@ -239,3 +239,22 @@ module _ (dial : Float) (flags channel : ℕ) (rows : List ℕ) where
   unfolding leastUpTo consideredAt
   least-none zero h = refl
   least-none (suc n) h = rw (h n (omega arith)) (least-none n (λ i k. h i (omega arith)))
+
+  -- The least is an answer.
+  pub least-answers : (n : ℕ) → answers (leastUpTo dial flags channel rows n) ≡ true
+  unfolding leastUpTo consideredAt
+  least-answers zero = refl
+  least-answers (suc n) = go (countsAt n) (leastUpTo dial flags channel rows n) (least-answers n)
+    where
+      by : Float
+      by = distanceTo dial (lowOf n) (highOf n)
+
+      nearer : (b : Bool) (a : Float) → answers (cond b (Hertz by) (Hertz a)) ≡ true
+      nearer true a = refl
+      nearer false a = refl
+
+      go : (b : Bool) (best : Distance) → answers best ≡ true → answers (cond b (nearerOf best by) best) ≡ true
+      go true (Hertz a) e = nearer (lt by a) a
+      go true NoneListed e = refl
+      go true (NoAnswer k) e = e
+      go false best e = e

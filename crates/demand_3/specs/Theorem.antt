@@ -65,13 +65,13 @@ use Rattle.verdict.specs.Laws.{ruled-met}
 use Rattle.distance.specs.Distance.{isOutside, leastUpTo, distanceOf}
 use Rattle.distance.specs.declared.Distance.the-variants.{NoneListed}
 use Rattle.eighths.specs.Grid.{Figure, inEighths}
-use Rattle.demand_3.specs.Words.{imageInEighths, edgesInEighths, stationInEighths, hertzInEighths, tuned, audioOf, accepted, inForce, hasControl, hasLicense, hasSideband, prerequisitesMet, positiveWidth, channelBandHolds, channelsHold, onChannelBand, verdictAt, sent, allows, distanceAt, nought, NoneOutside, Premises, Demand3}
+use Rattle.demand_3.specs.Words.{imageInEighths, edgesInEighths, stationInEighths, hertzInEighths, tuned, audioOf, accepted, inForce, hasControl, hasLicense, hasSideband, prerequisitesMet, positiveWidth, channelBandHolds, channelsHold, onChannelBand, verdictAt, sent, allows, distanceAt, nought, answers, NoneOutside, Premises, Demand3}
 use Rattle.demand_3.specs.Tests.{and-left, and-right, and-both, same}
 use Rattle.demand_3.specs.Order.{Figures}
 use Rattle.demand_3.specs.Dial.{guarded-lengthy}
 use Rattle.demand_3.specs.Listed.{some-of, Spans, guardedAt, lies, data-in, data-of}
 use Rattle.demand_3.specs.Rows.{RowEnds, rows-listed, rows-ends}
-use Rattle.demand_3.specs.Nearest.{least-none}
+use Rattle.demand_3.specs.Nearest.{least-none, least-answers}
 use Rattle.demand_3.specs.Read.{rows-nought}
 use Rattle.demand_3.specs.Judged.{Comparable, OffChannels, judged-in, judged-of}
 use Rattle.demand_3.specs.Same.{Tidied, tidied, Match, lawful-judged, judged-lawful}
@@ -456,6 +456,10 @@ pub demand-3 :
     → Demand3 r direction e l count left dial
 demand-3 r direction e l lent left answer count dial L P =
     record {
+      answered =
+          ap answers (distance-is r direction e l lent left answer count dial L P)
+          ∙ least-answers (readHz dial) (generalOf l .flags) (generalOf l .«channel_band»)
+          (encodeAll (sorted (listRows r direction e l)) ++ drop (length (listRows r direction e l) * rowSize) lent) (length (listRows r direction e l));
       exactly = nought-exactly r direction e l lent left answer count dial L P;
       none-listed = λ none.
           let d = none-is r direction e l lent left answer count dial L P none in (

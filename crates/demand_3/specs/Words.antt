@@ -189,6 +189,12 @@ nought (Hertz d) = eq d zeroHz
 nought NoneListed = false
 nought (NoAnswer n) = false
 
+-- a distance or "none listed", and no refusal
+abbrev pub answers : Distance → Bool
+answers (Hertz d) = true
+answers NoneListed = true
+answers (NoAnswer n) = false
+
 -- no row that was left lies outside the channel band
 abbrev pub NoneOutside : List ℕ → ℕ → List ℕ → Type 0
 NoneOutside l count left =
@@ -208,6 +214,8 @@ pub record Premises (r : StationRecord) (direction : ℕ) (e : Edges) (l : List 
   pub off-channels : onChannelBand r e l dial ≡ false
 
 pub record Demand3 (r : StationRecord) (direction : ℕ) (e : Edges) (l : List ℕ) (count : ℕ) (left : List ℕ) (dial : Float) : Type 0 where
+  -- the distance call refuses no such dial
+  pub answered : answers (distanceAt l count left dial) ≡ true
   -- "the distance … is nought exactly when the gate allows data at that dial"
   pub exactly : nought (distanceAt l count left dial) ≡ allows (verdictAt r direction e l dial)
   -- "with none listed the answer says so and isn't nought, and the gate blocks data at that dial"
