@@ -27,7 +27,10 @@ struct Record {
     figure: f64,
     band: u8,
     class: u8,
+    emissions: u8,
+    flags: u8,
     rule: u16,
+    second_rule: u16,
 }
 
 pub struct Table {
@@ -43,8 +46,18 @@ fn span(from: f64, low: f64, high: f64) -> Record {
     Record { low: from + low, high: from + high, ..Record::default() }
 }
 
-/// Classes of the privileges, the first six records of a band.
+/// Classes of the privileges, the first six records of a band. Technician and Novice have lists of
+/// emissions on six bands of ten.
 const CLASSES: [u8; 6] = [4, 3, 2, 2, 1, 0];
+
+fn has_list(class: u8, band: usize) -> bool {
+    class < 2 && band % 10 < 6
+}
+
+/// Each fifth data segment has a limit of its own, and a rule for it.
+fn has_limit(segment: usize) -> bool {
+    segment % 5 == 0
+}
 
 impl Table {
     /// So many records of each table, spread over the bands.
@@ -60,6 +73,9 @@ impl Table {
             each(SEGMENTS, &|b, k| Record {
                 band: b as u8,
                 rule: RULE + 1,
+                figure: if has_limit(b + k * bands) { 2_800.0 } else { 0.0 },
+                flags: if has_limit(b + k * bands) { 3 } else { 0 },
+                second_rule: if has_limit(b + k * bands) { RULE + 3 } else { 0 },
                 ..span(start(b), 75_000.0 * k as f64, 75_000.0 * (k + 1) as f64)
             }),
             (0..channels)
@@ -68,6 +84,8 @@ impl Table {
                 .collect(),
             each(PRIVILEGES, &|b, k| Record {
                 class: CLASSES[k % 6],
+                emissions: if has_list(CLASSES[k % 6], b) { 3 } else { 0 },
+                flags: u8::from(has_list(CLASSES[k % 6], b)),
                 ..match k % 6 {
                     3 => span(start(b), 200_000.0, 400_000.0),
                     2 => span(start(b), 25_000.0, 150_000.0),
@@ -105,9 +123,9 @@ impl Table {
             for x in [r.low, r.high, r.figure] {
                 out.extend(x.to_bits().to_le_bytes());
             }
-            out.extend([r.band, r.class, 0, 0]);
+            out.extend([r.band, r.class, r.emissions, r.flags]);
             out.extend(r.rule.to_le_bytes());
-            out.extend([0; 2]);
+            out.extend(r.second_rule.to_le_bytes());
         }
         let front = out.len() as u32;
         for t in &self.tables {
@@ -127,7 +145,11 @@ impl Table {
             self.tables[PRIVILEGES]
                 .iter()
                 .filter(|p| p.class == number)
-                .map(|p| Privilege { range: range(p), emissions: None, rule: None })
+                .map(|p| Privilege {
+                    range: range(p),
+                    emissions: (p.flags == 1).then(|| vec!["data".to_owned(), "cw".to_owned()]),
+                    rule: None,
+                })
                 .collect()
         };
         let areas = |table: usize| -> Vec<PlanArea> {
@@ -163,8 +185,8 @@ impl Table {
                     band: name(s.band),
                     range: range(s),
                     rule: text(s.rule),
-                    max_bandwidth_hz: None,
-                    bandwidth_rule: None,
+                    max_bandwidth_hz: (s.flags == 3).then_some(s.figure),
+                    bandwidth_rule: (s.flags == 3).then(|| text(s.second_rule)),
                 })
                 .collect(),
             channels: Some(Channels {

@@ -1,12 +1,11 @@
 // What an operator is told of a lawful data transmission: power limits (97.313) and the voluntary band plan. It uses
-// profile, station, scan, layout, table, find, decision and part97.
+// profile, station, scan, layout, table, find, decision, part97 and findings.
 use decision::Advice;
 use decision::Code;
 use decision::Decision;
 use decision::Draft;
 use decision::Guidance;
 use decision::Overshoot;
-use decision::Verdict;
 use find::Question;
 use part97::Case;
 use profile::Range;
@@ -17,7 +16,7 @@ ghost use mathlib.Core.Path.{_≡_};
 ghost use mathlib.Core.Bool.{_||_};
 ghost use Rattle.layout.specs.Layout.{countOf, power};
 ghost use Rattle.layout.specs.Form.{Whole};
-ghost use Rattle.part97.specs.Part97.{exceeds, noted, noteAt, notesUpTo, anyNote, wantsPlan, planSays, guidanceOf, planWarns, warned, adviceOf, adviceWarns, advised};
+ghost use Rattle.part97.specs.Part97.{exceeds, noted, noteAt, notesUpTo, anyNote, wantsPlan, planSays, guidanceOf, planWarns, adviceOf, adviceWarns, advised};
 
 // Whether a known power is above a limit.
 pub fn above(watts: Figure, most: f64) -> bool
@@ -117,13 +116,6 @@ fn either(a: bool, b: bool) -> bool
     a || b
 }
 
-// A warning, or legal.
-pub fn warned_if(b: bool) -> Verdict
-    ensures { λ x. ⌜ x ≡ warned b ⌝ }
-{
-    if b { Verdict::Warning } else { Verdict::Legal }
-}
-
 // A lawful data transmission over a range, with what the operator should know.
 pub fn advise(s: &[u8], c: Case, r: Range, draft: Draft, code: Code, rule: u16) -> Decision
     requires { ⌜ Whole (now s) ⌝ }
@@ -140,7 +132,7 @@ pub fn advise(s: &[u8], c: Case, r: Range, draft: Draft, code: Code, rule: u16) 
     };
     decision::finish(
         draft,
-        warned_if(warn),
+        findings::warned_if(warn),
         code,
         rule,
         Overshoot::NoOvershoot,

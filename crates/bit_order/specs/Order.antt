@@ -2,18 +2,17 @@
 -- the greater figure. So a figure whose bits are at most those of 2^40 is in size.
 use Prim.Native.Nat.{ℕ, zero, suc, _+_, _*_, _/_, _%_, _^_, _≤_, _<_}
 use mathlib.Core.Path.{_≡_, refl, sym, ap, _∙_, subst}
-use mathlib.Core.Bool.{Bool, true, false, not, cond, _&&_, true≢false}
-use mathlib.Core.Logic.{inl, inr}
+use mathlib.Core.Bool.{Bool, true, false, cond, true≢false}
 use native.Mathlib.Nat.{le-trans, le-of-eq, lt-of-lt-of-le, lt-of-le-of-lt, mul-lt-mul-of-pos-right, mul-le-mul, mul-le-mul-left, le-mul-of-pos-right, div-add-mod', mod-lt, mod-eq-of-lt, mul-assoc, mul-comm, mul-right-comm, mul-pos, lt-of-mul-lt-mul-right, two-pow-succ, zero-mul}
 use native.Mathlib.Omega.{arith}
 use native.Mathlib.Decide.{decLe}
-use lib.Dec.{T, leb, ltb, eqb}
+use lib.Dec.{leb}
 use lib.IntN.{ℤ, pos, negsuc}
 use lib.Pow.{pow-pos, pow-mono}
 use lib.Ieee.{Float, nan, inf, fin, binary64, up, down, hid, top, ones, low, odd, ofBits, ofFields, lt, le, eq, neg}
 use lib.Ieee.Exact.{HasValue, odd-sign}
 use borrow.Author.Tests.{lt-ltb, le-ltb, le-leb, lt-leb, eq-eqb, ne-eqb}
-use Rattle.figures.specs.Figure.{zeroHz, limit40, absOf, inSize, figureOf}
+use Rattle.figures.specs.Figure.{zeroHz, limit40, inSize, figureOf}
 
 -- the magnitude of a pattern's fields, in units of the least figure: an exponent's field of 0 has no leading digit
 mag : ℕ → ℕ → ℕ → ℕ
@@ -157,6 +156,24 @@ bits-le-not a b h k = le-back (magnitude a) (magnitude b) (2 ^ low binary64) (ma
 lt-le : (x y : Float) → lt x y ≡ true → le x y ≡ true
 unfolding le
 lt-le x y e = rw e
+
+le-self : (x : Float) (a c : ℕ) → HasValue x false a c → le x x ≡ true
+unfolding le lt eq
+le-self nan a c p = absurd p
+le-self (inf s) a c p = absurd p
+le-self (fin true m e) a c p = absurd (true≢false (p .0))
+le-self (fin false m e) a c p = rw (le-ltb (m * up e * down e) (m * up e * down e) (omega arith)) (rw (eq-eqb (m * up e * down e) (m * up e * down e) refl))
+
+-- figures compare as their bits do
+pub bits-le : (a b : ℕ) → a ≤ limitBits → b ≤ limitBits → le (figureOf a) (figureOf b) ≡ leb a b
+bits-le a b h k = go (decLe a b) (decLe b a)
+  where
+    go : Dec (a ≤ b) → Dec (b ≤ a) → le (figureOf a) (figureOf b) ≡ leb a b
+    go (yes p) (yes q) =
+        let e : a ≡ b = omega arith in
+        rw e (le-self (figureOf b) (magnitude b) (2 ^ low binary64) (value b k) ∙ sym (le-leb b b (omega arith)))
+    go (yes p) (no q) = lt-le (figureOf a) (figureOf b) (bits-lt a b (omega arith) k) ∙ sym (le-leb a b p)
+    go (no p) q = bits-le-not b a (omega arith) h ∙ sym (lt-leb a b (omega arith))
 
 at-most : (b : ℕ) → b ≤ limitBits → le (figureOf b) limit40 ≡ true
 at-most b h = go (decLe (suc b) limitBits)

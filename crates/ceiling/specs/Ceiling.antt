@@ -22,9 +22,7 @@ use Rattle.station.specs.declared.StationRecord.{StationRecord}
 use Rattle.station.specs.declared.Situation.{Situation}
 use Rattle.layout.specs.Bytes.{byteAt}
 use Rattle.entry.specs.Entry.{entryTests, edgesValid, edgesRead}
-use Rattle.decision.specs.Decision.{refusedOf}
-use Rattle.decision.specs.declared.Verdict.{Verdict}
-use Rattle.decision.specs.declared.Verdict.the-variants.{Legal, Warning, Blocked}
+use Rattle.decision.specs.Decision.{isBlocked, refusedOf}
 use Rattle.decision.specs.declared.Decision.{Decision}
 use Rattle.verdict.specs.Verdict.{decideOf}
 use Rattle.ceiling.specs.declared.Rung.{Rung}
@@ -59,11 +57,6 @@ burstOf ordinary floor rungs floors k = unionOf (rungOf rungs k) (controlOf ordi
 abbrev pub joinedOf : Envelope → Edges → Edges
 joinedOf (Reached e) more = unionOf e more
 joinedOf Unreached more = more
-
-abbrev pub isBlocked : Verdict → Bool
-isBlocked Legal = false
-isBlocked Warning = false
-isBlocked Blocked = true
 
 -- an absent decision: that of refusal 0, which no input meets
 abbrev pub noDecision : Decision

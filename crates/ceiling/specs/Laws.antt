@@ -15,8 +15,9 @@ use Rattle.station.specs.declared.StationRecord.{StationRecord}
 use Rattle.entry.specs.Entry.{entryTests}
 use Rattle.occupancy.specs.declared.Edges.{Edges}
 use Rattle.scan.specs.First.{cond-yes, cond-not}
+use Rattle.decision.specs.Decision.{isBlocked}
 use Rattle.decision.specs.declared.Decision.{Decision}
-use Rattle.ceiling.specs.Ceiling.{joinedOf, isBlocked, noDecision, startOf, endedOf, wentOn, judgedOf, rungJudged, stepOf, climbed, anyUnmarked, badRungs, rungTests, ceilingTests}
+use Rattle.ceiling.specs.Ceiling.{joinedOf, noDecision, startOf, endedOf, wentOn, judgedOf, rungJudged, stepOf, climbed, anyUnmarked, badRungs, rungTests, ceilingTests}
 use Rattle.ceiling.specs.declared.Climb.{Climb}
 use Rattle.ceiling.specs.declared.Envelope.{Envelope}
 use Rattle.ceiling.specs.declared.Envelope.the-variants.{Reached, Unreached}

@@ -19,8 +19,9 @@ use Rattle.scan.specs.declared.Found.the-variants.{At, Nothing}
 use Rattle.station.specs.Station.{situationOf}
 use Rattle.station.specs.declared.StationRecord.{StationRecord}
 use Rattle.entry.specs.Entry.{edgesRead}
+use Rattle.decision.specs.Decision.{isBlocked}
 use Rattle.decision.specs.declared.Decision.{Decision}
-use Rattle.ceiling.specs.Ceiling.{joinedOf, isBlocked, noDecision, startOf, endedOf, wentOn, judgedOf, judgeBy, rungJudged, stepOf, climbed, burstOf, ceilingTests, unlessRefused, ceilingOf}
+use Rattle.ceiling.specs.Ceiling.{joinedOf, noDecision, startOf, endedOf, wentOn, judgedOf, judgeBy, rungJudged, stepOf, climbed, burstOf, ceilingTests, unlessRefused, ceilingOf}
 use Rattle.ceiling.specs.declared.Rung.{Rung}
 use Rattle.ceiling.specs.declared.Rung.the-variants.{Fastest, NoRung}
 use Rattle.ceiling.specs.declared.Envelope.{Envelope}

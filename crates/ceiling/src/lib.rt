@@ -1,10 +1,9 @@
 // The ceiling: the fastest rung that may be sent, and the verdict on the first that may not. A public call. It uses figures,
-// codes, occupancy, profile, station, layout, entry, decision and verdict; its definitions use scan too.
+// codes, occupancy, profile, station, layout, entry, decision, verdict and barred; its definitions use scan too.
 use codes::Checked;
 use codes::Direction;
 use codes::EmissionKind;
 use decision::Decision;
-use decision::Verdict;
 use occupancy::Edges;
 use profile::Range;
 use station::Situation;
@@ -15,7 +14,7 @@ ghost use lib.ListN.{length};
 ghost use Rattle.codes.specs.Refusal.{refusalOf};
 ghost use Rattle.codes.specs.declared.Policy.the-variants.{Rules};
 ghost use Rattle.layout.specs.Form.{Whole};
-ghost use Rattle.ceiling.specs.Ceiling.{figureAt, isBlocked, rungOf, controlOf, burstOf, joinedOf, startOf, judgeBy, judgedOf, rungJudged, climbed, anyUnsized, anyUnmarked, badEdges, badRungs, ceilingTests, ceilingOf};
+ghost use Rattle.ceiling.specs.Ceiling.{figureAt, rungOf, controlOf, burstOf, joinedOf, startOf, judgeBy, judgedOf, rungJudged, climbed, anyUnsized, anyUnmarked, badEdges, badRungs, ceilingTests, ceilingOf};
 
 // The fastest rung allowed.
 pub enum Rung {
@@ -180,16 +179,6 @@ fn joined(envelope: Envelope, more: Edges) -> Edges
     }
 }
 
-fn is_blocked(v: Verdict) -> bool
-    ensures { λ x. ⌜ x ≡ isBlocked v ⌝ }
-{
-    match v {
-        Verdict::Legal => false,
-        Verdict::Warning => false,
-        Verdict::Blocked => true,
-    }
-}
-
 // The climb over all rungs. It ends at the first that is blocked.
 fn climb_all(
     image: &[u8],
@@ -212,9 +201,8 @@ fn climb_all(
     while i < count {
         let more = burst(ordinary, floor, rungs, floors, i);
         let e = joined(envelope, more);
-        let d = verdict::decide(image, s, policy, dial, EmissionKind::Data, direction, e);
-        let verdict = d.verdict;
-        if is_blocked(verdict) {
+        if barred::barred(image, s, policy, dial, EmissionKind::Data, direction, e) {
+            let d = verdict::decide(image, s, policy, dial, EmissionKind::Data, direction, e);
             return Climb {
                 envelope: Envelope::Reached(e),
                 rung,

@@ -1,14 +1,15 @@
 // Data off 60 m: inside a data segment (97.305(c)), no wider than its limit (97.307(f)), under the operator's privileges
-// (97.301) and, for automatic control, 97.221. It uses profile, layout, table, find, decision, part97, drafts,
-// privileges_97_301, advice_97_313, automatic_data_97_221 and overshoot_97_305.
+// (97.301) and, for automatic control, 97.221. It uses profile, layout, table, find, decision, part97, findings,
+// privileges_97_301, automatic_data_97_221 and overshoot_97_305.
 use codes::EmissionKind;
 use decision::BandNumber;
 use decision::Code;
-use decision::Decision;
+use decision::MaybeRange;
 use decision::Verdict;
 use find::Pick;
 use find::Question;
 use part97::Case;
+use part97::Finding;
 use part97::Nearest;
 use part97::Privileged;
 use profile::DataLimit;
@@ -18,33 +19,28 @@ ghost use Rattle.layout.specs.Layout.{segments};
 ghost use Rattle.layout.specs.Form.{Whole};
 ghost use Rattle.find.specs.Question.{firstIn};
 ghost use Rattle.find.specs.declared.Question.the-variants.{Holds};
-ghost use Rattle.part97.specs.Part97.{outsideSegments, insideSegment, tooWide, judgeData};
+ghost use Rattle.decision.specs.declared.BandNumber.the-variants.{Band};
+ghost use Rattle.decision.specs.declared.Code.the-variants.{TooWide};
+ghost use Rattle.decision.specs.declared.Verdict.the-variants.{Blocked};
+ghost use Rattle.part97.specs.Part97.{outsideSegments, insideSegment, judgeData};
+ghost use Rattle.part97.specs.Finding.{onBand, concluded};
 
 // No data segment holds the guarded signal: the nearest one says how far it lies outside.
-fn outside_segments(s: &[u8], c: Case, band: u8) -> Decision
+fn outside_segments(s: &[u8], c: Case, band: u8) -> Finding
     requires { ⌜ Whole (now s) ⌝ }
-    ensures { λ x. ⌜ x ≡ outsideSegments (now (s .entry)) c band ⌝ }
+    ensures { λ x. ⌜ concluded (now (s .entry)) c x ≡ outsideSegments (now (s .entry)) c band ⌝ }
 {
     let air = c.air;
     match overshoot_97_305::nearest_segment(s, c) {
         Nearest::Near(i, _) => {
             let g = table::segment_of(table::record_of(s, layout::SEGMENTS, i));
             let range = g.range;
-            let draft = drafts::draft_inside(c, band, range, g.rule);
             let overshoot = overshoot_97_305::overshoot_of(range, air);
-            decision::finish(
-                draft,
-                Verdict::Blocked,
-                Code::OutsideDataSegment,
-                g.rule,
-                overshoot,
-                decision::no_advice(),
-            )
+            findings::beyond_segment(band, range, g.rule, overshoot)
         }
         Nearest::NoneNear => {
-            let draft = drafts::draft_of(c, BandNumber::Band(band));
-            decision::simple(
-                draft,
+            findings::on_band(
+                BandNumber::Band(band),
                 Verdict::Blocked,
                 Code::NoDataHere,
                 decision::RULE_97_305C,
@@ -54,32 +50,41 @@ fn outside_segments(s: &[u8], c: Case, band: u8) -> Decision
 }
 
 // Inside a data segment: the operator's privileges, then automatic control.
-fn inside_segment(s: &[u8], c: Case, band: u8, segment: Segment) -> Decision
+fn inside_segment(s: &[u8], c: Case, band: u8, segment: Segment) -> Finding
     requires { ⌜ Whole (now s) ⌝ }
-    ensures { λ x. ⌜ x ≡ insideSegment (now (s .entry)) c band segment ⌝ }
+    ensures { λ x. ⌜ concluded (now (s .entry)) c x ≡ insideSegment (now (s .entry)) c band segment ⌝ }
 {
     let range = segment.range;
     let air = c.air;
-    let draft = drafts::draft_inside(c, band, range, segment.rule);
     match privileges_97_301::privileged(s, c, EmissionKind::Data) {
         Privileged::Granted => {
             if c.automatic {
                 return automatic_data_97_221::automatic_data(s, c, band, range, segment.rule);
             }
-            advice_97_313::advise(s, c, air, draft, Code::Permitted, segment.rule)
+            findings::lawful_in(
+                band,
+                range,
+                segment.rule,
+                MaybeRange::NoRange,
+                air,
+                Code::Permitted,
+                segment.rule,
+            )
         }
         Privileged::Forbidden => {
-            decision::simple(
-                draft,
-                Verdict::Blocked,
+            findings::in_segment(
+                band,
+                range,
+                segment.rule,
                 Code::Privilege,
                 decision::RULE_97_307F9,
             )
         }
         Privileged::Unheld => {
-            decision::simple(
-                draft,
-                Verdict::Blocked,
+            findings::in_segment(
+                band,
+                range,
+                segment.rule,
                 Code::Privilege,
                 decision::RULE_97_301,
             )
@@ -88,17 +93,21 @@ fn inside_segment(s: &[u8], c: Case, band: u8, segment: Segment) -> Decision
 }
 
 // Too wide, by a limit.
-fn too_wide(c: Case, band: u8, limit: DataLimit) -> Decision
-    ensures { λ x. ⌜ x ≡ tooWide c band limit ⌝ }
+fn too_wide(band: u8, limit: DataLimit) -> Finding
+    ensures { λ x. ⌜ x ≡ onBand (Band band) Blocked TooWide (limit .rule) ⌝ }
 {
-    let draft = drafts::draft_of(c, BandNumber::Band(band));
-    decision::simple(draft, Verdict::Blocked, Code::TooWide, limit.rule)
+    findings::on_band(
+        BandNumber::Band(band),
+        Verdict::Blocked,
+        Code::TooWide,
+        limit.rule,
+    )
 }
 
 // By the first data segment that holds the guarded range; too wide comes before "no segment".
-pub fn judge_data(s: &[u8], c: Case, band: u8) -> Decision
+pub fn judge_data(s: &[u8], c: Case, band: u8) -> Finding
     requires { ⌜ Whole (now s) ⌝ }
-    ensures { λ x. ⌜ x ≡ judgeData (now (s .entry)) c band (firstIn (now (s .entry)) segments (Holds (c .guarded))) ⌝ }
+    ensures { λ x. ⌜ concluded (now (s .entry)) c x ≡ judgeData (now (s .entry)) c band (firstIn (now (s .entry)) segments (Holds (c .guarded))) ⌝ }
 {
     let guarded = c.guarded;
     let general = table::data_of(layout::general_of(s));
@@ -109,13 +118,13 @@ pub fn judge_data(s: &[u8], c: Case, band: u8) -> Decision
             let second = segment.second;
             let limit = profile::data_limit(own, second, general);
             if limit.max_bandwidth_hz < c.width {
-                return too_wide(c, band, limit);
+                return too_wide(band, limit);
             }
             inside_segment(s, c, band, segment)
         }
         Pick::Missing => {
             if general.max_bandwidth_hz < c.width {
-                return too_wide(c, band, general);
+                return too_wide(band, general);
             }
             outside_segments(s, c, band)
         }

@@ -3,27 +3,18 @@ use Prim.Native.Nat.{ℕ}
 use mathlib.Core.Bool.{Bool, true, false}
 use mathlib.Core.List.{List}
 use lib.ListN.{replicate}
-use lib.Ieee.{Float}
-use Rattle.codes.specs.declared.Checked.{Checked}
 use Rattle.codes.specs.declared.Checked.the-variants.{Accepted, Refused}
-use Rattle.profile.specs.declared.Range.{Range}
-use Rattle.profile.specs.declared.RuleName.{RuleName}
 use Rattle.profile.specs.declared.RuleName.the-variants.{Named, Unnamed}
-use Rattle.station.specs.declared.Figure.{Figure}
 use Rattle.station.specs.declared.Figure.the-variants.{Known, Absent}
 use Rattle.decision.specs.declared.Verdict.{Verdict}
-use Rattle.decision.specs.declared.Verdict.the-variants.{Blocked}
+use Rattle.decision.specs.declared.Verdict.the-variants.{Legal, Warning, Blocked}
 use Rattle.decision.specs.declared.Code.{Code}
 use Rattle.decision.specs.declared.Code.the-variants.{NoCode}
 use Rattle.decision.specs.declared.Overshoot.{Overshoot}
 use Rattle.decision.specs.declared.Overshoot.the-variants.{NoOvershoot}
-use Rattle.decision.specs.declared.Guidance.{Guidance}
 use Rattle.decision.specs.declared.Guidance.the-variants.{NoGuidance}
-use Rattle.decision.specs.declared.BandNumber.{BandNumber}
 use Rattle.decision.specs.declared.BandNumber.the-variants.{NoBand}
-use Rattle.decision.specs.declared.JudgedSegment.{JudgedSegment}
 use Rattle.decision.specs.declared.JudgedSegment.the-variants.{NoSegment}
-use Rattle.decision.specs.declared.MaybeRange.{MaybeRange}
 use Rattle.decision.specs.declared.MaybeRange.the-variants.{Is, NoRange}
 use Rattle.decision.specs.declared.SixtyNotes.{SixtyNotes}
 use Rattle.decision.specs.declared.Draft.{Draft}
@@ -39,6 +30,12 @@ noNotes = replicate 256 0
 
 unfoldable pub noAdvice : Advice
 noAdvice = record { guidance = NoGuidance; notes = noNotes; sixty = noMarks }
+
+-- not permitted: nothing is sent
+abbrev pub isBlocked : Verdict → Bool
+isBlocked Legal = false
+isBlocked Warning = false
+isBlocked Blocked = true
 
 -- a decision from its draft
 unfoldable pub finishOf : Draft → Verdict → Code → ℕ → Overshoot → Advice → Decision

@@ -1,2 +1,1 @@
 pub mod Question
-pub mod Home

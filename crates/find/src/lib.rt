@@ -7,10 +7,9 @@ use scan::Found;
 ghost use mathlib.Core.Path.{_≡_};
 ghost use Prim.Native.Nat.{_+_, _*_, _≤_, _<_};
 ghost use lib.ListN.{length};
-ghost use Rattle.scan.specs.First.{first, some, isAt};
+ghost use Rattle.scan.specs.First.{first, some};
 ghost use mathlib.Core.Bool.{false};
 ghost use Rattle.layout.specs.Form.{Whole};
-ghost use Rattle.find.specs.Home.{heldBy};
 ghost use Rattle.find.specs.Question.{soundBits, soundRecord, noLimit, asks, asksAt, firstIn, someIn, pickIn, homeQuestion, homelessOf};
 
 // What is asked of a record.
@@ -235,59 +234,6 @@ pub fn homeless(s: &[u8], own: bool) -> bool
         let r = layout::record_at(s, start + layout::RECORD_SIZE * i);
         if !some_in(s, layout::BANDS, home_question(own, r)) {
             return true;
-        }
-        i += 1;
-    }
-    false
-}
-
-// Whether band j, where there is one, holds a range.
-fn held_by(s: &[u8], j: usize, a: Range) -> bool
-    requires { ⌜ Whole (now s) ⌝ }
-    ensures { λ x. ⌜ x ≡ heldBy (now (s .entry)) a j ⌝ }
-{
-    let count = layout::count_of(s, layout::BANDS) as usize;
-    if j < count {
-        return holding(table::record_of(s, layout::BANDS, j), a);
-    }
-    false
-}
-
-// A band that holds a range: band near, the next one, or else the first of all. Segments mostly stand in the bands' order.
-fn home_near(s: &[u8], near: usize, a: Range) -> Found
-    requires { ⌜ Whole (now s) ⌝ }
-    ensures { λ f. ⌜ isAt f ≡ someIn (now (s .entry)) 0 (Question.Holds a) ⌝ }
-{
-    if held_by(s, near, a) {
-        return Found::At(near);
-    }
-    if near < 256 {
-        let next = near + 1;
-        if held_by(s, next, a) {
-            return Found::At(next);
-        }
-    }
-    find_in(s, layout::BANDS, Question::Holds(a))
-}
-
-// Whether a data segment lies in no band, of whatever number.
-pub fn is_homeless(s: &[u8]) -> bool
-    requires { ⌜ Whole (now s) ⌝ }
-    ensures { λ r. ⌜ r ≡ homelessOf (now (s .entry)) false ⌝ }
-{
-    let start = layout::start_of(s, layout::SEGMENTS);
-    let count = layout::count_of(s, layout::SEGMENTS) as usize;
-    let mut near: usize = 0;
-    let mut i: usize = 0;
-    while i < count {
-        let r = layout::record_at(s, start + layout::RECORD_SIZE * i);
-        match home_near(s, near, table::span_of(r)) {
-            Found::At(k) => {
-                near = k;
-            }
-            Found::Nothing => {
-                return true;
-            }
         }
         i += 1;
     }

@@ -1,5 +1,5 @@
 -- Refusals 1 to 14 of an image, in their order: each is tested over the whole image before the next.
-use Prim.Native.Nat.{ℕ}
+use Prim.Native.Nat.{ℕ, suc, zero}
 use mathlib.Core.Bool.{Bool, true, false, not, _&&_, _||_}
 use mathlib.Core.List.{List, [], _∷_, _++_}
 use mathlib.Core.Path.{_≡_, _∙_}
@@ -51,6 +51,12 @@ contentTests l =
     test 5 (miscoded l) ∷ test 6 (unsound l) ∷ test 7 (someIn l bands NotLengthy) ∷ test 8 (someIn l segments NotLengthy)
     ∷ test 9 (someIn l automatic NotLengthy) ∷ test 10 (someIn l privileges NotLengthy) ∷ test 11 (bare l)
     ∷ test 12 (homelessOf l false) ∷ test 13 (someIn l segments NoLimit) ∷ test 14 (unlimited (generalOf l)) ∷ []
+
+-- those from one on
+abbrev pub testsFrom : ℕ → List Test → List Test
+testsFrom zero ts = ts
+testsFrom (suc n) [] = []
+testsFrom (suc n) (t ∷ ts) = testsFrom n ts
 
 abbrev pub checkTests : List ℕ → List Test
 checkTests l = formTests l ++ contentTests l

@@ -1,10 +1,11 @@
 -- The short way of a plain image: of refusals 5 to 14 only 11, 12 and 14 are left.
 use Prim.Native.Nat.{ℕ}
-use mathlib.Core.Bool.{Bool, true, false, not, _&&_, false≢true}
+use mathlib.Core.Bool.{Bool, true, false, not, _&&_}
 use mathlib.Core.List.{List, [], _∷_}
-use mathlib.Core.Path.{_≡_, refl}
+use mathlib.Core.Path.{_≡_}
 use borrow.Author.Tests.{not-true}
 use Rattle.codes.specs.Refusal.{Test, test, refusalOf}
+use Rattle.scan.specs.First.{and-true}
 use Rattle.layout.specs.Layout.{generalOf}
 use Rattle.find.specs.Question.{homelessOf}
 use Rattle.plain.specs.Plain.{isRough}
@@ -17,9 +18,12 @@ plainImage l = codedBlock l && (soundBlock (generalOf l) && not (isRough l))
 abbrev pub leftTests : List ℕ → List Test
 leftTests l = test 11 (bare l) ∷ test 12 (homelessOf l false) ∷ test 14 (unlimited (generalOf l)) ∷ []
 
-and-true : (a b : Bool) → (a && b) ≡ true → (a ≡ true) × (b ≡ true)
-and-true true b e = (refl, e)
-and-true false b e = absurd (false≢true e)
+pub plain-smooth : (l : List ℕ) → plainImage l ≡ true → isRough l ≡ false
+unfolding plainImage
+plain-smooth l e =
+    let a = and-true (codedBlock l) (soundBlock (generalOf l) && not (isRough l)) e in
+    let b = and-true (soundBlock (generalOf l)) (not (isRough l)) (a .1) in
+    not-true (isRough l) (b .1)
 
 pub plain-left : (l : List ℕ) → plainImage l ≡ true → refusalOf (contentTests l) ≡ refusalOf (leftTests l)
 unfolding plainImage miscoded unsound
@@ -28,7 +32,7 @@ plain-left l e =
     let b = and-true (soundBlock (generalOf l)) (not (isRough l)) (a .1) in
     let coded : codedBlock l ≡ true = a .0 in
     let sound : soundBlock (generalOf l) ≡ true = b .0 in
-    let smooth : isRough l ≡ false = not-true (isRough l) (b .1) in
+    let smooth : isRough l ≡ false = plain-smooth l e in
     rw coded
     (rw (none-miscoded l smooth)
     (rw sound

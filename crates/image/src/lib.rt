@@ -4,11 +4,13 @@ use find::Question;
 use layout::General;
 use scan::Found;
 ghost use mathlib.Core.Path.{_≡_};
+ghost use mathlib.Core.Bool.{false};
 ghost use Prim.Native.Nat.{_+_, _*_, _≤_, _<_};
 ghost use lib.ListN.{length};
 ghost use Rattle.codes.specs.Refusal.{refusalOf};
 ghost use Rattle.layout.specs.Form.{Whole};
 ghost use Rattle.image.specs.Check.{codedBlock, miscoded, soundBlock, unsound, bare, unlimited, contentTests, checkOf};
+ghost use Rattle.plain.specs.Plain.{isRough};
 ghost use Rattle.image.specs.Short.{plainImage, leftTests};
 
 // The general block's codes, with the counts of the tables whose part may be absent.
@@ -129,13 +131,13 @@ fn is_plain(s: &[u8]) -> bool
 
 // The refusals that are left of a plain image.
 fn left(s: &[u8]) -> Checked
-    requires { ⌜ Whole (now s) ⌝ }
+    requires { ⌜ (Whole (now s)) × (isRough (now s) ≡ false) ⌝ }
     ensures { λ r. ⌜ r ≡ refusalOf (leftTests (now (s .entry))) ⌝ }
 {
     if is_bare(s) {
         return Checked::Refused(11);
     }
-    if find::is_homeless(s) {
+    if plain::is_homeless(s) {
         return Checked::Refused(12);
     }
     if is_unlimited(layout::general_of(s)) {

@@ -1,22 +1,31 @@
 // The judgement of a case under an accepted table: the band (97.301), bands closed to automatic control, 60 m, and the kind
-// of emission. It uses layout, table, find, decision, part97, drafts, data_97_305, other_97_305 and sixty_97_303.
+// of emission; and the decision from what was found. It uses layout, table, find, decision, part97, findings, advice_97_313,
+// data_97_305, other_97_305 and sixty_97_303.
 use codes::EmissionKind;
+use decision::Advice;
 use decision::BandNumber;
 use decision::Code;
 use decision::Decision;
+use decision::Draft;
+use decision::Guidance;
+use decision::MaybeRange;
 use decision::Verdict;
 use find::Pick;
 use find::Question;
 use part97::Case;
+use part97::Finding;
 use table::ChannelBand;
+use table::Channels;
 ghost use mathlib.Core.Path.{_≡_};
 ghost use Rattle.layout.specs.Form.{Whole};
 ghost use Rattle.part97.specs.Part97.{offSixty, judgeOnBand, judgeInBand, touching, judge};
+ghost use Rattle.part97.specs.Finding.{draftAt, concluded};
+ghost use Rattle.judge.specs.Way.{sixtyHere, closedBy};
 
 // By the kind of emission, off 60 m.
-fn off_sixty(s: &[u8], c: Case, band: u8, kind: EmissionKind) -> Decision
+fn off_sixty(s: &[u8], c: Case, band: u8, kind: EmissionKind) -> Finding
     requires { ⌜ Whole (now s) ⌝ }
-    ensures { λ x. ⌜ x ≡ offSixty (now (s .entry)) c band kind ⌝ }
+    ensures { λ x. ⌜ concluded (now (s .entry)) c x ≡ offSixty (now (s .entry)) c band kind ⌝ }
 {
     match kind {
         EmissionKind::Data => data_97_305::judge_data(s, c, band),
@@ -26,40 +35,77 @@ fn off_sixty(s: &[u8], c: Case, band: u8, kind: EmissionKind) -> Decision
     }
 }
 
+// Whether a band is closed to a station, and by what rule.
+pub enum Closed {
+    By(u16),
+    Open,
+}
+
+// Whether a band is 60 m, with its channels.
+pub enum Sixty {
+    Here(Channels),
+    Elsewhere,
+}
+
 // 60 m is the band that has the channels' number.
-fn judge_on_band(s: &[u8], c: Case, band: u8, channels: ChannelBand) -> Decision
-    requires { ⌜ Whole (now s) ⌝ }
-    ensures { λ x. ⌜ x ≡ judgeOnBand (now (s .entry)) c band channels ⌝ }
+fn sixty_here(band: u8, channels: ChannelBand) -> Sixty
+    ensures { λ x. ⌜ x ≡ sixtyHere band channels ⌝ }
 {
-    let kind = c.kind;
     match channels {
         ChannelBand::On(ch) => {
             if ch.band == band {
-                return sixty_97_303::sixty(s, c, ch);
+                return Sixty::Here(ch);
             }
-            off_sixty(s, c, band, kind)
+            Sixty::Elsewhere
         }
-        ChannelBand::NoChannels => off_sixty(s, c, band, kind),
+        ChannelBand::NoChannels => Sixty::Elsewhere,
+    }
+}
+
+// On 60 m, or off it.
+fn judge_on_band(s: &[u8], c: Case, band: u8, channels: ChannelBand) -> Finding
+    requires { ⌜ Whole (now s) ⌝ }
+    ensures { λ x. ⌜ concluded (now (s .entry)) c x ≡ judgeOnBand (now (s .entry)) c band channels ⌝ }
+{
+    let kind = c.kind;
+    match sixty_here(band, channels) {
+        Sixty::Here(ch) => sixty_97_303::sixty(s, c, ch),
+        Sixty::Elsewhere => off_sixty(s, c, band, kind),
     }
 }
 
 // A band closed to automatic control, for a station to which 97.221 applies.
-fn judge_in_band(s: &[u8], c: Case, band: u8) -> Decision
+fn closed_by(s: &[u8], c: Case, band: u8) -> Closed
     requires { ⌜ Whole (now s) ⌝ }
-    ensures { λ x. ⌜ x ≡ judgeInBand (now (s .entry)) c band ⌝ }
+    ensures { λ x. ⌜ x ≡ closedBy (now (s .entry)) c band ⌝ }
 {
-    let channels = table::channels_of(layout::general_of(s));
     if c.automatic {
         match find::pick_in(s, layout::EXCLUDED, Question::OfBand(band)) {
             Pick::Picked(_, r) => {
                 let x = table::excluded_of(r);
-                let draft = drafts::draft_of(c, BandNumber::Band(band));
-                decision::simple(draft, Verdict::Blocked, Code::AutomaticExcluded, x.rule)
+                Closed::By(x.rule)
             }
-            Pick::Missing => judge_on_band(s, c, band, channels),
+            Pick::Missing => Closed::Open,
         }
     } else {
-        judge_on_band(s, c, band, channels)
+        Closed::Open
+    }
+}
+
+// A band that is not closed to the station is judged.
+fn judge_in_band(s: &[u8], c: Case, band: u8) -> Finding
+    requires { ⌜ Whole (now s) ⌝ }
+    ensures { λ x. ⌜ concluded (now (s .entry)) c x ≡ judgeInBand (now (s .entry)) c band ⌝ }
+{
+    let channels = table::channels_of(layout::general_of(s));
+    match closed_by(s, c, band) {
+        Closed::By(rule) => findings::on_band(
+            BandNumber::Band(band),
+            Verdict::Blocked,
+            Code::AutomaticExcluded,
+            rule,
+        ),
+        Closed::Open => judge_on_band(s, c, band, channels),
     }
 }
 
@@ -76,21 +122,61 @@ fn touching_band(s: &[u8], c: Case) -> BandNumber
 }
 
 // By the first band that holds the guarded range.
-pub fn judge_case(s: &[u8], c: Case) -> Decision
+pub fn judge_case(s: &[u8], c: Case) -> Finding
     requires { ⌜ Whole (now s) ⌝ }
-    ensures { λ x. ⌜ x ≡ judge (now (s .entry)) c ⌝ }
+    ensures { λ x. ⌜ concluded (now (s .entry)) c x ≡ judge (now (s .entry)) c ⌝ }
 {
     let guarded = c.guarded;
     match find::pick_in(s, layout::BANDS, Question::Holds(guarded)) {
         Pick::Picked(_, r) => judge_in_band(s, c, r.band),
-        Pick::Missing => {
-            let draft = drafts::draft_of(c, touching_band(s, c));
-            decision::simple(
-                draft,
-                Verdict::Blocked,
-                Code::OutOfBand,
-                decision::RULE_97_301,
-            )
+        Pick::Missing => findings::on_band(
+            touching_band(s, c),
+            Verdict::Blocked,
+            Code::OutOfBand,
+            decision::RULE_97_301,
+        ),
+    }
+}
+
+// The facts of a decision: the case's and the finding's.
+fn draft_at(c: Case, f: Finding) -> Draft
+    ensures { λ x. ⌜ x ≡ draftAt c f ⌝ }
+{
+    let audio = c.audio;
+    let air = c.air;
+    let band = f.band;
+    let segment = f.segment;
+    let automatic_segment = f.automatic_segment;
+    Draft {
+        audio,
+        width: c.width,
+        air: MaybeRange::Is(air),
+        band,
+        segment,
+        automatic_segment,
+    }
+}
+
+// The decision, with what the operator should know.
+pub fn conclude(s: &[u8], c: Case, f: Finding) -> Decision
+    requires { ⌜ Whole (now s) ⌝ }
+    ensures { λ x. ⌜ x ≡ concluded (now (s .entry)) c f ⌝ }
+{
+    let draft = draft_at(c, f);
+    let code = f.code;
+    let over = f.over;
+    match over {
+        MaybeRange::Is(r) => advice_97_313::advise(s, c, r, draft, code, f.rule),
+        MaybeRange::NoRange => {
+            let verdict = f.verdict;
+            let overshoot = f.overshoot;
+            let sixty = f.sixty;
+            let advice = Advice {
+                guidance: Guidance::NoGuidance,
+                notes: [0u8; 256],
+                sixty,
+            };
+            decision::finish(draft, verdict, code, f.rule, overshoot, advice)
         }
     }
 }

@@ -6,7 +6,7 @@ ghost use Prim.Native.Nat.{_+_, _*_, _≤_, _<_};
 ghost use lib.ListN.{length};
 ghost use Rattle.codes.specs.Refusal.{refusalOf};
 ghost use Rattle.layout.specs.Bytes.{byteAt, u16At, u32At, u64At};
-ghost use Rattle.layout.specs.Layout.{recordAt, generalOf, countOf, distanceOf, editionOf, recordsBefore, startOf};
+ghost use Rattle.layout.specs.Layout.{recordAt, listsOf, rulesOf, generalOf, countOf, distanceOf, editionOf, recordsBefore, startOf};
 ghost use Rattle.layout.specs.Form.{lettersWrong, overfull, countsWrong, formTests};
 
 pub const GENERAL_SIZE: usize = 64;
@@ -134,6 +134,29 @@ pub fn class_at(s: &[u8], at: usize) -> u8
     ensures { λ r. ⌜ r ≡ recordAt (now (s .entry)) at .class ⌝ }
 {
     byte_at(s, at + 25)
+}
+
+pub fn figure_at(s: &[u8], at: usize) -> u64
+    requires { ⌜ at + 32 ≤ length (now s) ⌝ }
+    ensures { λ r. ⌜ r ≡ recordAt (now (s .entry)) at .figure ⌝ }
+{
+    u64_at(s, at + 16)
+}
+
+// Band, class, emission bits and flags as one number.
+pub fn lists_at(s: &[u8], at: usize) -> u32
+    requires { ⌜ at + 32 ≤ length (now s) ⌝ }
+    ensures { λ r. ⌜ r ≡ listsOf (recordAt (now (s .entry)) at) ⌝ }
+{
+    u32_at(s, at + 24)
+}
+
+// The two rules as one number.
+pub fn rules_at(s: &[u8], at: usize) -> u32
+    requires { ⌜ at + 32 ≤ length (now s) ⌝ }
+    ensures { λ r. ⌜ r ≡ rulesOf (recordAt (now (s .entry)) at) ⌝ }
+{
+    u32_at(s, at + 28)
 }
 
 pub fn record_at(s: &[u8], at: usize) -> Record

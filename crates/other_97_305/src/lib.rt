@@ -1,16 +1,17 @@
 // CW, test emissions and keying with no audio, off 60 m: wherever the operator's privileges allow that emission (97.305(a),
-// (b)). It uses layout, decision, part97, drafts and privileges_97_301.
+// (b)). It uses layout, decision, part97, findings and privileges_97_301.
 use codes::EmissionKind;
 use decision::BandNumber;
 use decision::Code;
-use decision::Decision;
 use decision::Verdict;
 use part97::Case;
+use part97::Finding;
 use part97::Privileged;
 use profile::Range;
 ghost use mathlib.Core.Path.{_≡_};
 ghost use Rattle.layout.specs.Form.{Whole};
 ghost use Rattle.part97.specs.Part97.{otherRule, emitted, keyed};
+ghost use Rattle.part97.specs.Finding.{concluded};
 
 fn other_rule(kind: EmissionKind) -> u16
     ensures { λ x. ⌜ x ≡ otherRule kind ⌝ }
@@ -24,26 +25,26 @@ fn other_rule(kind: EmissionKind) -> u16
 }
 
 // An emission that is allowed wherever the operator's privileges allow it.
-pub fn judge_emitted(s: &[u8], c: Case, band: u8, kind: EmissionKind) -> Decision
+pub fn judge_emitted(s: &[u8], c: Case, band: u8, kind: EmissionKind) -> Finding
     requires { ⌜ Whole (now s) ⌝ }
-    ensures { λ x. ⌜ x ≡ emitted (now (s .entry)) c band kind ⌝ }
+    ensures { λ x. ⌜ concluded (now (s .entry)) c x ≡ emitted (now (s .entry)) c band kind ⌝ }
 {
-    let draft = drafts::draft_of(c, BandNumber::Band(band));
+    let place = BandNumber::Band(band);
     match privileges_97_301::privileged(s, c, kind) {
         Privileged::Granted => {
-            decision::simple(draft, Verdict::Legal, Code::Permitted, other_rule(kind))
+            findings::on_band(place, Verdict::Legal, Code::Permitted, other_rule(kind))
         }
         Privileged::Forbidden => {
-            decision::simple(
-                draft,
+            findings::on_band(
+                place,
                 Verdict::Blocked,
                 Code::Privilege,
                 decision::RULE_97_307F9,
             )
         }
         Privileged::Unheld => {
-            decision::simple(
-                draft,
+            findings::on_band(
+                place,
                 Verdict::Blocked,
                 Code::Privilege,
                 decision::RULE_97_301,
@@ -53,23 +54,23 @@ pub fn judge_emitted(s: &[u8], c: Case, band: u8, kind: EmissionKind) -> Decisio
 }
 
 // Keyed with no audio: some privilege holds the dial.
-pub fn judge_keyed(s: &[u8], c: Case, band: u8) -> Decision
+pub fn judge_keyed(s: &[u8], c: Case, band: u8) -> Finding
     requires { ⌜ Whole (now s) ⌝ }
-    ensures { λ x. ⌜ x ≡ keyed (now (s .entry)) c band ⌝ }
+    ensures { λ x. ⌜ concluded (now (s .entry)) c x ≡ keyed (now (s .entry)) c band ⌝ }
 {
-    let draft = drafts::draft_of(c, BandNumber::Band(band));
+    let place = BandNumber::Band(band);
     let dial = Range {
         low_hz: c.dial_hz,
         high_hz: c.dial_hz,
     };
     if privileges_97_301::some_privilege(s, c, dial) {
-        return decision::simple(
-            draft,
+        return findings::on_band(
+            place,
             Verdict::Legal,
             Code::Permitted,
             decision::RULE_97_301,
         );
     }
     let g = layout::general_of(s);
-    decision::simple(draft, Verdict::Blocked, Code::Privilege, g.privileges_rule)
+    findings::on_band(place, Verdict::Blocked, Code::Privilege, g.privileges_rule)
 }

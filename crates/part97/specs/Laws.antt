@@ -2,7 +2,7 @@
 use Prim.Native.Nat.{ℕ, zero, suc, _+_, _<_}
 use mathlib.Core.Bool.{Bool, true, false, cond, _||_}
 use mathlib.Core.List.{List}
-use mathlib.Core.Path.{_≡_, refl, sym, ap, _∙_}
+use mathlib.Core.Path.{_≡_, sym, ap, _∙_}
 use native.Mathlib.Numerals.{add-one}
 use native.Mathlib.Omega.{arith}
 use lib.ListN.{set}
@@ -15,19 +15,10 @@ use Rattle.scan.specs.First.{onFound, cond-yes, cond-not}
 use Rattle.scan.specs.declared.Found.{Found}
 use Rattle.scan.specs.declared.Found.the-variants.{At, Nothing}
 use Rattle.table.specs.declared.Segment.{Segment}
-use Rattle.layout.specs.Layout.{excluded, generalOf, recordOf}
-use Rattle.table.specs.Parts.{excludedOf, channelsOf}
-use Rattle.find.specs.Question.{firstIn}
-use Rattle.find.specs.declared.Question.the-variants.{OfBand}
-use Rattle.decision.specs.Decision.{simpleOf}
-use Rattle.decision.specs.declared.Verdict.the-variants.{Blocked}
-use Rattle.decision.specs.declared.Code.the-variants.{AutomaticExcluded}
-use Rattle.decision.specs.declared.BandNumber.the-variants.{Band}
-use Rattle.decision.specs.declared.Decision.{Decision}
 use Rattle.part97.specs.declared.Case.{Case}
 use Rattle.part97.specs.declared.Nearest.{Nearest}
 use Rattle.part97.specs.declared.Nearest.the-variants.{Near, NoneNear}
-use Rattle.part97.specs.Part97.{segmentAt, limitFor, tooWide, insideSegment, outsideSegments, judgeData, judgeOnBand, judgeInBand, draftOf, reach, notesUpTo, anyNote, nearerBy, considered, nearestUpTo}
+use Rattle.part97.specs.Part97.{segmentAt, limitFor, tooWide, insideSegment, outsideSegments, judgeData, reach, notesUpTo, anyNote, nearerBy, considered, nearestUpTo}
 
 pub notes-more : (note : ℕ → Bool) (n : ℕ) → notesUpTo note (n + 1) ≡ cond (note n) (set (notesUpTo note n) n 1) (notesUpTo note n)
 unfolding notesUpTo
@@ -93,30 +84,3 @@ module _ (table : List ℕ) (c : Case) (band : ℕ) (found : Found) where
   judge-outside f limit e t =
       ap (λ (x : Found). onFound x (λ k. insideSegment table c band (segmentAt table k)) (outsideSegments table c band)) (sym f)
       ∙ sym (cond-not _ _ (ap (λ (d : DataLimit). lt (d .«max_bandwidth_hz») (c .width)) (sym e) ∙ t))
-
--- the answer in a band: not automatic, automatic and the band not closed to it, closed
-module _ (table : List ℕ) (c : Case) (band : ℕ) where
-  pub band-open : c .automatic ≡ false → judgeOnBand table c band (channelsOf (generalOf table)) ≡ judgeInBand table c band
-  unfolding judgeInBand
-  band-open e = sym (cond-not _ _ e)
-
-  pub band-free :
-      c .automatic ≡ true → firstIn table excluded (OfBand band) ≡ Nothing
-      → judgeOnBand table c band (channelsOf (generalOf table)) ≡ judgeInBand table c band
-  unfolding judgeInBand
-  band-free e f = sym (cond-yes _ _ e ∙ ap (λ (x : Found). onFound x closed (judgeOnBand table c band (channelsOf (generalOf table)))) f)
-    where
-      closed : ℕ → Decision
-      closed x = simpleOf (draftOf c (Band band)) Blocked AutomaticExcluded (excludedOf (recordOf table excluded x) .rule)
-
-  pub band-closed :
-      c .automatic ≡ true → (x : ℕ) → firstIn table excluded (OfBand band) ≡ At x → (rule : ℕ)
-      → rule ≡ excludedOf (recordOf table excluded x) .rule
-      → simpleOf (draftOf c (Band band)) Blocked AutomaticExcluded rule ≡ judgeInBand table c band
-  unfolding judgeInBand
-  band-closed e x f rule r =
-      ap (simpleOf (draftOf c (Band band)) Blocked AutomaticExcluded) r
-      ∙ sym (cond-yes _ _ e ∙ ap (λ (y : Found). onFound y closed (judgeOnBand table c band (channelsOf (generalOf table)))) f)
-    where
-      closed : ℕ → Decision
-      closed x = simpleOf (draftOf c (Band band)) Blocked AutomaticExcluded (excludedOf (recordOf table excluded x) .rule)

@@ -1,2 +1,3 @@
 pub mod Part97
 pub mod Laws
+pub mod Finding

@@ -1,10 +1,17 @@
 // 47 CFR Part 97 as a definition: specs/Part97.antt says what the gate answers for a transmission, over what an accepted
-// table says. No code; the struct is what every judgement works from. It uses figures, codes, profile, air, table, find,
-// decision, station and automatic_97_221.
+// table says. No code; the structs are what every judgement works from and what it finds. It uses figures, codes, profile,
+// air, table, find, decision, station and automatic_97_221.
 use codes::Direction;
 use codes::EmissionKind;
 use codes::LicenseClass;
 use codes::Sideband;
+use decision::BandNumber;
+use decision::Code;
+use decision::JudgedSegment;
+use decision::MaybeRange;
+use decision::Overshoot;
+use decision::SixtyNotes;
+use decision::Verdict;
 use profile::Range;
 use station::Figure;
 
@@ -40,4 +47,18 @@ pub enum Privileged {
 pub enum Nearest {
     Near(usize, f64),
     NoneNear,
+}
+
+// What judging finds: all of a decision that does not stand in the case. Where the operator is to be told of power limits and
+// the plan, `over` has the range that they are asked over; they then settle the verdict.
+pub struct Finding {
+    pub band: BandNumber,
+    pub segment: JudgedSegment,
+    pub automatic_segment: MaybeRange,
+    pub verdict: Verdict,
+    pub code: Code,
+    pub rule: u16,
+    pub overshoot: Overshoot,
+    pub sixty: SixtyNotes,
+    pub over: MaybeRange,
 }

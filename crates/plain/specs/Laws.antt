@@ -1,40 +1,21 @@
 -- Where no record is rough, none of the tests 5 to 10 and 13 that go record by record fails.
 use Prim.Native.Nat.{ℕ, zero, suc, _+_, _*_, _-_, _≤_, _<_}
 use mathlib.Core.Path.{_≡_, refl, sym, ap, subst, _∙_}
-use mathlib.Core.Bool.{Bool, true, false, not, cond, _&&_, true≢false, false≢true}
+use mathlib.Core.Bool.{Bool, true, false, not}
 use mathlib.Core.List.{List}
 use native.Mathlib.Omega.{arith}
 use native.Mathlib.Decide.{decLe}
-use lib.Dec.{eqb, leb, ltb}
-use lib.Ieee.{lt, le}
 use borrow.Author.Tests.{leb-true, ltb-true, ne-eqb, not-false}
-use Rattle.figures.specs.Figure.{zeroHz, figureOf, limit40, inSize}
 use Rattle.bit_order.specs.Order.{limitBits, bits-lt, bits-le-not, bits-sized}
 use Rattle.codes.specs.Code.{bitOf}
-use Rattle.layout.specs.Layout.{generalSize, recordSize, bands, segments, privileges, automatic, tables, countOf, recordOf, recordAt, recordsBefore}
+use Rattle.layout.specs.Layout.{generalSize, recordSize, bands, segments, privileges, automatic, tables, startOf, countOf, recordOf, recordAt, recordsBefore}
 use Rattle.layout.specs.declared.Record.{Record}
 use Rattle.coded.specs.Coded.{codedOf}
-use Rattle.scan.specs.First.{first, some, isAt, first-at, some-false}
-use Rattle.scan.specs.declared.Found.{Found}
-use Rattle.scan.specs.declared.Found.the-variants.{At, Nothing}
+use Rattle.scan.specs.First.{some, and-true, some-false, some-all}
 use Rattle.find.specs.Question.{soundBits, soundRecord, asks, asksAt, someIn}
 use Rattle.find.specs.declared.Question.{Question}
 use Rattle.find.specs.declared.Question.the-variants.{Miscoded, Unsound, NotLengthy, NoLimit}
-use Rattle.plain.specs.Plain.{sizedOf, longer, longOf, limitedOf, plainOf, roughAt, roughIn, isRough}
-
--- ---- small things
-
-and-true : (a b : Bool) → (a && b) ≡ true → (a ≡ true) × (b ≡ true)
-and-true true b e = (refl, e)
-and-true false b e = absurd (false≢true e)
-
--- no index passes: there is none
-some-all : (test : ℕ → Bool) (n : ℕ) → ((i : ℕ) → i < n → test i ≡ false) → some test n ≡ false
-some-all test n h = go (first test n) refl
-  where
-    go : (f : Found) → first test n ≡ f → isAt f ≡ false
-    go (At i) p = let r = first-at test n i p in absurd (true≢false (sym (r .passes) ∙ h i (r .below)))
-    go Nothing p = refl
+use Rattle.plain.specs.Plain.{sizedOf, longer, longOf, limitedOf, plainOf, roughAt, roughFrom, roughIn, isRough}
 
 -- ---- one record
 
@@ -42,15 +23,15 @@ sound-plain : (b : ℕ) → b ≤ limitBits → soundBits b ≡ true
 unfolding soundBits
 sound-plain b h = rw (bits-sized b h) (rw (ne-eqb b 0x8000_0000_0000_0000 (λ e. omega arith)))
 
-record Parts (t : ℕ) (r : Record) : Type 0 where
-  low-le : r .low ≤ limitBits
-  high-le : r .high ≤ limitBits
+pub record Parts (t : ℕ) (r : Record) : Type 0 where
+  pub low-le : r .low ≤ limitBits
+  pub high-le : r .high ≤ limitBits
   figure-le : r .figure ≤ limitBits
   long : longOf t r ≡ true
   limited : limitedOf t r ≡ true
   coded : codedOf t r ≡ true
 
-parts : (t : ℕ) (r : Record) → plainOf t r ≡ true → Parts t r
+pub parts : (t : ℕ) (r : Record) → plainOf t r ≡ true → Parts t r
 unfolding plainOf sizedOf
 parts t r e =
     let a = and-true _ _ e in
@@ -95,9 +76,9 @@ plain-limited r e = let p = parts segments r e in limited-by r (bitOf (r .flags)
 -- ---- the whole image
 
 module _ (l : List ℕ) (smooth : isRough l ≡ false) where
-  plain-at : (t i : ℕ) → t < tables → i < countOf l t → plainOf t (recordOf l t i) ≡ true
-  unfolding isRough roughIn
-  plain-at t i h k = not-false (plainOf t (recordOf l t i)) (some-false (roughAt l t) (countOf l t) (some-false (roughIn l) tables smooth t h) i k)
+  pub plain-at : (t i : ℕ) → t < tables → i < countOf l t → plainOf t (recordOf l t i) ≡ true
+  unfolding isRough roughFrom
+  plain-at t i h k = not-false (plainOf t (recordOf l t i)) (some-false (roughAt l t (startOf l t)) (countOf l t) (some-false (roughIn l) tables smooth t h) i k)
 
   -- a test that no plain record of table t passes
   none-in : (t : ℕ) (q : Question) → t < tables → ((r : Record) → plainOf t r ≡ true → asks q r ≡ false) → someIn l t q ≡ false

@@ -1,3 +1,4 @@
 pub mod Plain
 pub mod Laws
 pub mod Quick
+pub mod Home

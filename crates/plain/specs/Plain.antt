@@ -1,12 +1,12 @@
 -- A record that is plainly right: figures whose bits are at most those of 2^40, a range of positive length where the table asks
 -- for one, a positive own limit, and coded bytes among their values.
-use Prim.Native.Nat.{ℕ}
-use mathlib.Core.Bool.{Bool, true, false, not, cond, _&&_}
+use Prim.Native.Nat.{ℕ, _+_, _*_}
+use mathlib.Core.Bool.{Bool, true, not, cond, _&&_}
 use mathlib.Core.List.{List}
 use lib.Dec.{eqb, leb, ltb}
 use Rattle.codes.specs.Code.{bitOf}
 use Rattle.bit_order.specs.Order.{limitBits}
-use Rattle.layout.specs.Layout.{bands, segments, privileges, automatic, tables, countOf, recordOf}
+use Rattle.layout.specs.Layout.{bands, segments, privileges, automatic, tables, recordSize, recordAt, startOf, countOf}
 use Rattle.layout.specs.declared.Record.{Record}
 use Rattle.coded.specs.Coded.{codedOf}
 use Rattle.scan.specs.First.{some}
@@ -27,25 +27,15 @@ limitedOf t r = cond (eqb t segments) (cond (bitOf (r .flags) 0) (ltb 0 (r .figu
 unfoldable pub plainOf : ℕ → Record → Bool
 plainOf t r = sizedOf r && (longOf t r && (limitedOf t r && codedOf t r))
 
--- the commonest records of four tables, which take fewer tests
-unfoldable pub bareOf : ℕ → Record → Bool
-bareOf t r =
-    cond (eqb t bands) (eqb (r .class) 0 && eqb (r .rule) 0)
-    (cond (eqb t segments) (eqb (r .class) 0)
-    (cond (eqb t privileges) (leb (r .class) 4 && (eqb (r .band) 0 && eqb (r .rule) 0))
-    (cond (eqb t automatic) (eqb (r .class) 0 && (eqb (r .band) 0 && eqb (r .rule) 0)) false)))
+-- a record of table t is not plain, of those that begin at a place; some of the first n; some of some table
+abbrev pub roughAt : List ℕ → ℕ → ℕ → ℕ → Bool
+roughAt l t start i = not (plainOf t (recordAt l (start + recordSize * i)))
 
-unfoldable pub quickOf : ℕ → Record → Bool
-quickOf t r =
-    ltb (r .low) (r .high) && (leb (r .high) limitBits && (eqb (r .figure) 0
-    && (eqb (r .emissions) 0 && (eqb (r .flags) 0 && (eqb (r .«second_rule») 0 && bareOf t r)))))
+unfoldable pub roughFrom : List ℕ → ℕ → ℕ → ℕ → Bool
+roughFrom l t start n = some (roughAt l t start) n
 
--- record i of table t is not plain; some record of table t; of some table
-abbrev pub roughAt : List ℕ → ℕ → ℕ → Bool
-roughAt l t i = not (plainOf t (recordOf l t i))
-
-unfoldable pub roughIn : List ℕ → ℕ → Bool
-roughIn l t = some (roughAt l t) (countOf l t)
+abbrev pub roughIn : List ℕ → ℕ → Bool
+roughIn l t = roughFrom l t (startOf l t) (countOf l t)
 
 unfoldable pub isRough : List ℕ → Bool
 isRough l = some (roughIn l) tables

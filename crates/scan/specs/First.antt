@@ -1,8 +1,7 @@
 -- The first index below n that passes a test, and whether there is one. Rust's `find`, `position` and `any`.
 use Prim.Native.Nat.{ℕ, zero, suc, _+_, _-_, _<_, _≤_}
 use mathlib.Core.Path.{_≡_, refl, sym, ap, subst, _∙_}
-use mathlib.Core.Bool.{Bool, true, false, cond, false≢true, true≢false}
-use native.Mathlib.Numerals.{add-one}
+use mathlib.Core.Bool.{Bool, true, false, cond, _&&_, false≢true, true≢false}
 use native.Mathlib.Omega.{arith}
 use native.Mathlib.Decide.{decLe}
 use Rattle.scan.specs.declared.Found.{Found}
@@ -144,10 +143,37 @@ some-false test n e = go (first test n) refl e
     go (At i) p q = absurd (true≢false q)
     go Nothing p q = first-nothing test n p
 
+pub some-true : (test : ℕ → Bool) (n k : ℕ) → k < n → test k ≡ true → some test n ≡ true
+some-true test n k h e = go (some test n) refl
+  where
+    go : (b : Bool) → some test n ≡ b → b ≡ true
+    go true p = refl
+    go false p = absurd (true≢false (sym e ∙ some-false test n p k h))
+
+pub some-all : (test : ℕ → Bool) (n : ℕ) → ((k : ℕ) → k < n → test k ≡ false) → some test n ≡ false
+some-all test n h = go (first test n) refl
+  where
+    go : (f : Found) → first test n ≡ f → isAt f ≡ false
+    go (At i) p = let r = first-at test n i p in absurd (true≢false (sym (r .passes) ∙ h i (r .below)))
+    go Nothing p = refl
+
+-- two tests that say the same of every index
+pub some-same : (f g : ℕ → Bool) (n : ℕ) → ((k : ℕ) → k < n → f k ≡ g k) → some f n ≡ some g n
+some-same f g n h = go (first g n) refl
+  where
+    go : (x : Found) → first g n ≡ x → some f n ≡ isAt x
+    go (At i) p = let r = first-at g n i p in some-true f n i (r .below) (h i (r .below) ∙ r .passes)
+    go Nothing p = some-all f n (λ k b. h k b ∙ first-nothing g n p k b)
+
 -- by what a scan found: one thing at an index, another where there is nothing
 abbrev pub onFound : {A : Type 0} → Found → (ℕ → A) → A → A
 onFound (At i) f a = f i
 onFound Nothing f a = a
+
+-- both of two tests
+pub and-true : (a b : Bool) → (a && b) ≡ true → (a ≡ true) × (b ≡ true)
+and-true true b e = (refl, e)
+and-true false b e = absurd (false≢true e)
 
 -- a branch whose test is known
 pub cond-yes : {A : Type 0} (x y : A) {b : Bool} → b ≡ true → cond b x y ≡ x

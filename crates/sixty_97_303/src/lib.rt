@@ -1,20 +1,16 @@
 // The 60 m band: its discrete channels, its segment, and the emissions allowed there (97.303(h)(3), 97.305(c),
 // 97.307(f)(14), 97.313(i)). It uses figures, codes, profile, station, layout, table, find, decision, part97,
-// advice_97_313, drafts and privileges_97_301.
+// advice_97_313, findings and privileges_97_301.
 use codes::EmissionKind;
 use codes::Sideband;
-use decision::Advice;
 use decision::BandNumber;
 use decision::Code;
-use decision::Decision;
-use decision::Draft;
-use decision::Guidance;
-use decision::Overshoot;
 use decision::SixtyNotes;
 use decision::Verdict;
 use find::Pick;
 use find::Question;
 use part97::Case;
+use part97::Finding;
 use table::Channels;
 use table::Segment;
 use table::SixtyEmissions;
@@ -22,31 +18,15 @@ ghost use mathlib.Core.Path.{_≡_};
 ghost use mathlib.Core.Bool.{_&&_};
 ghost use lib.Ieee.{lt};
 ghost use Rattle.layout.specs.Form.{Whole};
-ghost use Rattle.part97.specs.Part97.{allowedOnSixty, cwOnChannel, sameSideband, dataOnChannel, onChannel, sixtyChannel, isData, sixtySegment, sixtyPlace, sixtyEmission, sixtyKind, sixty};
+ghost use Prim.Native.Nat.{ℕ};
+ghost use mathlib.Core.List.{List};
+ghost use Rattle.part97.specs.Finding.{concluded};
+ghost use Rattle.part97.specs.Part97.{cwOnChannel, sameSideband, dataOnChannel, onChannel, sixtyChannel, isData, sixtySegment, sixtyPlace, sixtyEmission, sixtyKind, sixty};
 
 // The watts above which the operator is warned, on a channel and in the segment (97.313(i)).
 const CHANNEL_WATTS: f64 = 100.0;
 
 const SEGMENT_WATTS: f64 = 9.15;
-
-// Allowed on 60 m, with its notes.
-fn allowed_on_sixty(draft: Draft, warn: bool, code: Code, rule: u16, marks: SixtyNotes) -> Decision
-    ensures { λ r. ⌜ r ≡ allowedOnSixty draft warn code rule marks ⌝ }
-{
-    let advice = Advice {
-        guidance: Guidance::NoGuidance,
-        notes: [0u8; 256],
-        sixty: marks,
-    };
-    decision::finish(
-        draft,
-        advice_97_313::warned_if(warn),
-        code,
-        rule,
-        Overshoot::NoOvershoot,
-        advice,
-    )
-}
 
 // Whether a CW carrier is on a channel's centre, within the tolerance.
 fn cw_on_channel(c: Case, ch: Channels, centre: f64) -> bool
@@ -97,13 +77,12 @@ fn on_channel(c: Case, ch: Channels, centre: f64, kind: EmissionKind) -> bool
 }
 
 // On a channel: set up for it, or blocked.
-fn sixty_channel(c: Case, ch: Channels, centre: f64) -> Decision
-    ensures { λ r. ⌜ r ≡ sixtyChannel c ch centre ⌝ }
+fn sixty_channel(c: Case, ch: Channels, centre: f64) -> Finding
+    ensures { λ r. ⌜ ((table : List ℕ) → concluded table c r ≡ sixtyChannel c ch centre) ⌝ }
 {
     let kind = c.kind;
     let power = c.power;
     let range = profile::channel_range(ch.width_hz, centre);
-    let draft = drafts::draft_inside(c, ch.band, range, ch.rule);
     if on_channel(c, ch, centre, kind) {
         let warn = advice_97_313::above(power, CHANNEL_WATTS);
         let marks = SixtyNotes {
@@ -111,9 +90,9 @@ fn sixty_channel(c: Case, ch: Channels, centre: f64) -> Decision
             shared: true,
             segment_power: false,
         };
-        return allowed_on_sixty(draft, warn, Code::SixtyChannel, ch.rule, marks);
+        return findings::on_sixty(ch.band, range, warn, Code::SixtyChannel, ch.rule, marks);
     }
-    decision::simple(draft, Verdict::Blocked, Code::SixtyChannel, ch.rule)
+    findings::in_segment(ch.band, range, ch.rule, Code::SixtyChannel, ch.rule)
 }
 
 fn is_data(kind: EmissionKind) -> bool
@@ -135,17 +114,16 @@ fn too_wide(kind: EmissionKind, width: f64, most: f64) -> bool
 }
 
 // In the segment: the general width is tested, and no other.
-fn sixty_segment(s: &[u8], c: Case, band: u8, place: Segment) -> Decision
+fn sixty_segment(s: &[u8], c: Case, band: u8, place: Segment) -> Finding
     requires { ⌜ Whole (now s) ⌝ }
-    ensures { λ r. ⌜ r ≡ sixtySegment (now (s .entry)) c band place ⌝ }
+    ensures { λ r. ⌜ concluded (now (s .entry)) c r ≡ sixtySegment (now (s .entry)) c band place ⌝ }
 {
     let kind = c.kind;
     let power = c.power;
     let range = place.range;
     let general = table::data_of(layout::general_of(s));
-    let draft = drafts::draft_inside(c, band, range, place.rule);
     if too_wide(kind, c.width, general.max_bandwidth_hz) {
-        return decision::simple(draft, Verdict::Blocked, Code::TooWide, general.rule);
+        return findings::in_segment(band, range, place.rule, Code::TooWide, general.rule);
     }
     let warn = advice_97_313::above(power, SEGMENT_WATTS);
     let marks = SixtyNotes {
@@ -153,13 +131,13 @@ fn sixty_segment(s: &[u8], c: Case, band: u8, place: Segment) -> Decision
         shared: false,
         segment_power: warn,
     };
-    allowed_on_sixty(draft, warn, Code::SixtySegment, place.rule, marks)
+    findings::on_sixty(band, range, warn, Code::SixtySegment, place.rule, marks)
 }
 
 // An overlapping channel comes before the segment; neither: off channel.
-fn sixty_place(s: &[u8], c: Case, ch: Channels) -> Decision
+fn sixty_place(s: &[u8], c: Case, ch: Channels) -> Finding
     requires { ⌜ Whole (now s) ⌝ }
-    ensures { λ r. ⌜ r ≡ sixtyPlace (now (s .entry)) c ch ⌝ }
+    ensures { λ r. ⌜ concluded (now (s .entry)) c r ≡ sixtyPlace (now (s .entry)) c ch ⌝ }
 {
     let guarded = c.guarded;
     match find::pick_in(
@@ -174,8 +152,8 @@ fn sixty_place(s: &[u8], c: Case, ch: Channels) -> Decision
             Question::BandHolds(ch.band, guarded),
         ) {
             Pick::Picked(k, segment) => sixty_segment(s, c, ch.band, table::segment_of(segment)),
-            Pick::Missing => decision::simple(
-                drafts::draft_of(c, BandNumber::Band(ch.band)),
+            Pick::Missing => findings::on_band(
+                BandNumber::Band(ch.band),
                 Verdict::Blocked,
                 Code::SixtyOffChannel,
                 ch.rule,
@@ -185,9 +163,9 @@ fn sixty_place(s: &[u8], c: Case, ch: Channels) -> Decision
 }
 
 // The emissions allowed on 60 m (97.307(f)(14)).
-fn sixty_emission(s: &[u8], c: Case, ch: Channels, allowed: SixtyEmissions) -> Decision
+fn sixty_emission(s: &[u8], c: Case, ch: Channels, allowed: SixtyEmissions) -> Finding
     requires { ⌜ Whole (now s) ⌝ }
-    ensures { λ r. ⌜ r ≡ sixtyEmission (now (s .entry)) c ch allowed ⌝ }
+    ensures { λ r. ⌜ concluded (now (s .entry)) c r ≡ sixtyEmission (now (s .entry)) c ch allowed ⌝ }
 {
     let kind = c.kind;
     match allowed {
@@ -195,8 +173,8 @@ fn sixty_emission(s: &[u8], c: Case, ch: Channels, allowed: SixtyEmissions) -> D
             if codes::has_kind(bits, kind) {
                 sixty_place(s, c, ch)
             } else {
-                decision::simple(
-                    drafts::draft_of(c, BandNumber::Band(ch.band)),
+                findings::on_band(
+                    BandNumber::Band(ch.band),
                     Verdict::Blocked,
                     Code::SixtyEmission,
                     rule,
@@ -208,17 +186,17 @@ fn sixty_emission(s: &[u8], c: Case, ch: Channels, allowed: SixtyEmissions) -> D
 }
 
 // Keyed with no audio is permitted; anything else goes by the emissions allowed.
-fn sixty_kind(s: &[u8], c: Case, ch: Channels, kind: EmissionKind) -> Decision
+fn sixty_kind(s: &[u8], c: Case, ch: Channels, kind: EmissionKind) -> Finding
     requires { ⌜ Whole (now s) ⌝ }
-    ensures { λ r. ⌜ r ≡ sixtyKind (now (s .entry)) c ch kind ⌝ }
+    ensures { λ r. ⌜ concluded (now (s .entry)) c r ≡ sixtyKind (now (s .entry)) c ch kind ⌝ }
 {
     let allowed = table::sixty_emissions_of(layout::general_of(s));
     match kind {
         EmissionKind::Data => sixty_emission(s, c, ch, allowed),
         EmissionKind::Cw => sixty_emission(s, c, ch, allowed),
         EmissionKind::Test => sixty_emission(s, c, ch, allowed),
-        EmissionKind::Nothing => decision::simple(
-            drafts::draft_of(c, BandNumber::Band(ch.band)),
+        EmissionKind::Nothing => findings::on_band(
+            BandNumber::Band(ch.band),
             Verdict::Legal,
             Code::Permitted,
             decision::RULE_97_301,
@@ -228,17 +206,17 @@ fn sixty_kind(s: &[u8], c: Case, ch: Channels, kind: EmissionKind) -> Decision
 
 // 60 m: some privilege must hold the signal's range on the air, without the margin; the emissions that privileges list
 // aren't read.
-pub fn sixty(s: &[u8], c: Case, ch: Channels) -> Decision
+pub fn sixty(s: &[u8], c: Case, ch: Channels) -> Finding
     requires { ⌜ Whole (now s) ⌝ }
-    ensures { λ r. ⌜ r ≡ sixty (now (s .entry)) c ch ⌝ }
+    ensures { λ r. ⌜ concluded (now (s .entry)) c r ≡ sixty (now (s .entry)) c ch ⌝ }
 {
     let kind = c.kind;
     let on_air = c.air;
     if privileges_97_301::some_privilege(s, c, on_air) {
         sixty_kind(s, c, ch, kind)
     } else {
-        decision::simple(
-            drafts::draft_of(c, BandNumber::Band(ch.band)),
+        findings::on_band(
+            BandNumber::Band(ch.band),
             Verdict::Blocked,
             Code::Privilege,
             decision::RULE_97_301,

@@ -57,7 +57,7 @@ fn signal_of(dial: Figure, sideband: SidebandSet, audio: Range) -> Draft
 }
 
 // The facts that judging works from.
-fn case_of(
+pub fn case_of(
     s: Situation,
     control: ControlMode,
     class: LicenseClass,
@@ -142,7 +142,8 @@ fn ruled(
         return decision::simple(signal, Verdict::Blocked, Code::NoDial, decision::NO_RULE);
     };
     let c = case_of(s, control, class, sideband, hz, kind, direction, audio);
-    judge::judge_case(image, c)
+    let f = judge::judge_case(image, c);
+    judge::conclude(image, c, f)
 }
 
 // Under Rules.

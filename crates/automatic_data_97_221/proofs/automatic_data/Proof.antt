@@ -2,6 +2,7 @@
 use mathlib.Core.Path.{sym, _∙_}
 use Rattle.find.specs.Question.{picked, missed}
 use Rattle.part97.specs.Part97.{automaticData}
+use Rattle.part97.specs.Finding.{lawful-automatic}
 use borrow.Author.Needs.{needs}
 use Rattle.automatic_data_97_221.proofs.automatic_data.Statement.{statement}
 use Rattle.automatic_data_97_221.proofs.automatic_data.Tie as tie
@@ -18,17 +19,11 @@ enum-known-r c = search needs
 span-of-requires : tie.Need-span-of-requires
 span-of-requires c κs = search needs
 
-draft-automatic-requires : tie.Need-draft-automatic-requires
-draft-automatic-requires c κs = search needs
-
-advise-automatic-requires : tie.Need-advise-automatic-requires
-advise-automatic-requires c κs = search needs
+lawful-requires : tie.Need-lawful-requires
+lawful-requires c κs = search needs
 
 enum-told : tie.Need-enum-told
 enum-told c = search needs
-
-draft-inside-requires : tie.Need-draft-inside-requires
-draft-inside-requires c κs = search needs
 
 elsewhere-of-requires : tie.Need-elsewhere-of-requires
 elsewhere-of-requires c κs = search needs
@@ -39,21 +34,19 @@ automatic-elsewhere-requires c κs = search needs
 returns : tie.Need-returns
 unfolding automaticData
 returns c =
-    let p = picked _ _ _ _ _ (sym (c .before .before .before .before .before .before .pick-in .ensures) ∙ c .before .before .before .before .r .given .1) in
+    let p = picked _ _ _ _ _ (sym (c .before .before .before .before .before .pick-in .ensures) ∙ c .before .before .before .r .given .1) in
     rw (p .found)
-    (rw (c .advise-automatic .ensures)
-    (rw (c .before .draft-automatic .ensures)
-    (rw (c .before .before .span-of .ensures)
-    (rw (p .here) (rw (c .before .before .before .before .before .before .before .general-of .ensures))))))
+    (rw (c .lawful .ensures)
+    (rw (c .before .span-of .ensures)
+    (rw (p .here) (rw (c .before .before .before .before .before .before .general-of .ensures) (lawful-automatic _ _ _ _ _ _ _ _ _)))))
 
 returns-2 : tie.Need-returns-2
 unfolding automaticData
 returns-2 c =
-    rw (missed _ _ _ (sym (c .before .before .before .before .before .pick-in .ensures) ∙ c .before .before .before .enum-told .given .1))
+    rw (missed _ _ _ (sym (c .before .before .before .before .pick-in .ensures) ∙ c .before .before .enum-told .given .1))
     (rw (c .automatic-elsewhere .ensures)
     (rw (c .before .elsewhere-of .ensures)
-    (rw (c .before .before .draft-inside .ensures)
-    (rw (c .before .before .before .before .before .before .general-of .ensures)))))
+    (rw (c .before .before .before .before .before .general-of .ensures))))
 
 pub automatic-data-spec : {M : Type 1} → statement M
 automatic-data-spec =
@@ -63,10 +56,8 @@ automatic-data-spec =
     pick-in-requires
     enum-known-r
     span-of-requires
-    draft-automatic-requires
-    advise-automatic-requires
+    lawful-requires
     enum-told
-    draft-inside-requires
     elsewhere-of-requires
     automatic-elsewhere-requires
     returns

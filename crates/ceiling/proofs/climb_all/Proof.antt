@@ -1,9 +1,10 @@
 -- Before rung i the loop holds the climb over the first i rungs, and it goes on. At the first blocked rung it is over.
 use Prim.Native.Nat.{_-_}
-use mathlib.Core.Path.{_≡_}
+use mathlib.Core.Path.{_≡_, sym, _∙_}
 use native.Mathlib.Omega.{arith}
 use borrow.Author.Needs.{needs}
-use Rattle.ceiling.specs.Ceiling.{burstOf, joinedOf, isBlocked, endedOf, judgeBy}
+use Rattle.decision.specs.Decision.{isBlocked}
+use Rattle.ceiling.specs.Ceiling.{burstOf, joinedOf, endedOf, judgeBy}
 use Rattle.ceiling.specs.Laws.{Free, free-start, free-again, free-over, climb-done}
 use Rattle.ceiling.proofs.climb_all.Statement.{statement}
 use Rattle.ceiling.proofs.climb_all.Tie as tie
@@ -20,11 +21,9 @@ envelope : (c : tie.After-joined Inv-loop μ-loop) → c .joined .result ≡ joi
 envelope c = rw (c .joined .ensures) (rw (c .before .burst .ensures))
 
 -- what it asks of it
-asked :
-    (c : tie.After-is-blocked Inv-loop μ-loop)
-    → c .is-blocked .result ≡ isBlocked (judgeBy (c .before .before .before .before .before .before .before .before .before .args .image .now) (c .before .before .before .before .before .before .before .before .before .args .s) (c .before .before .before .before .before .before .before .before .before .args .direction) (c .before .before .joined .result) .verdict)
+asked : (c : tie.After-barred Inv-loop μ-loop) → c .barred .result ≡ isBlocked (judgeBy (c .before .before .before .before .before .before .before .before .args .image .now) (c .before .before .before .before .before .before .before .before .args .s) (c .before .before .before .before .before .before .before .before .args .direction) (c .before .joined .result) .verdict)
 unfolding judgeBy
-asked c = rw (c .is-blocked .ensures) (rw (c .before .decide .ensures))
+asked c = c .barred .ensures
 
 loop-holds : tie.Need-loop-holds Inv-loop μ-loop
 loop-holds c = free-start _ _ _
@@ -35,27 +34,26 @@ burst-requires c κs = (omega arith, omega (arith, c .before .before .before .be
 joined-requires : tie.Need-joined-requires Inv-loop μ-loop
 joined-requires c κs = search needs
 
-decide-requires : tie.Need-decide-requires Inv-loop μ-loop
-decide-requires c κs = c .before .before .before .before .before .before .before .pre .0
+barred-requires : tie.Need-barred-requires Inv-loop μ-loop
+barred-requires c κs = c .before .before .before .before .before .before .before .pre .0
 
-is-blocked-requires : tie.Need-is-blocked-requires Inv-loop μ-loop
-is-blocked-requires c κs = search needs
+decide-requires : tie.Need-decide-requires Inv-loop μ-loop
+decide-requires c κs = c .before .before .before .before .before .before .before .before .before .pre .0
 
 returns : tie.Need-returns Inv-loop μ-loop
 unfolding judgeBy endedOf
 returns c =
-    rw (c .before .before .decide .ensures)
-    (free-over _ _ _ _ _ _ (c .before .before .before .before .before .before .loop .inv) (c .before .before .before .before .before .loop-test .taken) _ (envelope (c .before .before .before)) (rw (← asked (c .before)) (c .if1 .taken)))
+    rw (c .decide .ensures)
+    (free-over _ _ _ _ _ _ (c .before .before .before .before .before .before .loop .inv) (c .before .before .before .before .before .loop-test .taken) _ (envelope (c .before .before .before)) (sym (asked (c .before .before)) ∙ c .before .if1 .taken))
 
 add-i : tie.Need-add-i Inv-loop μ-loop
-add-i c = omega (arith, c .before .before .before .before .before .loop-test .taken, c .before .before .before .before .before .before .before .before .before .before .good .1 .1 .1 .1 .1 .0)
+add-i c = omega (arith, c .before .before .before .before .loop-test .taken, c .before .before .before .before .before .before .before .before .before .good .1 .1 .1 .1 .1 .0)
 
 loop-less : tie.Need-loop-less Inv-loop μ-loop
 loop-less c = omega arith
 
 loop-again : tie.Need-loop-again Inv-loop μ-loop
-loop-again c =
-    free-again _ _ _ _ _ _ (c .before .before .before .before .before .before .loop .inv) (c .before .before .before .before .before .loop-test .taken) _ (envelope (c .before .before .before)) (rw (← asked (c .before)) (c .if1 .left))
+loop-again c = free-again _ _ _ _ _ _ (c .before .before .before .before .before .loop .inv) (c .before .before .before .before .loop-test .taken) _ (envelope (c .before .before)) (sym (asked (c .before)) ∙ c .if1 .left)
 
 refused-requires : tie.Need-refused-requires Inv-loop μ-loop
 refused-requires c κs = search needs
@@ -72,8 +70,8 @@ climb-all-spec =
     loop-holds
     burst-requires
     joined-requires
+    barred-requires
     decide-requires
-    is-blocked-requires
     returns
     add-i
     loop-less

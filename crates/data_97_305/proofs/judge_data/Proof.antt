@@ -1,13 +1,12 @@
 -- `data_97_305::judge_data` meets its contract: on each way to a return, the tests and what the calls ensure say which case of the definition holds.
 use Prim.Native.Nat.{ℕ}
-use mathlib.Core.Path.{_≡_}
+use mathlib.Core.Path.{_≡_, sym, ap, _∙_}
 use Rattle.layout.specs.Layout.{segments}
-use Rattle.find.specs.Question.{firstIn}
+use Rattle.find.specs.Question.{firstIn, PickedAt, picked, missed}
 use Rattle.find.specs.declared.Question.the-variants.{Holds}
-use mathlib.Core.Path.{sym, _∙_}
-use Rattle.find.specs.Question.{PickedAt, picked, missed}
 use Rattle.part97.specs.Part97.{limitFor}
 use Rattle.part97.specs.Laws.{judge-wide, judge-inside, judge-outside}
+use Rattle.part97.specs.Finding.{concluded, on-band}
 use borrow.Author.Needs.{needs}
 use Rattle.data_97_305.proofs.judge_data.Statement.{statement}
 use Rattle.data_97_305.proofs.judge_data.Tie as tie
@@ -46,7 +45,7 @@ too-wide-requires c κs = search needs
 returns : tie.Need-returns
 returns c =
     let p = picked _ _ _ _ _ (sym (c .before .before .before .before .before .before .before .before .before .pick-in .ensures) ∙ c .before .before .before .before .before .before .before .r .given .1) in
-    c .too-wide .ensures ∙ judge-wide _ _ _ _ _ (limit (c .before .before .before .before) _ p) (c .before .if1 .taken)
+    ap (concluded _ _) (c .too-wide .ensures) ∙ on-band _ _ _ _ _ _ ∙ judge-wide _ _ _ _ _ (limit (c .before .before .before .before) _ p) (c .before .if1 .taken)
 
 inside-segment-requires : tie.Need-inside-segment-requires
 inside-segment-requires c κs = search needs
@@ -60,7 +59,7 @@ too-wide-requires-2 c κs = search needs
 returns-2 : tie.Need-returns-2
 returns-2 c =
     let none = missed _ _ _ (sym (c .before .before .before .before .before .before .pick-in .ensures) ∙ c .before .before .before .before .enum-told .given .1) in
-    c .too-wide2 .ensures ∙ judge-wide _ _ _ _ _ (rw none (rw (c .before .before .before .before .before .before .before .data-of .ensures) (rw (c .before .before .before .before .before .before .before .before .general-of .ensures)))) (c .before .if2 .taken)
+    ap (concluded _ _) (c .too-wide2 .ensures) ∙ on-band _ _ _ _ _ _ ∙ judge-wide _ _ _ _ _ (rw none (rw (c .before .before .before .before .before .before .before .data-of .ensures) (rw (c .before .before .before .before .before .before .before .before .general-of .ensures)))) (c .before .if2 .taken)
 
 outside-segments-requires : tie.Need-outside-segments-requires
 outside-segments-requires c κs = search needs

@@ -3,6 +3,7 @@ use mathlib.Core.Path.{sym, _∙_}
 use native.Mathlib.Omega.{arith}
 use Rattle.part97.specs.Part97.{outsideSegments}
 use Rattle.part97.specs.Laws.{nearest-below}
+use Rattle.part97.specs.Finding.{on-band, beyond-segment}
 use borrow.Author.Needs.{needs}
 use Rattle.data_97_305.proofs.outside_segments.Statement.{statement}
 use Rattle.data_97_305.proofs.outside_segments.Tie as tie
@@ -20,43 +21,33 @@ record-of-requires c κs =
 segment-of-requires : tie.Need-segment-of-requires
 segment-of-requires c κs = search needs
 
-draft-inside-requires : tie.Need-draft-inside-requires
-draft-inside-requires c κs = search needs
-
 overshoot-of-requires : tie.Need-overshoot-of-requires
 overshoot-of-requires c κs = search needs
 
-no-advice-requires : tie.Need-no-advice-requires
-no-advice-requires c κs = search needs
-
-finish-requires : tie.Need-finish-requires
-finish-requires c κs = search needs
+beyond-segment-requires : tie.Need-beyond-segment-requires
+beyond-segment-requires c κs = search needs
 
 enum-told : tie.Need-enum-told
 enum-told c = search needs
 
-draft-of-requires : tie.Need-draft-of-requires
-draft-of-requires c κs = search needs
-
-simple-requires : tie.Need-simple-requires
-simple-requires c κs = search needs
+on-band-requires : tie.Need-on-band-requires
+on-band-requires c κs = search needs
 
 returns : tie.Need-returns
 unfolding outsideSegments
 returns c =
-    rw (← c .before .before .before .before .before .before .before .before .before .before .nearest-segment .ensures)
-    (rw (c .before .before .before .before .before .before .before .before .i .given .1)
-    (rw (c .finish .ensures)
-    (rw (c .before .no-advice .ensures)
-    (rw (c .before .before .overshoot-of .ensures)
-    (rw (c .before .before .before .draft-inside .ensures)
-    (rw (c .before .before .before .before .before .segment-of .ensures) (rw (c .before .before .before .before .before .before .record-of .ensures))))))))
+    rw (← c .before .before .before .before .before .before .before .before .nearest-segment .ensures)
+    (rw (c .before .before .before .before .before .before .i .given .1)
+    (rw (c .beyond-segment .ensures)
+    (rw (c .before .overshoot-of .ensures)
+    (rw (c .before .before .before .segment-of .ensures)
+    (rw (c .before .before .before .before .record-of .ensures) (beyond-segment _ _ _ _ _ _))))))
 
 returns-2 : tie.Need-returns-2
 unfolding outsideSegments
 returns-2 c =
-    rw (← c .before .before .before .before .nearest-segment .ensures)
-    (rw (c .before .before .enum-told .given .1) (rw (c .simple .ensures) (rw (c .before .draft-of .ensures))))
+    rw (← c .before .before .before .nearest-segment .ensures)
+    (rw (c .before .enum-told .given .1) (rw (c .on-band .ensures) (on-band _ _ _ _ _ _)))
 
 pub outside-segments-spec : {M : Type 1} → statement M
 outside-segments-spec =
@@ -66,12 +57,9 @@ outside-segments-spec =
     enum-known-i
     record-of-requires
     segment-of-requires
-    draft-inside-requires
     overshoot-of-requires
-    no-advice-requires
-    finish-requires
+    beyond-segment-requires
     enum-told
-    draft-of-requires
-    simple-requires
+    on-band-requires
     returns
     returns-2)

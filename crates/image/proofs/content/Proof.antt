@@ -1,6 +1,6 @@
 -- `image::content` equals its definition: of a plain image only the refusals that are left can be met.
 use mathlib.Core.Path.{sym, _∙_}
-use Rattle.image.specs.Short.{plain-left}
+use Rattle.image.specs.Short.{plain-smooth, plain-left}
 use borrow.Author.Needs.{needs}
 use Rattle.image.proofs.content.Statement.{statement}
 use Rattle.image.proofs.content.Tie as tie
@@ -9,7 +9,7 @@ is-plain-requires : tie.Need-is-plain-requires
 is-plain-requires c κs = search needs
 
 left-requires : tie.Need-left-requires
-left-requires c κs = search needs
+left-requires c κs = (c .before .before .before .pre, plain-smooth (c .before .before .before .args .s .now) (sym (c .before .is-plain .ensures) ∙ c .if1 .taken))
 
 returns : tie.Need-returns
 returns c = c .left .ensures ∙ sym (plain-left (c .before .before .before .before .args .s .now) (sym (c .before .before .is-plain .ensures) ∙ c .before .if1 .taken))

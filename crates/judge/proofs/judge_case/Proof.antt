@@ -2,6 +2,7 @@
 use mathlib.Core.Path.{sym, _∙_}
 use Rattle.find.specs.Question.{picked, missed}
 use Rattle.part97.specs.Part97.{judge}
+use Rattle.part97.specs.Finding.{on-band}
 use borrow.Author.Needs.{needs}
 use Rattle.judge.proofs.judge_case.Statement.{statement}
 use Rattle.judge.proofs.judge_case.Tie as tie
@@ -21,23 +22,23 @@ enum-told c = search needs
 touching-band-requires : tie.Need-touching-band-requires
 touching-band-requires c κs = search needs
 
-draft-of-requires : tie.Need-draft-of-requires
-draft-of-requires c κs = search needs
-
-simple-requires : tie.Need-simple-requires
-simple-requires c κs = search needs
+on-band-requires : tie.Need-on-band-requires
+on-band-requires c κs = search needs
 
 returns : tie.Need-returns
 unfolding judge
 returns c =
     let p = picked _ _ _ _ _ (sym (c .before .before .before .before .pick-in .ensures) ∙ c .before .before .r .given .1) in
-    rw (p .found) (rw (← p .here) (c .judge-in-band .ensures))
+    rw (p .found)
+    (rw (← p .here)
+    (c .judge-in-band .ensures))
 
 returns-2 : tie.Need-returns-2
 unfolding judge
 returns-2 c =
-    rw (missed _ _ _ (sym (c .before .before .before .before .before .pick-in .ensures) ∙ c .before .before .before .enum-told .given .1))
-    (rw (c .simple .ensures) (rw (c .before .draft-of .ensures) (rw (c .before .before .touching-band .ensures))))
+    rw (missed _ _ _ (sym (c .before .before .before .before .pick-in .ensures) ∙ c .before .before .enum-told .given .1))
+    (rw (← c .before .touching-band .ensures)
+    (rw (c .on-band .ensures) (on-band _ _ _ _ _ _)))
 
 pub judge-case-spec : {M : Type 1} → statement M
 judge-case-spec =
@@ -48,7 +49,6 @@ judge-case-spec =
     judge-in-band-requires
     enum-told
     touching-band-requires
-    draft-of-requires
-    simple-requires
+    on-band-requires
     returns
     returns-2)

@@ -1,4 +1,5 @@
 -- `sixty_97_303::sixty` meets its contract: the privilege for the range on the air, then the kind.
+use Rattle.part97.specs.Finding.{on-band}
 use Rattle.part97.specs.Part97.{sixty}
 use borrow.Author.Needs.{needs}
 use Rattle.sixty_97_303.proofs.sixty.Statement.{statement}
@@ -10,11 +11,8 @@ some-privilege-requires c κs = search needs
 sixty-kind-requires : tie.Need-sixty-kind-requires
 sixty-kind-requires c κs = search needs
 
-draft-of-requires : tie.Need-draft-of-requires
-draft-of-requires c κs = search needs
-
-simple-requires : tie.Need-simple-requires
-simple-requires c κs = search needs
+on-band-requires : tie.Need-on-band-requires
+on-band-requires c κs = search needs
 
 returns : tie.Need-returns
 unfolding sixty
@@ -26,10 +24,10 @@ returns c =
 returns-2 : tie.Need-returns-2
 unfolding sixty
 returns-2 c =
-    rw (c .simple .ensures)
-    (rw (c .before .draft-of .ensures)
-    (rw (← c .before .before .before .some-privilege .ensures)
-    (rw (c .before .before .if1 .left))))
+    rw (c .on-band .ensures)
+    (rw (← c .before .before .some-privilege .ensures)
+    (rw (c .before .if1 .left)
+    (on-band _ _ _ _ _ _)))
 
 pub sixty-spec : {M : Type 1} → statement M
 sixty-spec =
@@ -37,7 +35,6 @@ sixty-spec =
     (tie.spec
     some-privilege-requires
     sixty-kind-requires
-    draft-of-requires
-    simple-requires
+    on-band-requires
     returns
     returns-2)

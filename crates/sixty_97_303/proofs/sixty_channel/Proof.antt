@@ -1,4 +1,5 @@
 -- `sixty_97_303::sixty_channel` meets its contract: set up for the channel, or blocked.
+use Rattle.part97.specs.Finding.{in-segment, on-sixty}
 use Rattle.part97.specs.Part97.{sixtyChannel}
 use borrow.Author.Needs.{needs}
 use Rattle.sixty_97_303.proofs.sixty_channel.Statement.{statement}
@@ -7,49 +8,45 @@ use Rattle.sixty_97_303.proofs.sixty_channel.Tie as tie
 channel-range-requires : tie.Need-channel-range-requires
 channel-range-requires c κs = search needs
 
-draft-inside-requires : tie.Need-draft-inside-requires
-draft-inside-requires c κs = search needs
-
 on-channel-requires : tie.Need-on-channel-requires
 on-channel-requires c κs = search needs
 
 above-requires : tie.Need-above-requires
 above-requires c κs = search needs
 
-allowed-on-sixty-requires : tie.Need-allowed-on-sixty-requires
-allowed-on-sixty-requires c κs = search needs
+on-sixty-requires : tie.Need-on-sixty-requires
+on-sixty-requires c κs = search needs
 
 returns : tie.Need-returns
 unfolding sixtyChannel
-returns c =
-    rw (c .allowed-on-sixty .ensures)
+returns c table =
+    rw (c .on-sixty .ensures)
     (rw (c .before .above .ensures)
-    (rw (c .before .before .before .before .draft-inside .ensures)
-    (rw (c .before .before .before .before .before .channel-range .ensures)
+    (rw (c .before .before .before .before .channel-range .ensures)
     (rw (← c .before .before .before .on-channel .ensures)
-    (rw (c .before .before .if1 .taken))))))
+    (rw (c .before .before .if1 .taken)
+    (on-sixty _ _ _ _ _ _ _ _)))))
 
-simple-requires : tie.Need-simple-requires
-simple-requires c κs = search needs
+in-segment-requires : tie.Need-in-segment-requires
+in-segment-requires c κs = search needs
 
 returns-2 : tie.Need-returns-2
 unfolding sixtyChannel
-returns-2 c =
-    rw (c .simple .ensures)
-    (rw (c .before .before .before .draft-inside .ensures)
-    (rw (c .before .before .before .before .channel-range .ensures)
+returns-2 c table =
+    rw (c .in-segment .ensures)
+    (rw (c .before .before .before .channel-range .ensures)
     (rw (← c .before .before .on-channel .ensures)
-    (rw (c .before .if1 .left)))))
+    (rw (c .before .if1 .left)
+    (in-segment _ _ _ _ _ _ _))))
 
 pub sixty-channel-spec : {M : Type 1} → statement M
 sixty-channel-spec =
     tie.close
     (tie.spec
     channel-range-requires
-    draft-inside-requires
     on-channel-requires
     above-requires
-    allowed-on-sixty-requires
+    on-sixty-requires
     returns
-    simple-requires
+    in-segment-requires
     returns-2)

@@ -1,4 +1,5 @@
 -- `sixty_97_303::sixty_emission` meets its contract: the emissions allowed, then the place.
+use Rattle.part97.specs.Finding.{on-band}
 use Rattle.part97.specs.Part97.{sixtyEmission}
 use borrow.Author.Needs.{needs}
 use Rattle.sixty_97_303.proofs.sixty_emission.Statement.{statement}
@@ -13,11 +14,8 @@ has-kind-requires c κs = search needs
 sixty-place-requires : tie.Need-sixty-place-requires
 sixty-place-requires c κs = search needs
 
-draft-of-requires : tie.Need-draft-of-requires
-draft-of-requires c κs = search needs
-
-simple-requires : tie.Need-simple-requires
-simple-requires c κs = search needs
+on-band-requires : tie.Need-on-band-requires
+on-band-requires c κs = search needs
 
 enum-told : tie.Need-enum-told
 enum-told c = search needs
@@ -36,11 +34,11 @@ returns c =
 returns-2 : tie.Need-returns-2
 unfolding sixtyEmission
 returns-2 c =
-    rw (c .simple .ensures)
-    (rw (c .before .draft-of .ensures)
-    (rw (c .before .before .before .before .before .allowed .given .1)
-    (rw (← c .before .before .before .has-kind .ensures)
-    (rw (c .before .before .if1 .left)))))
+    rw (c .on-band .ensures)
+    (rw (c .before .before .before .before .allowed .given .1)
+    (rw (← c .before .before .has-kind .ensures)
+    (rw (c .before .if1 .left)
+    (on-band _ _ _ _ _ _))))
 
 returns-3 : tie.Need-returns-3
 unfolding sixtyEmission
@@ -55,8 +53,7 @@ sixty-emission-spec =
     enum-known-allowed
     has-kind-requires
     sixty-place-requires
-    draft-of-requires
-    simple-requires
+    on-band-requires
     enum-told
     sixty-place-requires-2
     returns

@@ -1,4 +1,5 @@
 -- `sixty_97_303::sixty_kind` meets its contract: keying with no emission is permitted, all else goes by the emissions.
+use Rattle.part97.specs.Finding.{on-band}
 use Rattle.part97.specs.Part97.{sixtyKind}
 use borrow.Author.Needs.{needs}
 use Rattle.sixty_97_303.proofs.sixty_kind.Statement.{statement}
@@ -31,11 +32,8 @@ sixty-emission-requires-3 c κs = search needs
 enum-told-4 : tie.Need-enum-told-4
 enum-told-4 c = search needs
 
-draft-of-requires : tie.Need-draft-of-requires
-draft-of-requires c κs = search needs
-
-simple-requires : tie.Need-simple-requires
-simple-requires c κs = search needs
+on-band-requires : tie.Need-on-band-requires
+on-band-requires c κs = search needs
 
 returns : tie.Need-returns
 unfolding sixtyKind
@@ -64,9 +62,9 @@ returns-3 c =
 returns-4 : tie.Need-returns-4
 unfolding sixtyKind
 returns-4 c =
-    rw (c .simple .ensures)
-    (rw (c .before .draft-of .ensures)
-    (rw (c .before .before .enum-told4 .given .1)))
+    rw (c .on-band .ensures)
+    (rw (c .before .enum-told4 .given .1)
+    (on-band _ _ _ _ _ _))
 
 pub sixty-kind-spec : {M : Type 1} → statement M
 sixty-kind-spec =
@@ -81,8 +79,7 @@ sixty-kind-spec =
     enum-told-3
     sixty-emission-requires-3
     enum-told-4
-    draft-of-requires
-    simple-requires
+    on-band-requires
     returns
     returns-2
     returns-3

@@ -1,6 +1,7 @@
 -- `sixty_97_303::sixty_place` meets its contract: a channel, else the segment, else off channel.
 use mathlib.Core.Path.{sym, _∙_}
 use Rattle.find.specs.Question.{picked, missed}
+use Rattle.part97.specs.Finding.{on-band}
 use Rattle.part97.specs.Part97.{sixtyPlace}
 use borrow.Author.Needs.{needs}
 use Rattle.sixty_97_303.proofs.sixty_place.Statement.{statement}
@@ -36,17 +37,14 @@ sixty-segment-requires c κs = search needs
 enum-told-2 : tie.Need-enum-told-2
 enum-told-2 c = search needs
 
-draft-of-requires : tie.Need-draft-of-requires
-draft-of-requires c κs = search needs
-
-simple-requires : tie.Need-simple-requires
-simple-requires c κs = search needs
+on-band-requires : tie.Need-on-band-requires
+on-band-requires c κs = search needs
 
 returns : tie.Need-returns
 unfolding sixtyPlace
 returns c =
     let p = picked _ _ _ _ _ (sym (c .before .before .before .before .before .pick-in .ensures) ∙ c .before .before .before .i .given .1) in
-    rw (c .sixty-channel .ensures)
+    rw (c .sixty-channel .ensures _)
     (rw (c .before .centre-of .ensures)
     (rw (p .found)
     (rw (← p .here))))
@@ -64,10 +62,10 @@ returns-2 c =
 returns-3 : tie.Need-returns-3
 unfolding sixtyPlace
 returns-3 c =
-    rw (c .simple .ensures)
-    (rw (c .before .draft-of .ensures)
-    (rw (missed _ _ _ (sym (c .before .before .before .before .before .before .before .pick-in .ensures) ∙ c .before .before .before .before .before .enum-told .given .1))
-    (rw (missed _ _ _ (sym (c .before .before .before .before .pick-in2 .ensures) ∙ c .before .before .enum-told2 .given .1)))))
+    rw (c .on-band .ensures)
+    (rw (missed _ _ _ (sym (c .before .before .before .before .before .before .pick-in .ensures) ∙ c .before .before .before .before .enum-told .given .1))
+    (rw (missed _ _ _ (sym (c .before .before .before .pick-in2 .ensures) ∙ c .before .enum-told2 .given .1))
+    (on-band _ _ _ _ _ _)))
 
 pub sixty-place-spec : {M : Type 1} → statement M
 sixty-place-spec =
@@ -83,8 +81,7 @@ sixty-place-spec =
     segment-of-requires
     sixty-segment-requires
     enum-told-2
-    draft-of-requires
-    simple-requires
+    on-band-requires
     returns
     returns-2
     returns-3)

@@ -2,6 +2,7 @@
 use mathlib.Core.Path.{_≡_}
 use mathlib.Core.Bool.{_&&_}
 use lib.Ieee.{lt}
+use Rattle.part97.specs.Finding.{in-segment, on-sixty}
 use Rattle.part97.specs.Part97.{sixtySegment, isData, generalLimit}
 use borrow.Author.Needs.{needs}
 use Rattle.sixty_97_303.proofs.sixty_segment.Statement.{statement}
@@ -13,43 +14,40 @@ general-of-requires c κs = search needs
 data-of-requires : tie.Need-data-of-requires
 data-of-requires c κs = search needs
 
-draft-inside-requires : tie.Need-draft-inside-requires
-draft-inside-requires c κs = search needs
-
 too-wide-requires : tie.Need-too-wide-requires
 too-wide-requires c κs = search needs
 
-simple-requires : tie.Need-simple-requires
-simple-requires c κs = search needs
+in-segment-requires : tie.Need-in-segment-requires
+in-segment-requires c κs = search needs
 
 -- what the width was asked
-asked : (c : tie.After-too-wide) → c .too-wide .result ≡ (isData (c .before .before .before .before .before .before .args .c .kind) && lt (generalLimit (c .before .before .before .before .before .before .args .s .now) .«max_bandwidth_hz») (c .before .before .before .before .before .before .args .c .width))
-asked c = rw (c .too-wide .ensures) (rw (c .before .before .data-of .ensures) (rw (c .before .before .before .general-of .ensures)))
+asked : (c : tie.After-too-wide) → c .too-wide .result ≡ (isData (c .before .before .before .before .before .args .c .kind) && lt (generalLimit (c .before .before .before .before .before .args .s .now) .«max_bandwidth_hz») (c .before .before .before .before .before .args .c .width))
+asked c = rw (c .too-wide .ensures) (rw (c .before .data-of .ensures) (rw (c .before .before .general-of .ensures)))
 
 returns : tie.Need-returns
 unfolding sixtySegment
 returns c =
-    rw (c .simple .ensures)
-    (rw (c .before .before .before .draft-inside .ensures)
-    (rw (c .before .before .before .before .data-of .ensures)
-    (rw (c .before .before .before .before .before .general-of .ensures)
+    rw (c .in-segment .ensures)
+    (rw (c .before .before .before .data-of .ensures)
+    (rw (c .before .before .before .before .general-of .ensures)
     (rw (← asked (c .before .before))
-    (rw (c .before .if1 .taken))))))
+    (rw (c .before .if1 .taken)
+    (in-segment _ _ _ _ _ _ _)))))
 
 above-requires : tie.Need-above-requires
 above-requires c κs = search needs
 
-allowed-on-sixty-requires : tie.Need-allowed-on-sixty-requires
-allowed-on-sixty-requires c κs = search needs
+on-sixty-requires : tie.Need-on-sixty-requires
+on-sixty-requires c κs = search needs
 
 returns-2 : tie.Need-returns-2
 unfolding sixtySegment
 returns-2 c =
-    rw (c .allowed-on-sixty .ensures)
+    rw (c .on-sixty .ensures)
     (rw (c .before .above .ensures)
-    (rw (c .before .before .before .before .draft-inside .ensures)
     (rw (← asked (c .before .before .before))
-    (rw (c .before .before .if1 .left)))))
+    (rw (c .before .before .if1 .left)
+    (on-sixty _ _ _ _ _ _ _ _))))
 
 pub sixty-segment-spec : {M : Type 1} → statement M
 sixty-segment-spec =
@@ -57,10 +55,9 @@ sixty-segment-spec =
     (tie.spec
     general-of-requires
     data-of-requires
-    draft-inside-requires
     too-wide-requires
-    simple-requires
+    in-segment-requires
     returns
     above-requires
-    allowed-on-sixty-requires
+    on-sixty-requires
     returns-2)

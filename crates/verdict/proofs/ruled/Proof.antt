@@ -87,12 +87,16 @@ case-of-requires c κs = search needs
 judge-case-requires : tie.Need-judge-case-requires
 judge-case-requires c κs = c .before .before .before .before .before .before .before .before .before .before .before .before .before .before .before .before .before .before .pre
 
+conclude-requires : tie.Need-conclude-requires
+conclude-requires c κs = c .before .before .before .before .before .before .before .before .before .before .before .before .before .before .before .before .before .before .before .pre
+
 returns-6 : tie.Need-returns-6
 returns-6 c =
-    rw (c .judge-case .ensures)
-    (rw (c .before .case-of .ensures)
-    (ruled-met _ _ _ _ _ _ _ (here (c .before .before .before .before .before .before .before .before .before .before .before .before .before .before)) _ (c .before .before .before .before .before .before .before .before .before .before .before .before .control-set .given .1) _ (c .before .before .before .before .before .before .before .before .before .license-set .given .1) _
-    (c .before .before .before .before .before .before .sideband-set .given .1) _ (c .before .before .before .dial .given .1)))
+    rw (c .conclude .ensures)
+    (rw (c .before .judge-case .ensures)
+    (rw (c .before .before .case-of .ensures)
+    (ruled-met _ _ _ _ _ _ _ (here (c .before .before .before .before .before .before .before .before .before .before .before .before .before .before .before)) _ (c .before .before .before .before .before .before .before .before .before .before .before .before .before .control-set .given .1) _ (c .before .before .before .before .before .before .before .before .before .before .license-set .given .1) _
+    (c .before .before .before .before .before .before .before .sideband-set .given .1) _ (c .before .before .before .before .dial .given .1))))
 
 pub ruled-spec : {M : Type 1} → statement M
 ruled-spec =
@@ -119,4 +123,5 @@ ruled-spec =
     returns-5
     case-of-requires
     judge-case-requires
+    conclude-requires
     returns-6)

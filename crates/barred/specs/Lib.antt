@@ -1,0 +1,2 @@
+-- Whether a finding blocks.
+pub mod Barred

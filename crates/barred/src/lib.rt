@@ -1,0 +1,102 @@
+// Whether a transmission is blocked, without the answer: what the climb over the rungs asks of each. It uses codes, profile,
+// occupancy, station, layout, table, decision, part97, judge and verdict.
+use codes::Control;
+use codes::Direction;
+use codes::EmissionKind;
+use codes::License;
+use codes::Policy;
+use codes::SidebandSet;
+use decision::MaybeRange;
+use decision::Verdict;
+use occupancy::Edges;
+use part97::Finding;
+use profile::Range;
+use station::Figure;
+use station::Situation;
+ghost use mathlib.Core.Path.{_≡_};
+ghost use Rattle.layout.specs.Form.{Whole};
+ghost use Rattle.decision.specs.Decision.{isBlocked};
+ghost use Rattle.verdict.specs.Verdict.{underRulesOf, decideOf};
+ghost use Rattle.barred.specs.Barred.{blockedOver};
+
+fn is_blocked(v: Verdict) -> bool
+    ensures { λ x. ⌜ x ≡ isBlocked v ⌝ }
+{
+    match v {
+        Verdict::Legal => false,
+        Verdict::Warning => false,
+        Verdict::Blocked => true,
+    }
+}
+
+// Whether a finding blocks: power limits and the plan never do.
+fn blocks(f: Finding) -> bool
+    ensures { λ x. ⌜ x ≡ blockedOver (f .verdict) (f .over) ⌝ }
+{
+    let verdict = f.verdict;
+    let over = f.over;
+    match over {
+        MaybeRange::Is(_) => false,
+        MaybeRange::NoRange => is_blocked(verdict),
+    }
+}
+
+// Under an accepted table, at a dial: a prerequisite that is missing blocks, and else Part 97 says.
+fn barred_by_rules(
+    image: &[u8],
+    s: Situation,
+    dial: Figure,
+    kind: EmissionKind,
+    direction: Direction,
+    audio: Range,
+) -> bool
+    requires { ⌜ Whole (now image) ⌝ }
+    ensures { λ x. ⌜ x ≡ isBlocked (underRulesOf (now (image .entry)) s dial kind direction audio .verdict) ⌝ }
+{
+    let g = layout::general_of(image);
+    if s.itu_region != g.region {
+        return true;
+    }
+    let control_set = s.control;
+    let license_set = s.license;
+    let sideband_set = s.sideband;
+    let Control::ControlIs(control) = control_set else {
+        return true;
+    };
+    let License::LicenseIs(class) = license_set else {
+        return true;
+    };
+    let SidebandSet::SidebandIs(sideband) = sideband_set else {
+        return true;
+    };
+    let Figure::Known(hz) = dial else {
+        return true;
+    };
+    let c = verdict::case_of(s, control, class, sideband, hz, kind, direction, audio);
+    blocks(judge::judge_case(image, c))
+}
+
+// By the policy, at a dial. Under Rules the image is an accepted one.
+pub fn barred(
+    image: &[u8],
+    s: Situation,
+    policy: Policy,
+    dial: Figure,
+    kind: EmissionKind,
+    direction: Direction,
+    e: Edges,
+) -> bool
+    requires { ⌜ (policy ≡ Policy.Rules → Whole (now image)) ⌝ }
+    ensures { λ x. ⌜ x ≡ isBlocked (decideOf (now (image .entry)) s policy dial kind direction e .verdict) ⌝ }
+{
+    match policy {
+        Policy::Unset => true,
+        Policy::NoProfile => false,
+        Policy::Rules => {
+            let g = layout::general_of(image);
+            let audio = e.range(table::reading_of(g));
+            barred_by_rules(image, s, dial, kind, direction, audio)
+        }
+        Policy::Broken => true,
+    }
+}
