@@ -47,16 +47,16 @@ fn span(from: f64, low: f64, high: f64) -> Record {
 }
 
 /// Classes of the privileges, the first six records of a band. Technician and Novice have lists of
-/// emissions on six bands of ten.
+/// emissions on four bands of ten, as many as 97.301(e) gives them on HF.
 const CLASSES: [u8; 6] = [4, 3, 2, 2, 1, 0];
 
 fn has_list(class: u8, band: usize) -> bool {
-    class < 2 && band % 10 < 6
+    class < 2 && band % 10 < 4
 }
 
-/// Each fifth data segment has a limit of its own, and a rule for it.
+/// Each tenth data segment has a limit of its own, and a rule for it.
 fn has_limit(segment: usize) -> bool {
-    segment % 5 == 0
+    segment % 10 == 0
 }
 
 impl Table {

@@ -4,7 +4,6 @@ use codes::Direction;
 use decision::Code;
 use decision::MaybeRange;
 use find::Pick;
-use find::Question;
 use part97::Case;
 use part97::Finding;
 use profile::Range;
@@ -87,7 +86,7 @@ pub fn automatic_data(s: &[u8], c: Case, band: u8, segment: Range, rule: u16) ->
 {
     let guarded = c.guarded;
     let g = layout::general_of(s);
-    match find::pick_in(s, layout::AUTOMATIC, Question::Holds(guarded)) {
+    match find::pick_holding(s, layout::AUTOMATIC, guarded) {
         Pick::Picked(_, r) => {
             let inside = table::span_of(r);
             lawful(

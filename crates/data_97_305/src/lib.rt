@@ -7,7 +7,6 @@ use decision::Code;
 use decision::MaybeRange;
 use decision::Verdict;
 use find::Pick;
-use find::Question;
 use part97::Case;
 use part97::Finding;
 use part97::Nearest;
@@ -111,7 +110,7 @@ pub fn judge_data(s: &[u8], c: Case, band: u8) -> Finding
 {
     let guarded = c.guarded;
     let general = table::data_of(layout::general_of(s));
-    match find::pick_in(s, layout::SEGMENTS, Question::Holds(guarded)) {
+    match find::pick_holding(s, layout::SEGMENTS, guarded) {
         Pick::Picked(_, r) => {
             let segment = table::segment_of(r);
             let own = segment.own;

@@ -5,9 +5,10 @@ use profile::OwnLimit;
 use profile::Range;
 use scan::Found;
 ghost use mathlib.Core.Path.{_≡_};
-ghost use Prim.Native.Nat.{_+_, _*_, _≤_, _<_};
+ghost use Prim.Native.Nat.{ℕ, _+_, _*_, _≤_, _<_};
 ghost use lib.ListN.{length};
-ghost use Rattle.scan.specs.First.{first, some};
+ghost use Rattle.scan.specs.First.{first, some, onFound};
+ghost use Rattle.layout.specs.Layout.{recordAt};
 ghost use mathlib.Core.Bool.{false};
 ghost use Rattle.layout.specs.Form.{Whole};
 ghost use Rattle.find.specs.Question.{soundBits, soundRecord, noLimit, asks, asksAt, firstIn, someIn, pickIn, homeQuestion, homelessOf};
@@ -209,6 +210,36 @@ pub fn pick_in(s: &[u8], t: usize, q: Question) -> Pick
         Found::At(i) => Pick::Picked(i, table::record_of(s, t, i)),
         Found::Nothing => Pick::Missing,
     }
+}
+
+// What a scan found, read.
+fn picked(s: &[u8], start: usize, f: Found) -> Pick
+    requires { ⌜ ((i : ℕ) → f ≡ Found.At i → start + 32 * i + 32 ≤ length (now s)) ⌝ }
+    ensures { λ r. ⌜ r ≡ onFound f (λ i. Pick.Picked i (recordAt (now (s .entry)) (start + 32 * i))) Pick.Missing ⌝ }
+{
+    match f {
+        Found::At(i) => Pick::Picked(i, layout::record_at(s, start + layout::RECORD_SIZE * i)),
+        Found::Nothing => Pick::Missing,
+    }
+}
+
+// The same for the questions that judging asks most, without asking which.
+pub fn pick_holding(s: &[u8], t: usize, a: Range) -> Pick
+    requires { ⌜ (Whole (now s)) × (t < 9) ⌝ }
+    ensures { λ r. ⌜ r ≡ pickIn (now (s .entry)) t (Question.Holds a) ⌝ }
+{
+    let start = layout::start_of(s, t);
+    let count = layout::count_of(s, t) as usize;
+    picked(s, start, find_holding(s, start, count, a))
+}
+
+pub fn pick_class(s: &[u8], t: usize, n: u8, a: Range) -> Pick
+    requires { ⌜ (Whole (now s)) × (t < 9) ⌝ }
+    ensures { λ r. ⌜ r ≡ pickIn (now (s .entry)) t (Question.ClassHolds n a) ⌝ }
+{
+    let start = layout::start_of(s, t);
+    let count = layout::count_of(s, t) as usize;
+    picked(s, start, find_class(s, start, count, n, a))
 }
 
 // Which bands a segment asks for: those that hold it, of whatever number or of its own.

@@ -127,7 +127,7 @@ pub fn judge_case(s: &[u8], c: Case) -> Finding
     ensures { λ x. ⌜ concluded (now (s .entry)) c x ≡ judge (now (s .entry)) c ⌝ }
 {
     let guarded = c.guarded;
-    match find::pick_in(s, layout::BANDS, Question::Holds(guarded)) {
+    match find::pick_holding(s, layout::BANDS, guarded) {
         Pick::Picked(_, r) => judge_in_band(s, c, r.band),
         Pick::Missing => findings::on_band(
             touching_band(s, c),

@@ -1,7 +1,8 @@
--- Fewer tests that are enough: of a record with no own limit, no list and no second rule they show that it is plain.
+-- Fewer tests that are enough: of a record with no own limit, no second rule and no list but a privilege's they show that it is
+-- plain.
 use Prim.Native.Nat.{ℕ, _+_, _*_, _≤_, _<_}
-use mathlib.Core.Path.{_≡_, subst}
-use mathlib.Core.Bool.{Bool, true, _&&_}
+use mathlib.Core.Path.{_≡_, refl, subst}
+use mathlib.Core.Bool.{Bool, true, false, _&&_, _||_}
 use mathlib.Core.List.{List}
 use native.Mathlib.Omega.{arith}
 use native.Mathlib.Decide.{decLe}
@@ -24,6 +25,15 @@ rangeWithin figure band lists rules r =
 unfoldable pub pointWithin : ℕ → ℕ → ℕ → Record → Bool
 pointWithin low lists rules r =
     leb (r .low) low && (eqb (r .high) 0 && (eqb (r .figure) 0 && (leb (listsOf r) lists && leb (rulesOf r) rules)))
+
+-- a privilege with a list of emissions, and one with or without
+unfoldable pub listedOf : Record → Bool
+listedOf r =
+    ltb (r .low) (r .high) && (leb (r .high) limitBits && (eqb (r .figure) 0 && (eqb (r .flags) 1 && (leb (r .emissions) 15
+    && (eqb (r .band) 0 && (leb (r .class) 4 && (eqb (r .rule) 0 && eqb (r .«second_rule») 0)))))))
+
+unfoldable pub privilegeWithin : Record → Bool
+privilegeWithin r = rangeWithin 0 0 1024 0 r || listedOf r
 
 -- ---- records that pass a test, one after the other
 
@@ -158,6 +168,13 @@ module _ (low high : ℕ) (longer : low < high) (within : high ≤ limitBits) wh
   at-privileges figure band class emissions flags rule second a b c d e f g =
       rw a (rw b (rw d (rw e (rw f (rw g (rw (le-leb low limitBits (omega arith)) (rw (le-leb high limitBits within) (rw (lt-ltb low high longer) (rw (le-leb class 4 c))))))))))
 
+  at-listed :
+      (figure band class emissions flags rule second : ℕ) → figure ≡ 0 → band ≡ 0 → class ≤ 4 → emissions ≤ 15 → flags ≡ 1 → rule ≡ 0 → second ≡ 0
+      → plainOf privileges (record { low = low; high = high; figure = figure; band = band; class = class; emissions = emissions; flags = flags; rule = rule; «second_rule» = second }) ≡ true
+  unfolding plainOf sizedOf longOf limitedOf codedOf
+  at-listed figure band class emissions flags rule second a b c d e f g =
+      rw a (rw b (rw e (rw f (rw g (rw (le-leb low limitBits (omega arith)) (rw (le-leb high limitBits within) (rw (lt-ltb low high longer) (rw (le-leb class 4 c) (rw (le-leb emissions 15 d))))))))))
+
 at-channels : (low high figure band rule : ℕ) → low ≤ limitBits → high ≡ 0 → figure ≡ 0 → band ≡ 0 → rule ≡ 0 → plainOf channels (listless low high figure band rule) ≡ true
 unfolding plainOf sizedOf longOf limitedOf codedOf
 at-channels low high figure band rule a b c d e = rw b (rw c (rw d (rw e (rw (le-leb low limitBits a)))))
@@ -187,11 +204,33 @@ module _ (r : Record) where
       listless-plain channels r (omega (arith, p .lists-most)) (omega (arith, p .rules-most))
       (at-channels (r .low) (r .high) (r .figure) (r .band) (r .rule) (p .low-most) (p .no-high) (p .no-figure) (omega (arith, p .lists-most)) (omega (arith, p .rules-most)))
 
-  pub plain-privilege : rangeWithin 0 0 1024 0 r ≡ true → plainOf privileges r ≡ true
-  plain-privilege e =
+  unlisted : rangeWithin 0 0 1024 0 r ≡ true → plainOf privileges r ≡ true
+  unlisted e =
       let p = range-parts 0 0 1024 0 r e in
       at-privileges (r .low) (r .high) (p .longer) (p .high-most) (r .figure) (r .band) (r .class) (r .emissions) (r .flags) (r .rule) (r .«second_rule»)
       (omega (arith, p .figure-most)) (omega (arith, p .band-most)) (omega (arith, p .lists-most)) (omega (arith, p .lists-most)) (omega (arith, p .lists-most)) (omega (arith, p .rules-most)) (omega (arith, p .rules-most))
+
+  listed : listedOf r ≡ true → plainOf privileges r ≡ true
+  unfolding listedOf
+  listed e =
+      let p1 = and-true (ltb (r .low) (r .high)) _ e in
+      let p2 = and-true (leb (r .high) limitBits) _ (p1 .1) in
+      let p3 = and-true (eqb (r .figure) 0) _ (p2 .1) in
+      let p4 = and-true (eqb (r .flags) 1) _ (p3 .1) in
+      let p5 = and-true (leb (r .emissions) 15) _ (p4 .1) in
+      let p6 = and-true (eqb (r .band) 0) _ (p5 .1) in
+      let p7 = and-true (leb (r .class) 4) _ (p6 .1) in
+      let p8 = and-true (eqb (r .rule) 0) (eqb (r .«second_rule») 0) (p7 .1) in
+      at-listed (r .low) (r .high) (ltb-true _ _ (p1 .0)) (leb-true _ _ (p2 .0)) (r .figure) (r .band) (r .class) (r .emissions) (r .flags) (r .rule) (r .«second_rule»)
+      (eqb-true _ _ (p3 .0)) (eqb-true _ _ (p6 .0)) (leb-true _ _ (p7 .0)) (leb-true _ _ (p5 .0)) (eqb-true _ _ (p4 .0)) (eqb-true _ _ (p8 .0)) (eqb-true _ _ (p8 .1))
+
+  pub plain-privilege : privilegeWithin r ≡ true → plainOf privileges r ≡ true
+  unfolding privilegeWithin
+  plain-privilege e = go (rangeWithin 0 0 1024 0 r) refl e
+    where
+      go : (b : Bool) → rangeWithin 0 0 1024 0 r ≡ b → (b || listedOf r) ≡ true → plainOf privileges r ≡ true
+      go true p q = unlisted p
+      go false p q = listed q
 
   pub plain-automatic : rangeWithin 0 0 0 0 r ≡ true → plainOf automatic r ≡ true
   plain-automatic e =

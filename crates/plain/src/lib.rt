@@ -13,7 +13,7 @@ ghost use Rattle.layout.specs.Layout.{recordAt, countOf};
 ghost use Rattle.layout.specs.Form.{Whole};
 ghost use Rattle.find.specs.Question.{homelessOf};
 ghost use Rattle.plain.specs.Plain.{sizedOf, longOf, limitedOf, plainOf, roughFrom, isRough};
-ghost use Rattle.plain.specs.Quick.{rangeWithin, pointWithin, Stretch};
+ghost use Rattle.plain.specs.Quick.{rangeWithin, pointWithin, listedOf, privilegeWithin, Stretch};
 ghost use Rattle.plain.specs.Home.{heldBits};
 
 // The bits of 2^40.
@@ -83,6 +83,27 @@ fn point_at(s: &[u8], at: usize, low: u64, lists: u32, rules: u32) -> bool
                 && (layout::lists_at(s, at) <= lists && layout::rules_at(s, at) <= rules)))
 }
 
+// A privilege with a list of emissions.
+fn is_listed(r: Record) -> bool
+    ensures { λ x. ⌜ x ≡ listedOf r ⌝ }
+{
+    r.low < r.high
+        && (r.high <= LIMIT_BITS
+            && (r.figure == 0
+                && (r.flags == 1
+                    && (r.emissions <= 15
+                        && (r.band == 0
+                            && (r.class <= 4 && (r.rule == 0 && r.second_rule == 0)))))))
+}
+
+// And for a privilege, with or without one.
+fn privilege_at(s: &[u8], at: usize) -> bool
+    requires { ⌜ at + 32 ≤ length (now s) ⌝ }
+    ensures { λ x. ⌜ x ≡ privilegeWithin (recordAt (now (s .entry)) at) ⌝ }
+{
+    range_at(s, at, 0, 0, 1024, 0) || is_listed(layout::record_at(s, at))
+}
+
 // How far the records from one on pass the fewer tests.
 fn pass_ranges(
     s: &[u8],
@@ -136,7 +157,21 @@ fn pass_points(
     i
 }
 
-// By the table: records with no own limit, no list and no second rule are plain at once.
+fn pass_privileges(s: &[u8], start: usize, count: usize, from: usize) -> usize
+    requires { ⌜ start + 32 * count ≤ length (now s) ⌝ }
+    ensures { λ x. ⌜ Stretch privilegeWithin (now (s .entry)) start from x ⌝ }
+{
+    let mut i = from;
+    while i < count {
+        if !privilege_at(s, start + layout::RECORD_SIZE * i) {
+            return i;
+        }
+        i += 1;
+    }
+    i
+}
+
+// By the table: most records are plain at once.
 fn pass(s: &[u8], t: usize, start: usize, count: usize, from: usize) -> usize
     requires { ⌜ start + 32 * count ≤ length (now s) ⌝ }
     ensures { λ x. ⌜ Stretch (plainOf t) (now (s .entry)) start from x ⌝ }
@@ -145,7 +180,7 @@ fn pass(s: &[u8], t: usize, start: usize, count: usize, from: usize) -> usize
         layout::BANDS => pass_ranges(s, start, count, from, 0, 255, 255, 0),
         layout::SEGMENTS => pass_ranges(s, start, count, from, 0, 255, 255, 65535),
         layout::CHANNELS => pass_points(s, start, count, from, LIMIT_BITS, 0, 0),
-        layout::PRIVILEGES => pass_ranges(s, start, count, from, 0, 0, 1024, 0),
+        layout::PRIVILEGES => pass_privileges(s, start, count, from),
         layout::AUTOMATIC => pass_ranges(s, start, count, from, 0, 0, 0, 0),
         layout::EXCLUDED => pass_points(s, start, count, from, 0, 255, 65535),
         layout::POWER => pass_ranges(s, start, count, from, LIMIT_BITS, 0, 0, 65535),

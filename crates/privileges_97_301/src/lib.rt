@@ -28,7 +28,7 @@ pub fn privileged(s: &[u8], c: Case, kind: EmissionKind) -> Privileged
     let class = c.class;
     let guarded = c.guarded;
     let n = codes::class_code(class);
-    match find::pick_in(s, layout::PRIVILEGES, Question::ClassHolds(n, guarded)) {
+    match find::pick_class(s, layout::PRIVILEGES, n, guarded) {
         Pick::Picked(i, held) => {
             let p = table::privilege_of(held);
             let emissions = p.emissions;

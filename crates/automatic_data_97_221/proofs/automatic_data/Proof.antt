@@ -10,8 +10,8 @@ use Rattle.automatic_data_97_221.proofs.automatic_data.Tie as tie
 general-of-requires : tie.Need-general-of-requires
 general-of-requires c κs = search needs
 
-pick-in-requires : tie.Need-pick-in-requires
-pick-in-requires c κs = search needs
+pick-holding-requires : tie.Need-pick-holding-requires
+pick-holding-requires c κs = search needs
 
 enum-known-r : tie.Need-enum-known-r
 enum-known-r c = search needs
@@ -34,7 +34,7 @@ automatic-elsewhere-requires c κs = search needs
 returns : tie.Need-returns
 unfolding automaticData
 returns c =
-    let p = picked _ _ _ _ _ (sym (c .before .before .before .before .before .pick-in .ensures) ∙ c .before .before .before .r .given .1) in
+    let p = picked _ _ _ _ _ (sym (c .before .before .before .before .before .pick-holding .ensures) ∙ c .before .before .before .r .given .1) in
     rw (p .found)
     (rw (c .lawful .ensures)
     (rw (c .before .span-of .ensures)
@@ -43,7 +43,7 @@ returns c =
 returns-2 : tie.Need-returns-2
 unfolding automaticData
 returns-2 c =
-    rw (missed _ _ _ (sym (c .before .before .before .before .pick-in .ensures) ∙ c .before .before .enum-told .given .1))
+    rw (missed _ _ _ (sym (c .before .before .before .before .pick-holding .ensures) ∙ c .before .before .enum-told .given .1))
     (rw (c .automatic-elsewhere .ensures)
     (rw (c .before .elsewhere-of .ensures)
     (rw (c .before .before .before .before .before .general-of .ensures))))
@@ -53,7 +53,7 @@ automatic-data-spec =
     tie.close
     (tie.spec
     general-of-requires
-    pick-in-requires
+    pick-holding-requires
     enum-known-r
     span-of-requires
     lawful-requires

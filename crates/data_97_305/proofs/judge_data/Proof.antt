@@ -27,8 +27,8 @@ general-of-requires c κs = search needs
 data-of-requires : tie.Need-data-of-requires
 data-of-requires c κs = search needs
 
-pick-in-requires : tie.Need-pick-in-requires
-pick-in-requires c κs = search needs
+pick-holding-requires : tie.Need-pick-holding-requires
+pick-holding-requires c κs = search needs
 
 enum-known-r : tie.Need-enum-known-r
 enum-known-r c = search needs
@@ -44,7 +44,7 @@ too-wide-requires c κs = search needs
 
 returns : tie.Need-returns
 returns c =
-    let p = picked _ _ _ _ _ (sym (c .before .before .before .before .before .before .before .before .before .pick-in .ensures) ∙ c .before .before .before .before .before .before .before .r .given .1) in
+    let p = picked _ _ _ _ _ (sym (c .before .before .before .before .before .before .before .before .before .pick-holding .ensures) ∙ c .before .before .before .before .before .before .before .r .given .1) in
     ap (concluded _ _) (c .too-wide .ensures) ∙ on-band _ _ _ _ _ _ ∙ judge-wide _ _ _ _ _ (limit (c .before .before .before .before) _ p) (c .before .if1 .taken)
 
 inside-segment-requires : tie.Need-inside-segment-requires
@@ -58,7 +58,7 @@ too-wide-requires-2 c κs = search needs
 
 returns-2 : tie.Need-returns-2
 returns-2 c =
-    let none = missed _ _ _ (sym (c .before .before .before .before .before .before .pick-in .ensures) ∙ c .before .before .before .before .enum-told .given .1) in
+    let none = missed _ _ _ (sym (c .before .before .before .before .before .before .pick-holding .ensures) ∙ c .before .before .before .before .enum-told .given .1) in
     ap (concluded _ _) (c .too-wide2 .ensures) ∙ on-band _ _ _ _ _ _ ∙ judge-wide _ _ _ _ _ (rw none (rw (c .before .before .before .before .before .before .before .data-of .ensures) (rw (c .before .before .before .before .before .before .before .before .general-of .ensures)))) (c .before .if2 .taken)
 
 outside-segments-requires : tie.Need-outside-segments-requires
@@ -66,13 +66,13 @@ outside-segments-requires c κs = search needs
 
 returns-3 : tie.Need-returns-3
 returns-3 c =
-    let p = picked _ _ _ _ _ (sym (c .before .before .before .before .before .before .before .before .before .pick-in .ensures) ∙ c .before .before .before .before .before .before .before .r .given .1) in
+    let p = picked _ _ _ _ _ (sym (c .before .before .before .before .before .before .before .before .before .pick-holding .ensures) ∙ c .before .before .before .before .before .before .before .r .given .1) in
     c .inside-segment .ensures
     ∙ judge-inside _ _ _ _ _ (p .found) _ (rw (c .before .before .before .before .before .segment-of .ensures) (rw (p .here))) _ (limit (c .before .before .before .before) _ p) (c .before .if1 .left)
 
 returns-4 : tie.Need-returns-4
 returns-4 c =
-    let none = missed _ _ _ (sym (c .before .before .before .before .before .before .pick-in .ensures) ∙ c .before .before .before .before .enum-told .given .1) in
+    let none = missed _ _ _ (sym (c .before .before .before .before .before .before .pick-holding .ensures) ∙ c .before .before .before .before .enum-told .given .1) in
     c .outside-segments .ensures ∙ judge-outside _ _ _ _ none (c .before .before .before .before .before .before .before .data-of .result) (rw none (rw (c .before .before .before .before .before .before .before .data-of .ensures) (rw (c .before .before .before .before .before .before .before .before .general-of .ensures)))) (c .before .if2 .left)
 
 pub judge-data-spec : {M : Type 1} → statement M
@@ -81,7 +81,7 @@ judge-data-spec =
     (tie.spec
     general-of-requires
     data-of-requires
-    pick-in-requires
+    pick-holding-requires
     enum-known-r
     segment-of-requires
     data-limit-requires

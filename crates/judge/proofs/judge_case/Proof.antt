@@ -7,8 +7,8 @@ use borrow.Author.Needs.{needs}
 use Rattle.judge.proofs.judge_case.Statement.{statement}
 use Rattle.judge.proofs.judge_case.Tie as tie
 
-pick-in-requires : tie.Need-pick-in-requires
-pick-in-requires c κs = search needs
+pick-holding-requires : tie.Need-pick-holding-requires
+pick-holding-requires c κs = search needs
 
 enum-known-r : tie.Need-enum-known-r
 enum-known-r c = search needs
@@ -28,7 +28,7 @@ on-band-requires c κs = search needs
 returns : tie.Need-returns
 unfolding judge
 returns c =
-    let p = picked _ _ _ _ _ (sym (c .before .before .before .before .pick-in .ensures) ∙ c .before .before .r .given .1) in
+    let p = picked _ _ _ _ _ (sym (c .before .before .before .before .pick-holding .ensures) ∙ c .before .before .r .given .1) in
     rw (p .found)
     (rw (← p .here)
     (c .judge-in-band .ensures))
@@ -36,7 +36,7 @@ returns c =
 returns-2 : tie.Need-returns-2
 unfolding judge
 returns-2 c =
-    rw (missed _ _ _ (sym (c .before .before .before .before .pick-in .ensures) ∙ c .before .before .enum-told .given .1))
+    rw (missed _ _ _ (sym (c .before .before .before .before .pick-holding .ensures) ∙ c .before .before .enum-told .given .1))
     (rw (← c .before .touching-band .ensures)
     (rw (c .on-band .ensures) (on-band _ _ _ _ _ _)))
 
@@ -44,7 +44,7 @@ pub judge-case-spec : {M : Type 1} → statement M
 judge-case-spec =
     tie.close
     (tie.spec
-    pick-in-requires
+    pick-holding-requires
     enum-known-r
     judge-in-band-requires
     enum-told

@@ -11,8 +11,8 @@ use Rattle.privileges_97_301.proofs.privileged.Tie as tie
 class-code-requires : tie.Need-class-code-requires
 class-code-requires c κs = search needs
 
-pick-in-requires : tie.Need-pick-in-requires
-pick-in-requires c κs = search needs
+pick-class-requires : tie.Need-pick-class-requires
+pick-class-requires c κs = search needs
 
 enum-known-i : tie.Need-enum-known-i
 enum-known-i c = search needs
@@ -33,7 +33,7 @@ asked c = rw (c .allows .ensures) (rw (c .before .privilege-of .ensures))
 returns : tie.Need-returns
 unfolding privilegedOf
 returns c =
-    let p = picked _ _ _ _ _ (sym (c .before .before .before .before .before .before .pick-in .ensures) ∙ c .before .before .before .before .i .given .1) in
+    let p = picked _ _ _ _ _ (sym (c .before .before .before .before .before .before .pick-class .ensures) ∙ c .before .before .before .before .i .given .1) in
     rw (← c .before .before .before .before .before .before .before .class-code .ensures)
     (rw (p .found)
     (rw (← p .here)
@@ -43,7 +43,7 @@ returns c =
 returns-2 : tie.Need-returns-2
 unfolding privilegedOf
 returns-2 c =
-    let p = picked _ _ _ _ _ (sym (c .before .before .before .before .before .before .pick-in .ensures) ∙ c .before .before .before .before .i .given .1) in
+    let p = picked _ _ _ _ _ (sym (c .before .before .before .before .before .before .pick-class .ensures) ∙ c .before .before .before .before .i .given .1) in
     rw (← c .before .before .before .before .before .before .before .class-code .ensures)
     (rw (p .found)
     (rw (← p .here)
@@ -54,14 +54,14 @@ returns-3 : tie.Need-returns-3
 unfolding privilegedOf
 returns-3 c =
     rw (← c .before .before .before .class-code .ensures)
-    (rw (missed _ _ _ (sym (c .before .before .pick-in .ensures) ∙ c .enum-told .given .1)))
+    (rw (missed _ _ _ (sym (c .before .before .pick-class .ensures) ∙ c .enum-told .given .1)))
 
 pub privileged-spec : {M : Type 1} → statement M
 privileged-spec =
     tie.close
     (tie.spec
     class-code-requires
-    pick-in-requires
+    pick-class-requires
     enum-known-i
     privilege-of-requires
     allows-requires

@@ -1,0 +1,41 @@
+-- `find::pick_holding` equals its definition: the scan's answer, read.
+use mathlib.Core.Path.{sym, _∙_}
+use native.Mathlib.Omega.{arith}
+use borrow.Author.Needs.{needs}
+use Rattle.layout.specs.Form.{table-within}
+use Rattle.scan.specs.First.{first-at}
+use Rattle.find.specs.Question.{pickIn}
+use Rattle.find.proofs.pick_holding.Statement.{statement}
+use Rattle.find.proofs.pick_holding.Tie as tie
+
+start-of-requires : tie.Need-start-of-requires
+start-of-requires c κs = search needs
+
+count-of-requires : tie.Need-count-of-requires
+count-of-requires c κs = search needs
+
+cast-count : tie.Need-cast-count
+cast-count c = search needs
+
+find-holding-requires : tie.Need-find-holding-requires
+find-holding-requires c κs =
+    let a = c .before .before .before in
+    omega (arith, table-within (a .args .s .now) (a .pre .0) (a .args .t) (a .pre .1))
+
+picked-requires : tie.Need-picked-requires
+picked-requires c κs =
+    let a = c .before .before .before .before in
+    λ i e.
+    omega (arith, table-within (a .args .s .now) (a .pre .0) (a .args .t) (a .pre .1), first-at _ _ _ (sym (c .find-holding .ensures) ∙ e) .below)
+
+returns : tie.Need-returns
+unfolding pickIn
+returns c =
+    rw (← c .before .before .before .start-of .ensures)
+    (rw (← c .before .before .count-of .ensures)
+    (rw (c .picked .ensures)
+    (rw (c .before .find-holding .ensures))))
+
+pub pick-holding-spec : {M : Type 1} → statement M
+pick-holding-spec =
+    tie.close (tie.spec start-of-requires count-of-requires cast-count find-holding-requires picked-requires returns)
