@@ -1,3 +1,3 @@
 pub mod Flat
-pub mod Laws
+pub mod Guided
 pub mod Fits
