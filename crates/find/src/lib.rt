@@ -11,6 +11,7 @@ ghost use Rattle.scan.specs.First.{first, some, onFound};
 ghost use Rattle.layout.specs.Layout.{recordAt};
 ghost use mathlib.Core.Bool.{false};
 ghost use Rattle.layout.specs.Form.{Whole};
+ghost use Rattle.table.specs.Table.{tableOf};
 ghost use Rattle.find.specs.Question.{soundBits, soundRecord, noLimit, asks, asksAt, firstIn, someIn, pickIn, homeQuestion, homelessOf};
 
 // What is asked of a record.
@@ -183,7 +184,7 @@ pub fn find_from(s: &[u8], start: usize, count: usize, q: Question) -> Found
 // The first record of table t that a question fits.
 pub fn find_in(s: &[u8], t: usize, q: Question) -> Found
     requires { ⌜ (Whole (now s)) × (t < 9) ⌝ }
-    ensures { λ r. ⌜ r ≡ firstIn (now (s .entry)) t q ⌝ }
+    ensures { λ r. ⌜ r ≡ firstIn (tableOf (now (s .entry))) t q ⌝ }
 {
     let start = layout::start_of(s, t);
     let count = layout::count_of(s, t) as usize;
@@ -193,7 +194,7 @@ pub fn find_in(s: &[u8], t: usize, q: Question) -> Found
 // Whether a question fits a record of table t.
 pub fn some_in(s: &[u8], t: usize, q: Question) -> bool
     requires { ⌜ (Whole (now s)) × (t < 9) ⌝ }
-    ensures { λ r. ⌜ r ≡ someIn (now (s .entry)) t q ⌝ }
+    ensures { λ r. ⌜ r ≡ someIn (tableOf (now (s .entry))) t q ⌝ }
 {
     match find_in(s, t, q) {
         Found::At(_) => true,
@@ -204,7 +205,7 @@ pub fn some_in(s: &[u8], t: usize, q: Question) -> bool
 // The first record of table t that a question fits, read.
 pub fn pick_in(s: &[u8], t: usize, q: Question) -> Pick
     requires { ⌜ (Whole (now s)) × (t < 9) ⌝ }
-    ensures { λ r. ⌜ r ≡ pickIn (now (s .entry)) t q ⌝ }
+    ensures { λ r. ⌜ r ≡ pickIn (tableOf (now (s .entry))) t q ⌝ }
 {
     match find_in(s, t, q) {
         Found::At(i) => Pick::Picked(i, table::record_of(s, t, i)),
@@ -226,7 +227,7 @@ fn picked(s: &[u8], start: usize, f: Found) -> Pick
 // The same for the questions that judging asks most, without asking which.
 pub fn pick_holding(s: &[u8], t: usize, a: Range) -> Pick
     requires { ⌜ (Whole (now s)) × (t < 9) ⌝ }
-    ensures { λ r. ⌜ r ≡ pickIn (now (s .entry)) t (Question.Holds a) ⌝ }
+    ensures { λ r. ⌜ r ≡ pickIn (tableOf (now (s .entry))) t (Question.Holds a) ⌝ }
 {
     let start = layout::start_of(s, t);
     let count = layout::count_of(s, t) as usize;
@@ -235,7 +236,7 @@ pub fn pick_holding(s: &[u8], t: usize, a: Range) -> Pick
 
 pub fn pick_class(s: &[u8], t: usize, n: u8, a: Range) -> Pick
     requires { ⌜ (Whole (now s)) × (t < 9) ⌝ }
-    ensures { λ r. ⌜ r ≡ pickIn (now (s .entry)) t (Question.ClassHolds n a) ⌝ }
+    ensures { λ r. ⌜ r ≡ pickIn (tableOf (now (s .entry))) t (Question.ClassHolds n a) ⌝ }
 {
     let start = layout::start_of(s, t);
     let count = layout::count_of(s, t) as usize;
@@ -256,7 +257,7 @@ fn home_question(own: bool, r: Record) -> Question
 // Whether a data segment lies in no band, of whatever number or of its own.
 pub fn homeless(s: &[u8], own: bool) -> bool
     requires { ⌜ Whole (now s) ⌝ }
-    ensures { λ r. ⌜ r ≡ homelessOf (now (s .entry)) own ⌝ }
+    ensures { λ r. ⌜ r ≡ homelessOf (tableOf (now (s .entry))) own ⌝ }
 {
     let start = layout::start_of(s, layout::SEGMENTS);
     let count = layout::count_of(s, layout::SEGMENTS) as usize;

@@ -158,12 +158,19 @@ some-all test n h = go (first test n) refl
     go Nothing p = refl
 
 -- two tests that say the same of every index
+from-same :
+    (f g : ℕ → Bool) (n i : ℕ) → ((k : ℕ) → i ≤ k → k < i + n → f k ≡ g k) → firstFrom f n i ≡ firstFrom g n i
+unfolding firstFrom
+from-same f g zero i h = refl
+from-same f g (suc n) i h =
+    rw (h i (omega arith) (omega arith))
+    (ap (λ (x : Found). cond (g i) (At i) x) (from-same f g n (suc i) (λ k a b. h k (omega arith) (omega arith))))
+
+pub first-same : (f g : ℕ → Bool) (n : ℕ) → ((k : ℕ) → k < n → f k ≡ g k) → first f n ≡ first g n
+first-same f g n h = from-same f g n 0 (λ k a b. h k (omega arith))
+
 pub some-same : (f g : ℕ → Bool) (n : ℕ) → ((k : ℕ) → k < n → f k ≡ g k) → some f n ≡ some g n
-some-same f g n h = go (first g n) refl
-  where
-    go : (x : Found) → first g n ≡ x → some f n ≡ isAt x
-    go (At i) p = let r = first-at g n i p in some-true f n i (r .below) (h i (r .below) ∙ r .passes)
-    go Nothing p = some-all f n (λ k b. h k b ∙ first-nothing g n p k b)
+some-same f g n h = ap isAt (first-same f g n h)
 
 -- by what a scan found: one thing at an index, another where there is nothing
 abbrev pub onFound : {A : Type 0} → Found → (ℕ → A) → A → A

@@ -1,5 +1,6 @@
 -- `find::find_in` meets its contract: on each way to a return, the tests and what the calls ensure say which case of the definition holds.
 use Rattle.layout.specs.Form.{table-within}
+use Rattle.find.specs.Question.{found-in}
 use native.Mathlib.Omega.{arith}
 use borrow.Author.Needs.{needs}
 use Rattle.find.proofs.find_in.Statement.{statement}
@@ -21,9 +22,9 @@ find-from-requires c κs =
 
 returns : tie.Need-returns
 returns c =
-    rw (← c .before .before .start-of .ensures)
-    (rw (← c .before .count-of .ensures)
-    (rw (c .find-from .ensures)))
+    let a = c .before .before .before .before in
+    found-in (a .args .s .now) (a .args .t) (a .args .q) _ _ _ (a .pre .1) (c .before .before .start-of .ensures) (c .before .count-of .ensures)
+    (c .find-from .ensures)
 
 pub find-in-spec : {M : Type 1} → statement M
 find-in-spec =

@@ -7,13 +7,14 @@ use borrow.Author.Needs.{needs}
 use Rattle.layout.specs.Layout.{recordSize, trailerSize, segments, countOf, startOf}
 use Rattle.layout.specs.Form.{table-within}
 use Rattle.scan.specs.First.{Passed, passed-none, passed-step, some-here, some-none}
+use Rattle.table.specs.Table.{recordIn, tableOf, read-in}
 use Rattle.find.specs.Question.{homelessAt}
 use native.Mathlib.Omega.{arith}
 use Rattle.find.proofs.homeless.Statement.{statement}
 use Rattle.find.proofs.homeless.Tie as tie
 
 abbrev Inv-loop : tie.InvT-loop
-Inv-loop s own start count i₀ i = Passed (homelessAt s own) count i
+Inv-loop s own start count i₀ i = Passed (homelessAt (tableOf s) own) count i
 
 abbrev μ-loop : tie.MeasureT-loop
 μ-loop s own start count i₀ i = count - i
@@ -21,13 +22,18 @@ abbrev μ-loop : tie.MeasureT-loop
 within : (c : tie.Start Inv-loop μ-loop) → startOf (c .args .s .now) segments + recordSize * countOf (c .args .s .now) segments + trailerSize ≤ length (c .args .s .now)
 within c = table-within (c .args .s .now) (c .pre) segments (omega arith)
 
+-- the record read is segment i
+segment : (c : tie.After-some-in Inv-loop μ-loop) → c .before .before .record-at .result ≡ recordIn (c .before .before .before .before .before .before .before .before .args .s .now) segments (c .before .before .before .before .loop .i)
+segment c =
+    read-in _ segments _ _ _ (omega arith) (omega (arith, c .before .before .before .before .before .count-of .ensures, c .before .before .before .loop-test .taken))
+    (c .before .before .before .before .before .before .start-of .ensures) (c .before .before .record-at .ensures)
+
 -- what a turn asked of segment i
-asked : (c : tie.After-some-in Inv-loop μ-loop) → not (c .some-in .result) ≡ homelessAt (c .before .before .before .before .before .before .before .before .args .s .now) (c .before .before .before .before .before .before .before .before .args .own) (c .before .before .before .before .loop .i)
+asked : (c : tie.After-some-in Inv-loop μ-loop) → not (c .some-in .result) ≡ homelessAt (tableOf (c .before .before .before .before .before .before .before .before .args .s .now)) (c .before .before .before .before .before .before .before .before .args .own) (c .before .before .before .before .loop .i)
 asked c =
     rw (c .some-in .ensures)
     (rw (c .before .home-question .ensures)
-    (rw (c .before .before .record-at .ensures)
-    (rw (c .before .before .before .before .before .before .start-of .ensures))))
+    (rw (segment c)))
 
 start-of-requires : tie.Need-start-of-requires Inv-loop μ-loop
 start-of-requires c κs = omega (arith, c .before .pre .sized)

@@ -4,7 +4,8 @@ use native.Mathlib.Omega.{arith}
 use borrow.Author.Needs.{needs}
 use Rattle.layout.specs.Form.{table-within}
 use Rattle.scan.specs.First.{first-at}
-use Rattle.find.specs.Question.{pickIn}
+use Rattle.find.specs.Question.{pick-in}
+use Rattle.find.specs.declared.Question.the-variants.{ClassHolds}
 use Rattle.find.proofs.pick_class.Statement.{statement}
 use Rattle.find.proofs.pick_class.Tie as tie
 
@@ -29,12 +30,10 @@ picked-requires c κs =
     omega (arith, table-within (a .args .s .now) (a .pre .0) (a .args .t) (a .pre .1), first-at _ _ _ (sym (c .find-class .ensures) ∙ e) .below)
 
 returns : tie.Need-returns
-unfolding pickIn
 returns c =
-    rw (← c .before .before .before .start-of .ensures)
-    (rw (← c .before .before .count-of .ensures)
-    (rw (c .picked .ensures)
-    (rw (c .before .find-class .ensures))))
+    let a = c .before .before .before .before .before in
+    pick-in (a .args .s .now) (a .args .t) (ClassHolds (a .args .n) (a .args .a)) _ _ _ _ (a .pre .1) (c .before .before .before .start-of .ensures)
+    (c .before .before .count-of .ensures) (c .before .find-class .ensures) (c .picked .ensures)
 
 pub pick-class-spec : {M : Type 1} → statement M
 pick-class-spec =

@@ -4,7 +4,8 @@ use native.Mathlib.Omega.{arith}
 use borrow.Author.Needs.{needs}
 use Rattle.layout.specs.Form.{table-within}
 use Rattle.scan.specs.First.{first-at}
-use Rattle.find.specs.Question.{pickIn}
+use Rattle.find.specs.Question.{pick-in}
+use Rattle.find.specs.declared.Question.the-variants.{Holds}
 use Rattle.find.proofs.pick_holding.Statement.{statement}
 use Rattle.find.proofs.pick_holding.Tie as tie
 
@@ -29,12 +30,10 @@ picked-requires c κs =
     omega (arith, table-within (a .args .s .now) (a .pre .0) (a .args .t) (a .pre .1), first-at _ _ _ (sym (c .find-holding .ensures) ∙ e) .below)
 
 returns : tie.Need-returns
-unfolding pickIn
 returns c =
-    rw (← c .before .before .before .start-of .ensures)
-    (rw (← c .before .before .count-of .ensures)
-    (rw (c .picked .ensures)
-    (rw (c .before .find-holding .ensures))))
+    let a = c .before .before .before .before .before in
+    pick-in (a .args .s .now) (a .args .t) (Holds (a .args .a)) _ _ _ _ (a .pre .1) (c .before .before .before .start-of .ensures)
+    (c .before .before .count-of .ensures) (c .before .find-holding .ensures) (c .picked .ensures)
 
 pub pick-holding-spec : {M : Type 1} → statement M
 pick-holding-spec =

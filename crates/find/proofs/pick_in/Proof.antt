@@ -1,7 +1,8 @@
 -- `find::pick_in` meets its contract: on each way to a return, the tests and what the calls ensure say which case of the definition holds.
-use mathlib.Core.Path.{sym, _∙_}
-use Rattle.scan.specs.First.{first-at}
-use Rattle.find.specs.Question.{pickIn}
+use mathlib.Core.Path.{sym, ap, _∙_}
+use Rattle.table.specs.Table.{at-in}
+use Rattle.find.specs.Question.{pickIn, found-below}
+use Rattle.find.specs.declared.Pick.the-variants.{Picked}
 use borrow.Author.Needs.{needs}
 use Rattle.find.proofs.pick_in.Statement.{statement}
 use Rattle.find.proofs.pick_in.Tie as tie
@@ -14,15 +15,25 @@ enum-known-i c = search needs
 
 record-of-requires : tie.Need-record-of-requires
 record-of-requires c κs =
-    let a = c .before .before .before .before .before in
-    (a .pre .0, a .pre .1, first-at _ _ _ (sym (c .before .before .before .find-in .ensures) ∙ c .before .i .given .1) .below)
+    let a = c .before .before .before .before .before in (
+      a .pre .0,
+      a .pre .1,
+      found-below (a .args .s .now) (a .args .t) (a .args .q) _ (a .pre .1) (sym (c .before .before .before .find-in .ensures) ∙ c .before .i .given .1),
+    )
 
 enum-told : tie.Need-enum-told
 enum-told c = search needs
 
 returns : tie.Need-returns
 unfolding pickIn
-returns c = rw (← c .before .before .before .before .find-in .ensures) (rw (c .before .before .i .given .1) (rw (← c .record-of .ensures)))
+returns c =
+    let a = c .before .before .before .before .before .before in
+    let found = sym (c .before .before .before .before .find-in .ensures) ∙ c .before .before .i .given .1 in
+    rw (← c .before .before .before .before .find-in .ensures)
+    (rw (c .before .before .i .given .1)
+    (ap (Picked (c .before .before .i .given .0 .0))
+    (c .record-of .ensures
+    ∙ sym (at-in (a .args .s .now) (a .args .t) _ (a .pre .1) (found-below (a .args .s .now) (a .args .t) (a .args .q) _ (a .pre .1) found)))))
 
 returns-2 : tie.Need-returns-2
 unfolding pickIn
