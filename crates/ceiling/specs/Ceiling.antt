@@ -134,7 +134,7 @@ ceilingOf r direction ordinary floor l rungs floors =
     (climbed (judgeBy l (situationOf r) (directionOf direction)) (burstOf (edgesRead ordinary) (edgesRead floor) rungs floors)
     (length rungs / 4))
 
--- "rung or none": the number of the case, ours (0 none, 1 a rung), and the rung, 0 where there is none
+-- a rung or none: the number of the case, ours (0 none, 1 a rung), and the rung, 0 where there is none
 abbrev pub rungNumber : Rung → ℕ
 rungNumber (Fastest k) = 1
 rungNumber NoRung = 0
