@@ -7,6 +7,7 @@ use native.Mathlib.Omega.{arith}
 use native.Mathlib.Decide.{decLe}
 use borrow.Author.Tests.{leb-true, ltb-true, ne-eqb, not-false}
 use Rattle.bit_order.specs.Order.{limitBits, bits-lt, bits-le-not, bits-sized}
+use Rattle.figures.specs.Figure.{negativeZeroBits}
 use Rattle.codes.specs.Code.{bitOf}
 use Rattle.layout.specs.Layout.{generalSize, recordSize, bands, segments, privileges, automatic, tables, startOf, countOf, recordOf, recordAt, recordsBefore}
 use Rattle.layout.specs.declared.Record.{Record}
@@ -21,7 +22,7 @@ use Rattle.plain.specs.Plain.{sizedOf, longer, longOf, limitedOf, plainO
 
 sound-plain : (b : ℕ) → b ≤ limitBits → soundBits b ≡ true
 unfolding soundBits
-sound-plain b h = rw (bits-sized b h) (rw (ne-eqb b 0x8000_0000_0000_0000 (λ e. omega arith)))
+sound-plain b h = rw (bits-sized b h) (rw (ne-eqb b negativeZeroBits (λ e. omega arith)))
 
 pub record Parts (t : ℕ) (r : Record) : Type 0 where
   pub low-le : r .low ≤ limitBits
