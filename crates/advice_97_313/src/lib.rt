@@ -16,6 +16,7 @@ ghost use mathlib.Core.Path.{_≡_};
 ghost use mathlib.Core.Bool.{_||_};
 ghost use Rattle.layout.specs.Layout.{countOf, power};
 ghost use Rattle.layout.specs.Form.{Whole};
+ghost use Rattle.table.specs.Table.{tableOf};
 ghost use Rattle.part97.specs.Part97.{exceeds, noted, noteAt, notesUpTo, anyNote, wantsPlan, planSays, guidanceOf, planWarns, adviceOf, adviceWarns, advised};
 
 // Whether a known power is above a limit.
@@ -47,7 +48,7 @@ pub struct Notes {
 
 fn notes_of(s: &[u8], c: Case, r: Range) -> Notes
     requires { ⌜ Whole (now s) ⌝ }
-    ensures { λ x. ⌜ (x .marks ≡ notesUpTo (noteAt (now (s .entry)) c r) (countOf (now (s .entry)) power)) × (x .any ≡ anyNote (noteAt (now (s .entry)) c r) (countOf (now (s .entry)) power)) ⌝ }
+    ensures { λ x. ⌜ (x .marks ≡ notesUpTo (noteAt (tableOf (now (s .entry))) c r) (countOf (now (s .entry)) power)) × (x .any ≡ anyNote (noteAt (tableOf (now (s .entry))) c r) (countOf (now (s .entry)) power)) ⌝ }
 {
     let start = layout::start_of(s, layout::POWER);
     let count = layout::count_of(s, layout::POWER) as usize;
@@ -68,7 +69,7 @@ fn notes_of(s: &[u8], c: Case, r: Range) -> Notes
 // Whether the plan is asked, and there is one.
 fn wants_plan(s: &[u8], c: Case) -> bool
     requires { ⌜ Whole (now s) ⌝ }
-    ensures { λ x. ⌜ x ≡ wantsPlan (now (s .entry)) c ⌝ }
+    ensures { λ x. ⌜ x ≡ wantsPlan (tableOf (now (s .entry))) c ⌝ }
 {
     c.band_plan && table::has_plan(layout::general_of(s))
 }
@@ -76,7 +77,7 @@ fn wants_plan(s: &[u8], c: Case) -> bool
 // What the plan says of a range.
 fn plan_says(s: &[u8], r: Range) -> Guidance
     requires { ⌜ Whole (now s) ⌝ }
-    ensures { λ x. ⌜ x ≡ planSays (now (s .entry)) r ⌝ }
+    ensures { λ x. ⌜ x ≡ planSays (tableOf (now (s .entry))) r ⌝ }
 {
     match find::find_in(s, layout::PLAN_AVOID, Question::Overlaps(r)) {
         Found::At(i) => Guidance::Avoid(i),
@@ -90,7 +91,7 @@ fn plan_says(s: &[u8], r: Range) -> Guidance
 // The voluntary plan, where it is asked.
 fn guidance_of(s: &[u8], c: Case, r: Range) -> Guidance
     requires { ⌜ Whole (now s) ⌝ }
-    ensures { λ x. ⌜ x ≡ guidanceOf (now (s .entry)) c r ⌝ }
+    ensures { λ x. ⌜ x ≡ guidanceOf (tableOf (now (s .entry))) c r ⌝ }
 {
     if wants_plan(s, c) {
         plan_says(s, r)
@@ -119,7 +120,7 @@ fn either(a: bool, b: bool) -> bool
 // A lawful data transmission over a range, with what the operator should know.
 pub fn advise(s: &[u8], c: Case, r: Range, draft: Draft, code: Code, rule: u16) -> Decision
     requires { ⌜ Whole (now s) ⌝ }
-    ensures { λ x. ⌜ x ≡ advised (now (s .entry)) c r draft code rule ⌝ }
+    ensures { λ x. ⌜ x ≡ advised (tableOf (now (s .entry))) c r draft code rule ⌝ }
 {
     let n = notes_of(s, c, r);
     let marks = n.marks;

@@ -1,4 +1,4 @@
-// Data from an automatically controlled station (97.221). It uses air, layout, table, find, decision, part97, findings
+// Data from an automatically controlled station (97.221). It uses layout, table, find, decision, part97, findings
 // and automatic_97_221.
 use codes::Direction;
 use decision::Code;
@@ -12,8 +12,8 @@ use table::ElsewhereRule;
 ghost use mathlib.Core.Path.{_≡_};
 ghost use mathlib.Core.Bool.{_&&_, not};
 ghost use Rattle.layout.specs.Form.{Whole};
+ghost use Rattle.table.specs.Table.{tableOf};
 ghost use Rattle.automatic_97_221.specs.Automatic.{responds};
-ghost use Rattle.air.specs.Air.{unguardedOf};
 ghost use Rattle.part97.specs.Part97.{draftInside, automaticElsewhere, automaticData};
 ghost use Rattle.part97.specs.Finding.{lawfulIn, concluded};
 
@@ -34,11 +34,10 @@ fn lawful(
     code: Code,
     rule: u16,
 ) -> Finding
-    ensures { λ x. ⌜ x ≡ lawfulIn band segment own inside (unguardedOf (c .«margin_hz») (c .guarded)) code rule ⌝ }
+    ensures { λ x. ⌜ x ≡ lawfulIn band segment own inside (c .advised) code rule ⌝ }
 {
-    let guarded = c.guarded;
-    let r = air::unguarded(c.margin_hz, guarded);
-    findings::lawful_in(band, segment, own, inside, r, code, rule)
+    let advised = c.advised;
+    findings::lawful_in(band, segment, own, inside, advised, code, rule)
 }
 
 // Outside the segments for automatic control (97.221(c)).
@@ -51,7 +50,7 @@ fn automatic_elsewhere(
     rule: ElsewhereRule,
 ) -> Finding
     requires { ⌜ Whole (now s) ⌝ }
-    ensures { λ x. ⌜ concluded (now (s .entry)) c x ≡ automaticElsewhere (now (s .entry)) c (draftInside c band segment own) rule ⌝ }
+    ensures { λ x. ⌜ concluded (tableOf (now (s .entry))) c x ≡ automaticElsewhere (tableOf (now (s .entry))) c (draftInside c band segment own) rule ⌝ }
 {
     let direction = c.direction;
     match rule {
@@ -82,7 +81,7 @@ fn automatic_elsewhere(
 // Inside a segment for automatic control (97.221(b)), or else by (c).
 pub fn automatic_data(s: &[u8], c: Case, band: u8, segment: Range, rule: u16) -> Finding
     requires { ⌜ Whole (now s) ⌝ }
-    ensures { λ x. ⌜ concluded (now (s .entry)) c x ≡ automaticData (now (s .entry)) c band segment rule ⌝ }
+    ensures { λ x. ⌜ concluded (tableOf (now (s .entry))) c x ≡ automaticData (tableOf (now (s .entry))) c band segment rule ⌝ }
 {
     let guarded = c.guarded;
     let g = layout::general_of(s);

@@ -1,8 +1,8 @@
 -- Whether a finding blocks, and that the decision from it then does.
 use Prim.Native.Nat.{ℕ}
 use mathlib.Core.Bool.{Bool, true, false}
-use mathlib.Core.List.{List}
 use mathlib.Core.Path.{_≡_, refl, sym, ap, _∙_}
+use Rattle.table.specs.Table.{Table}
 use Rattle.decision.specs.Decision.{isBlocked, finishOf, simpleOf}
 use Rattle.decision.specs.declared.Verdict.{Verdict}
 use Rattle.decision.specs.declared.Verdict.the-variants.{Blocked}
@@ -30,7 +30,7 @@ warned-free : (b : Bool) → isBlocked (warned b) ≡ false
 warned-free true = refl
 warned-free false = refl
 
-module _ (table : List ℕ) (c : Case) (f : Finding) where
+module _ (table : Table) (c : Case) (f : Finding) where
   over : (o : MaybeRange) → isBlocked (concludedOver table c f o .verdict) ≡ blockedOver (f .verdict) o
   unfolding concludedOver advised finishOf
   over (Is r) = warned-free (adviceWarns table c r)

@@ -15,6 +15,7 @@ use station::Figure;
 use station::Situation;
 ghost use mathlib.Core.Path.{_≡_};
 ghost use Rattle.layout.specs.Form.{Whole};
+ghost use Rattle.table.specs.Table.{tableOf};
 ghost use Rattle.decision.specs.Decision.{isBlocked};
 ghost use Rattle.verdict.specs.Verdict.{underRulesOf, decideOf};
 ghost use Rattle.barred.specs.Barred.{blockedOver};
@@ -51,7 +52,7 @@ fn barred_by_rules(
     audio: Range,
 ) -> bool
     requires { ⌜ Whole (now image) ⌝ }
-    ensures { λ x. ⌜ x ≡ isBlocked (underRulesOf (now (image .entry)) s dial kind direction audio .verdict) ⌝ }
+    ensures { λ x. ⌜ x ≡ isBlocked (underRulesOf (tableOf (now (image .entry))) s dial kind direction audio .verdict) ⌝ }
 {
     let g = layout::general_of(image);
     if s.itu_region != g.region {
@@ -87,7 +88,7 @@ pub fn barred(
     e: Edges,
 ) -> bool
     requires { ⌜ (policy ≡ Policy.Rules → Whole (now image)) ⌝ }
-    ensures { λ x. ⌜ x ≡ isBlocked (decideOf (now (image .entry)) s policy dial kind direction e .verdict) ⌝ }
+    ensures { λ x. ⌜ x ≡ isBlocked (decideOf (tableOf (now (image .entry))) s policy dial kind direction e .verdict) ⌝ }
 {
     match policy {
         Policy::Unset => true,

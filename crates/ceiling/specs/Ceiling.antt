@@ -79,7 +79,7 @@ unfoldable pub judgedOf : Climb → ℕ → Edges → Decision → Climb
 judgedOf c k e d = cond (isBlocked (d .verdict)) (endedOf (c .rung) e d) (wentOn k e)
 
 -- how an envelope is judged: as data, by the verdict's own definition
-unfoldable pub judgeBy : List ℕ → Situation → Direction → Edges → Decision
+unfoldable pub judgeBy : Table → Situation → Direction → Edges → Decision
 judgeBy table s direction e = decideOf table s (s .policy) (s .dial) Data direction e
 
 -- rung k judged, with what it adds to the envelope

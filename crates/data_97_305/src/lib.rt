@@ -16,6 +16,7 @@ use table::Segment;
 ghost use mathlib.Core.Path.{_≡_};
 ghost use Rattle.layout.specs.Layout.{segments};
 ghost use Rattle.layout.specs.Form.{Whole};
+ghost use Rattle.table.specs.Table.{tableOf};
 ghost use Rattle.find.specs.Question.{firstIn};
 ghost use Rattle.find.specs.declared.Question.the-variants.{Holds};
 ghost use Rattle.decision.specs.declared.BandNumber.the-variants.{Band};
@@ -27,7 +28,7 @@ ghost use Rattle.part97.specs.Finding.{onBand, concluded};
 // No data segment holds the guarded signal: the nearest one says how far it lies outside.
 fn outside_segments(s: &[u8], c: Case, band: u8) -> Finding
     requires { ⌜ Whole (now s) ⌝ }
-    ensures { λ x. ⌜ concluded (now (s .entry)) c x ≡ outsideSegments (now (s .entry)) c band ⌝ }
+    ensures { λ x. ⌜ concluded (tableOf (now (s .entry))) c x ≡ outsideSegments (tableOf (now (s .entry))) c band ⌝ }
 {
     let air = c.air;
     match overshoot_97_305::nearest_segment(s, c) {
@@ -51,7 +52,7 @@ fn outside_segments(s: &[u8], c: Case, band: u8) -> Finding
 // Inside a data segment: the operator's privileges, then automatic control.
 fn inside_segment(s: &[u8], c: Case, band: u8, segment: Segment) -> Finding
     requires { ⌜ Whole (now s) ⌝ }
-    ensures { λ x. ⌜ concluded (now (s .entry)) c x ≡ insideSegment (now (s .entry)) c band segment ⌝ }
+    ensures { λ x. ⌜ concluded (tableOf (now (s .entry))) c x ≡ insideSegment (tableOf (now (s .entry))) c band segment ⌝ }
 {
     let range = segment.range;
     let air = c.air;
@@ -106,7 +107,7 @@ fn too_wide(band: u8, limit: DataLimit) -> Finding
 // By the first data segment that holds the guarded range; too wide comes before "no segment".
 pub fn judge_data(s: &[u8], c: Case, band: u8) -> Finding
     requires { ⌜ Whole (now s) ⌝ }
-    ensures { λ x. ⌜ concluded (now (s .entry)) c x ≡ judgeData (now (s .entry)) c band (firstIn (now (s .entry)) segments (Holds (c .guarded))) ⌝ }
+    ensures { λ x. ⌜ concluded (tableOf (now (s .entry))) c x ≡ judgeData (tableOf (now (s .entry))) c band (firstIn (tableOf (now (s .entry))) segments (Holds (c .guarded))) ⌝ }
 {
     let guarded = c.guarded;
     let general = table::data_of(layout::general_of(s));

@@ -1,11 +1,11 @@
 -- The way a band is judged: closed to the station, on 60 m, or off it; each asked once.
 use Prim.Native.Nat.{ℕ}
 use mathlib.Core.Bool.{Bool, true, false, cond}
-use mathlib.Core.List.{List}
 use mathlib.Core.Path.{_≡_, refl}
 use lib.Dec.{eqb}
-use Rattle.layout.specs.Layout.{excluded, generalOf, recordOf}
+use Rattle.layout.specs.Layout.{excluded}
 use Rattle.table.specs.Parts.{excludedOf, channelsOf}
+use Rattle.table.specs.Table.{Table}
 use Rattle.table.specs.declared.ChannelBand.{ChannelBand}
 use Rattle.table.specs.declared.ChannelBand.the-variants.{On, NoChannels}
 use Rattle.scan.specs.First.{onFound}
@@ -31,11 +31,11 @@ sixtyHere band (On ch) = cond (eqb (ch .band) band) (Here ch) Elsewhere
 sixtyHere band NoChannels = Elsewhere
 
 -- an excluded band, for a station to which 97.221 applies
-unfoldable pub closedBy : List ℕ → Case → ℕ → Closed
+unfoldable pub closedBy : Table → Case → ℕ → Closed
 closedBy table c band =
-    cond (c .automatic) (onFound (firstIn table excluded (OfBand band)) (λ x. By (excludedOf (recordOf table excluded x) .rule)) Open) Open
+    cond (c .automatic) (onFound (firstIn table excluded (OfBand band)) (λ x. By (excludedOf (table .at excluded x) .rule)) Open) Open
 
-module _ (table : List ℕ) (c : Case) (band : ℕ) where
+module _ (table : Table) (c : Case) (band : ℕ) where
   -- judging goes on by what the band is
   abbrev pub onBandBy : Sixty → Decision
   onBandBy (Here ch) = sixty table c ch
@@ -53,15 +53,15 @@ module _ (table : List ℕ) (c : Case) (band : ℕ) where
   -- and by whether it is closed
   abbrev pub inBandBy : Closed → Decision
   inBandBy (By rule) = simpleOf (draftOf c (Band band)) Blocked AutomaticExcluded rule
-  inBandBy Open = judgeOnBand table c band (channelsOf (generalOf table))
+  inBandBy Open = judgeOnBand table c band (channelsOf (table .general))
 
   pub in-band-by : judgeInBand table c band ≡ inBandBy (closedBy table c band)
   unfolding judgeInBand closedBy
   in-band-by = go (c .automatic) (firstIn table excluded (OfBand band))
     where
       go : (b : Bool) (f : Found)
-          → cond b (onFound f (λ x. inBandBy (By (excludedOf (recordOf table excluded x) .rule))) (inBandBy Open)) (inBandBy Open)
-          ≡ inBandBy (cond b (onFound f (λ x. By (excludedOf (recordOf table excluded x) .rule)) Open) Open)
+          → cond b (onFound f (λ x. inBandBy (By (excludedOf (table .at excluded x) .rule))) (inBandBy Open)) (inBandBy Open)
+          ≡ inBandBy (cond b (onFound f (λ x. By (excludedOf (table .at excluded x) .rule)) Open) Open)
       go true (At x) = refl
       go true Nothing = refl
       go false f = refl

@@ -18,6 +18,7 @@ use table::ChannelBand;
 use table::Channels;
 ghost use mathlib.Core.Path.{_≡_};
 ghost use Rattle.layout.specs.Form.{Whole};
+ghost use Rattle.table.specs.Table.{tableOf};
 ghost use Rattle.part97.specs.Part97.{offSixty, judgeOnBand, judgeInBand, touching, judge};
 ghost use Rattle.part97.specs.Finding.{draftAt, concluded};
 ghost use Rattle.judge.specs.Way.{sixtyHere, closedBy};
@@ -25,7 +26,7 @@ ghost use Rattle.judge.specs.Way.{sixtyHere, closedBy};
 // By the kind of emission, off 60 m.
 fn off_sixty(s: &[u8], c: Case, band: u8, kind: EmissionKind) -> Finding
     requires { ⌜ Whole (now s) ⌝ }
-    ensures { λ x. ⌜ concluded (now (s .entry)) c x ≡ offSixty (now (s .entry)) c band kind ⌝ }
+    ensures { λ x. ⌜ concluded (tableOf (now (s .entry))) c x ≡ offSixty (tableOf (now (s .entry))) c band kind ⌝ }
 {
     match kind {
         EmissionKind::Data => data_97_305::judge_data(s, c, band),
@@ -65,7 +66,7 @@ fn sixty_here(band: u8, channels: ChannelBand) -> Sixty
 // On 60 m, or off it.
 fn judge_on_band(s: &[u8], c: Case, band: u8, channels: ChannelBand) -> Finding
     requires { ⌜ Whole (now s) ⌝ }
-    ensures { λ x. ⌜ concluded (now (s .entry)) c x ≡ judgeOnBand (now (s .entry)) c band channels ⌝ }
+    ensures { λ x. ⌜ concluded (tableOf (now (s .entry))) c x ≡ judgeOnBand (tableOf (now (s .entry))) c band channels ⌝ }
 {
     let kind = c.kind;
     match sixty_here(band, channels) {
@@ -77,7 +78,7 @@ fn judge_on_band(s: &[u8], c: Case, band: u8, channels: ChannelBand) -> Finding
 // A band closed to automatic control, for a station to which 97.221 applies.
 fn closed_by(s: &[u8], c: Case, band: u8) -> Closed
     requires { ⌜ Whole (now s) ⌝ }
-    ensures { λ x. ⌜ x ≡ closedBy (now (s .entry)) c band ⌝ }
+    ensures { λ x. ⌜ x ≡ closedBy (tableOf (now (s .entry))) c band ⌝ }
 {
     if c.automatic {
         match find::pick_in(s, layout::EXCLUDED, Question::OfBand(band)) {
@@ -95,7 +96,7 @@ fn closed_by(s: &[u8], c: Case, band: u8) -> Closed
 // A band that is not closed to the station is judged.
 fn judge_in_band(s: &[u8], c: Case, band: u8) -> Finding
     requires { ⌜ Whole (now s) ⌝ }
-    ensures { λ x. ⌜ concluded (now (s .entry)) c x ≡ judgeInBand (now (s .entry)) c band ⌝ }
+    ensures { λ x. ⌜ concluded (tableOf (now (s .entry))) c x ≡ judgeInBand (tableOf (now (s .entry))) c band ⌝ }
 {
     let channels = table::channels_of(layout::general_of(s));
     match closed_by(s, c, band) {
@@ -112,7 +113,7 @@ fn judge_in_band(s: &[u8], c: Case, band: u8) -> Finding
 // The first band that the guarded range touches.
 fn touching_band(s: &[u8], c: Case) -> BandNumber
     requires { ⌜ Whole (now s) ⌝ }
-    ensures { λ x. ⌜ x ≡ touching (now (s .entry)) c ⌝ }
+    ensures { λ x. ⌜ x ≡ touching (tableOf (now (s .entry))) c ⌝ }
 {
     let guarded = c.guarded;
     match find::pick_in(s, layout::BANDS, Question::Overlaps(guarded)) {
@@ -124,7 +125,7 @@ fn touching_band(s: &[u8], c: Case) -> BandNumber
 // By the first band that holds the guarded range.
 pub fn judge_case(s: &[u8], c: Case) -> Finding
     requires { ⌜ Whole (now s) ⌝ }
-    ensures { λ x. ⌜ concluded (now (s .entry)) c x ≡ judge (now (s .entry)) c ⌝ }
+    ensures { λ x. ⌜ concluded (tableOf (now (s .entry))) c x ≡ judge (tableOf (now (s .entry))) c ⌝ }
 {
     let guarded = c.guarded;
     match find::pick_holding(s, layout::BANDS, guarded) {
@@ -160,7 +161,7 @@ fn draft_at(c: Case, f: Finding) -> Draft
 // The decision, with what the operator should know.
 pub fn conclude(s: &[u8], c: Case, f: Finding) -> Decision
     requires { ⌜ Whole (now s) ⌝ }
-    ensures { λ x. ⌜ x ≡ concluded (now (s .entry)) c f ⌝ }
+    ensures { λ x. ⌜ x ≡ concluded (tableOf (now (s .entry))) c f ⌝ }
 {
     let draft = draft_at(c, f);
     let code = f.code;

@@ -10,6 +10,7 @@ use part97::Privileged;
 use profile::Range;
 ghost use mathlib.Core.Path.{_≡_};
 ghost use Rattle.layout.specs.Form.{Whole};
+ghost use Rattle.table.specs.Table.{tableOf};
 ghost use Rattle.part97.specs.Part97.{otherRule, emitted, keyed};
 ghost use Rattle.part97.specs.Finding.{concluded};
 
@@ -27,7 +28,7 @@ fn other_rule(kind: EmissionKind) -> u16
 // An emission that is allowed wherever the operator's privileges allow it.
 pub fn judge_emitted(s: &[u8], c: Case, band: u8, kind: EmissionKind) -> Finding
     requires { ⌜ Whole (now s) ⌝ }
-    ensures { λ x. ⌜ concluded (now (s .entry)) c x ≡ emitted (now (s .entry)) c band kind ⌝ }
+    ensures { λ x. ⌜ concluded (tableOf (now (s .entry))) c x ≡ emitted (tableOf (now (s .entry))) c band kind ⌝ }
 {
     let place = BandNumber::Band(band);
     match privileges_97_301::privileged(s, c, kind) {
@@ -56,7 +57,7 @@ pub fn judge_emitted(s: &[u8], c: Case, band: u8, kind: EmissionKind) -> Finding
 // Keyed with no audio: some privilege holds the dial.
 pub fn judge_keyed(s: &[u8], c: Case, band: u8) -> Finding
     requires { ⌜ Whole (now s) ⌝ }
-    ensures { λ x. ⌜ concluded (now (s .entry)) c x ≡ keyed (now (s .entry)) c band ⌝ }
+    ensures { λ x. ⌜ concluded (tableOf (now (s .entry))) c x ≡ keyed (tableOf (now (s .entry))) c band ⌝ }
 {
     let place = BandNumber::Band(band);
     let dial = Range {

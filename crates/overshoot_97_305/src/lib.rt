@@ -8,6 +8,7 @@ use profile::Range;
 ghost use mathlib.Core.Path.{_≡_};
 ghost use Rattle.layout.specs.Layout.{countOf, segments};
 ghost use Rattle.layout.specs.Form.{Whole};
+ghost use Rattle.table.specs.Table.{tableOf};
 ghost use Rattle.part97.specs.Part97.{below, above, reach, overshootBy, overshootOf, nearerBy, considered, nearestUpTo};
 
 // How far a signal reaches below a segment, and above it.
@@ -83,7 +84,7 @@ fn consider(c: Case, best: Nearest, i: usize, segment: Range) -> Nearest
 // Among the segments that overlap the guarded range the one with the least overshoot, the first at a tie.
 pub fn nearest_segment(s: &[u8], c: Case) -> Nearest
     requires { ⌜ Whole (now s) ⌝ }
-    ensures { λ x. ⌜ x ≡ nearestUpTo (now (s .entry)) c (countOf (now (s .entry)) segments) ⌝ }
+    ensures { λ x. ⌜ x ≡ nearestUpTo (tableOf (now (s .entry))) c (countOf (now (s .entry)) segments) ⌝ }
 {
     let start = layout::start_of(s, layout::SEGMENTS);
     let count = layout::count_of(s, layout::SEGMENTS) as usize;

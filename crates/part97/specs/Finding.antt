@@ -2,9 +2,9 @@
 -- than whether it blocks.
 use Prim.Native.Nat.{ℕ}
 use mathlib.Core.Bool.{Bool}
-use mathlib.Core.List.{List}
 use mathlib.Core.Path.{_≡_, refl}
 use Rattle.profile.specs.declared.Range.{Range}
+use Rattle.table.specs.Table.{Table}
 use Rattle.decision.specs.Decision.{noNotes, noMarks, noAdvice, finishOf, simpleOf}
 use Rattle.decision.specs.declared.Verdict.{Verdict}
 use Rattle.decision.specs.declared.Verdict.the-variants.{Legal, Blocked}
@@ -119,16 +119,16 @@ draftAt c f =
 abbrev pub markedOf : SixtyNotes → Advice
 markedOf sixty = record { guidance = NoGuidance; notes = noNotes; sixty = sixty }
 
-unfoldable pub concludedOver : List ℕ → Case → Finding → MaybeRange → Decision
+unfoldable pub concludedOver : Table → Case → Finding → MaybeRange → Decision
 concludedOver table c f (Is r) = advised table c r (draftAt c f) (f .code) (f .rule)
 concludedOver table c f NoRange = finishOf (draftAt c f) (f .verdict) (f .code) (f .rule) (f .overshoot) (markedOf (f .sixty))
 
-unfoldable pub concluded : List ℕ → Case → Finding → Decision
+unfoldable pub concluded : Table → Case → Finding → Decision
 concluded table c f = concludedOver table c f (f .over)
 
 -- ---- each finding, concluded
 
-module _ (table : List ℕ) (c : Case) where
+module _ (table : Table) (c : Case) where
   pub on-band : (band : BandNumber) (verdict : Verdict) (code : Code) (rule : ℕ) → concluded table c (onBand band verdict code rule) ≡ simpleOf (draftOf c band) verdict code rule
   unfolding concluded concludedOver draftAt onBand draftOf simpleOf noAdvice
   on-band band verdict code rule = refl

@@ -1,7 +1,6 @@
 -- Laws of the definitions in Part97 that go by the first n records: one record more, and where the nearest segment stands.
 use Prim.Native.Nat.{ℕ, zero, suc, _+_, _<_}
 use mathlib.Core.Bool.{Bool, true, false, cond, _||_}
-use mathlib.Core.List.{List}
 use mathlib.Core.Path.{_≡_, sym, ap, _∙_}
 use native.Mathlib.Numerals.{add-one}
 use native.Mathlib.Omega.{arith}
@@ -14,6 +13,7 @@ use Rattle.profile.specs.declared.DataLimit.{DataLimit}
 use Rattle.scan.specs.First.{onFound, cond-yes, cond-not}
 use Rattle.scan.specs.declared.Found.{Found}
 use Rattle.scan.specs.declared.Found.the-variants.{At, Nothing}
+use Rattle.table.specs.Table.{Table}
 use Rattle.table.specs.declared.Segment.{Segment}
 use Rattle.part97.specs.declared.Case.{Case}
 use Rattle.part97.specs.declared.Nearest.{Nearest}
@@ -28,7 +28,7 @@ pub any-more : (note : ℕ → Bool) (n : ℕ) → anyNote note (n + 1) ≡ (not
 unfolding anyNote
 any-more note n = rw add-one
 
-pub nearest-more : (table : List ℕ) (c : Case) (n : ℕ) → nearestUpTo table c (n + 1) ≡ considered c (nearestUpTo table c n) n (segmentAt table n .range)
+pub nearest-more : (table : Table) (c : Case) (n : ℕ) → nearestUpTo table c (n + 1) ≡ considered c (nearestUpTo table c n) n (segmentAt table n .range)
 unfolding nearestUpTo
 nearest-more table c n = rw add-one
 
@@ -53,14 +53,14 @@ considered-below c best n segment lower i by e = go (overlapsOf segment (c .guar
         pick true q' = let h : n ≡ i = near-inj q' in omega arith
         pick false q' = let h = low i by q' in omega arith
 
-pub nearest-below : (table : List ℕ) (c : Case) (n i : ℕ) (by : Float) → nearestUpTo table c n ≡ Near i by → i < n
+pub nearest-below : (table : Table) (c : Case) (n i : ℕ) (by : Float) → nearestUpTo table c n ≡ Near i by → i < n
 unfolding nearestUpTo
 nearest-below table c zero i by e = absurd (let z : _≡_ {A = ℕ} 0 1 = cc in omega arith)
 nearest-below table c (suc n) i by e =
     considered-below c (nearestUpTo table c n) n (segmentAt table n .range) (nearest-below table c n) i by e
 
 -- the answer to data, by what is found: too wide, inside a segment, outside them all
-module _ (table : List ℕ) (c : Case) (band : ℕ) (found : Found) where
+module _ (table : Table) (c : Case) (band : ℕ) (found : Found) where
   pub judge-wide :
       (limit : DataLimit) → limit ≡ limitFor table found → lt (limit .«max_bandwidth_hz») (c .width) ≡ true
       → tooWide c band limit ≡ judgeData table c band found

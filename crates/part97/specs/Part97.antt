@@ -18,14 +18,15 @@ use Rattle.profile.specs.Range.{range, holdsOf, overlapsOf, channelRangeOf}
 use Rattle.profile.specs.Limit.{dataLimitOf, allowsOf, meantOf}
 use Rattle.profile.specs.declared.Range.{Range}
 use Rattle.profile.specs.declared.DataLimit.{DataLimit}
-use Rattle.air.specs.Air.{unguardedOf, wider}
+use Rattle.air.specs.Air.{wider}
 use Rattle.scan.specs.First.{some, isAt, onFound}
 use Rattle.scan.specs.declared.Found.{Found}
 use Rattle.scan.specs.declared.Found.the-variants.{At, Nothing}
 use Rattle.station.specs.declared.Figure.{Figure}
 use Rattle.station.specs.declared.Figure.the-variants.{Known, Absent}
-use Rattle.layout.specs.Layout.{bands, segments, channels, privileges, automatic, excluded, power, planData, planAvoid, generalOf, countOf, recordOf}
+use Rattle.layout.specs.Layout.{bands, segments, channels, privileges, automatic, excluded, power, planData, planAvoid}
 use Rattle.layout.specs.declared.General.{General}
+use Rattle.table.specs.Table.{Table}
 use Rattle.table.specs.Parts.{spanOf, bandOf, segmentOf, centreOf, privilegeOf, excludedOf, powerOf, dataOf, elsewhereOf, channelsOf, sixtyOf, hasPlan}
 use Rattle.table.specs.declared.Band.{Band as BandRecord}
 use Rattle.table.specs.declared.Segment.{Segment as SegmentRecord}
@@ -73,7 +74,7 @@ use Rattle.part97.specs.declared.Privileged.the-variants.{Granted, Forbi
 -- ---- how to read the rules
 --
 -- A definition is a line with `:`, which says what it is asked about and, last, what it answers, and below it the answer. `f a b` is f
--- asked about a and b. `table` is an accepted table image. `c` is the case, station and signal: `c .air` is the signal's range on the
+-- asked about a and b. `table` is an accepted table: `table .general` is its general block, `table .at bands i` its band i. `c` is the case, station and signal: `c .air` is the signal's range on the
 -- air, `c .guarded` that range with the margin on either side.
 --
 -- - Tests: `lt a b` is a < b, `le a b` is a ≤ b, `wider a b` is a > b; `&&` is and, `||` is or. `cond t a b` is a where the test t
@@ -86,21 +87,21 @@ use Rattle.part97.specs.declared.Privileged.the-variants.{Granted, Forbi
 
 -- ---- what the table says, record by record
 
-abbrev pub bandAt : List ℕ → ℕ → BandRecord
-bandAt table i = bandOf (recordOf table bands i)
+abbrev pub bandAt : Table → ℕ → BandRecord
+bandAt table i = bandOf (table .at bands i)
 
-abbrev pub segmentAt : List ℕ → ℕ → SegmentRecord
-segmentAt table i = segmentOf (recordOf table segments i)
+abbrev pub segmentAt : Table → ℕ → SegmentRecord
+segmentAt table i = segmentOf (table .at segments i)
 
-abbrev pub privilegeAt : List ℕ → ℕ → PrivilegeRecord
-privilegeAt table i = privilegeOf (recordOf table privileges i)
+abbrev pub privilegeAt : Table → ℕ → PrivilegeRecord
+privilegeAt table i = privilegeOf (table .at privileges i)
 
-abbrev pub powerAt : List ℕ → ℕ → PowerLimit
-powerAt table i = powerOf (recordOf table power i)
+abbrev pub powerAt : Table → ℕ → PowerLimit
+powerAt table i = powerOf (table .at power i)
 
 -- the general limit on the width of data
-abbrev pub generalLimit : List ℕ → DataLimit
-generalLimit table = dataOf (generalOf table)
+abbrev pub generalLimit : Table → DataLimit
+generalLimit table = dataOf (table .general)
 
 -- ---- a decision's facts, as they become known
 
@@ -145,7 +146,7 @@ draftAutomatic c band segment rule inside =
 -- what the first privilege of the operator's class that holds the guarded range says of an emission: it allows it, or forbids it
 -- (97.307(f)(9)), or there is none (97.301); a later privilege rescues nothing. It is asked for data, CW and test, never for
 -- keying alone.
-unfoldable pub privilegedOf : List ℕ → Case → EmissionKind → Privileged
+unfoldable pub privilegedOf : Table → Case → EmissionKind → Privileged
 privilegedOf table c kind =
     onFound (firstIn table privileges (ClassHolds (classCode (c .class)) (c .guarded)))
     (λ p. cond (allowsOf (privilegeAt table p .emissions) kind) Granted Forbidden)
@@ -158,7 +159,7 @@ underPrivilege Forbidden draft next = simpleOf draft Blocked Privilege §97-307f
 underPrivilege Unheld draft next = simpleOf draft Blocked Privilege §97-301
 
 -- some privilege of the operator's class holds a range, whatever emissions it allows
-abbrev pub somePrivilege : List ℕ → Case → Range → Bool
+abbrev pub somePrivilege : Table → Case → Range → Bool
 somePrivilege table c r = someIn table privileges (ClassHolds (classCode (c .class)) r)
 
 -- ---- 97.313 and the band plan: what an operator is told of a lawful data transmission over a range
@@ -171,7 +172,7 @@ exceeds Absent most = false
 unfoldable pub noted : Case → Range → PowerLimit → Bool
 noted c r limit = overlapsOf (limit .range) r && (meantOf (limit .classes) (c .class) && exceeds (c .power) (limit .«max_w»))
 
-abbrev pub noteAt : List ℕ → Case → Range → ℕ → Bool
+abbrev pub noteAt : Table → Case → Range → ℕ → Bool
 noteAt table c r i = noted c r (powerAt table i)
 
 -- a mark for each of the first n power records that has a note, and whether one has
@@ -184,14 +185,14 @@ anyNote note zero = false
 anyNote note (suc n) = note n || anyNote note n
 
 -- the voluntary plan: an area to stay out of that the range touches, else an area for data that holds it, else outside
-unfoldable pub planSays : List ℕ → Range → Guidance
+unfoldable pub planSays : Table → Range → Guidance
 planSays table r = onFound (firstIn table planAvoid (Overlaps r)) Avoid (onFound (firstIn table planData (Holds r)) Inside Outside)
 
 -- it is asked where the station says so and the table has a plan
-unfoldable pub wantsPlan : List ℕ → Case → Bool
-wantsPlan table c = c .«band_plan» && hasPlan (generalOf table)
+unfoldable pub wantsPlan : Table → Case → Bool
+wantsPlan table c = c .«band_plan» && hasPlan (table .general)
 
-unfoldable pub guidanceOf : List ℕ → Case → Range → Guidance
+unfoldable pub guidanceOf : Table → Case → Range → Guidance
 guidanceOf table c r = cond (wantsPlan table c) (planSays table r) NoGuidance
 
 -- whether the plan calls for a warning; inside an area for data it calls for none, and takes none away that the power limits give
@@ -204,30 +205,30 @@ planWarns NoGuidance = false
 abbrev pub warned : Bool → Verdict
 warned b = cond b Warning Legal
 
-unfoldable pub adviceOf : List ℕ → Case → Range → Advice
+unfoldable pub adviceOf : Table → Case → Range → Advice
 adviceOf table c r =
-    record { guidance = guidanceOf table c r; notes = notesUpTo (noteAt table c r) (countOf table power); sixty = noMarks }
+    record { guidance = guidanceOf table c r; notes = notesUpTo (noteAt table c r) (table .count power); sixty = noMarks }
 
-unfoldable pub adviceWarns : List ℕ → Case → Range → Bool
-adviceWarns table c r = anyNote (noteAt table c r) (countOf table power) || planWarns (guidanceOf table c r)
+unfoldable pub adviceWarns : Table → Case → Range → Bool
+adviceWarns table c r = anyNote (noteAt table c r) (table .count power) || planWarns (guidanceOf table c r)
 
 -- lawful, with what the operator should know
-unfoldable pub advised : List ℕ → Case → Range → Draft → Code → ℕ → Decision
+unfoldable pub advised : Table → Case → Range → Draft → Code → ℕ → Decision
 advised table c r draft code rule = finishOf draft (warned (adviceWarns table c r)) code rule NoOvershoot (adviceOf table c r)
 
 -- ---- 97.221: automatically controlled digital stations
 
 -- the rule that the automatic segments stand under
-abbrev pub automaticRule : List ℕ → ℕ
-automaticRule table = generalOf table .«automatic_rule»
+abbrev pub automaticRule : Table → ℕ
+automaticRule table = table .general .«automatic_rule»
 
--- the range that an automatic station's advice goes by: the margin taken off the guarded range again
-abbrev pub advisedAutomatic : List ℕ → Case → Draft → Code → ℕ → Decision
-advisedAutomatic table c draft code rule = advised table c (unguardedOf (c .«margin_hz») (c .guarded)) draft code rule
+-- an automatic station's advice goes by the guarded range with the margin taken off again
+abbrev pub advisedAutomatic : Table → Case → Draft → Code → ℕ → Decision
+advisedAutomatic table c draft code rule = advised table c (c .advised) draft code rule
 
 -- 97.221(c), outside the segments of 97.221(b): only where the table allows it at all, no wider than its limit, and, where it
 -- requires a response, only answering interrogation
-unfoldable pub automaticElsewhere : List ℕ → Case → Draft → ElsewhereRule → Decision
+unfoldable pub automaticElsewhere : Table → Case → Draft → ElsewhereRule → Decision
 automaticElsewhere table c draft (Under e) =
     cond (wider (c .width) (e .«max_bandwidth_hz»)) (simpleOf draft Blocked AutomaticBandwidth (e .rule))
     (cond (e .«requires_response» && not (responds (c .direction))) (simpleOf draft Blocked AutomaticOriginate (e .rule))
@@ -235,13 +236,13 @@ automaticElsewhere table c draft (Under e) =
 automaticElsewhere table c draft Nowhere = simpleOf draft Blocked AutomaticOutside (automaticRule table)
 
 -- 97.221(b): inside a segment for automatic control, or else by (c)
-unfoldable pub automaticData : List ℕ → Case → ℕ → Range → ℕ → Decision
+unfoldable pub automaticData : Table → Case → ℕ → Range → ℕ → Decision
 automaticData table c band segment rule =
     onFound (firstIn table automatic (Holds (c .guarded)))
     (λ a.
-    advisedAutomatic table c (draftAutomatic c band segment rule (spanOf (recordOf table automatic a))) AutomaticSegment
+    advisedAutomatic table c (draftAutomatic c band segment rule (spanOf (table .at automatic a))) AutomaticSegment
     (automaticRule table))
-    (automaticElsewhere table c (draftInside c band segment rule) (elsewhereOf (generalOf table)))
+    (automaticElsewhere table c (draftInside c band segment rule) (elsewhereOf (table .general)))
 
 -- ---- 97.305(c), 97.307(b), (f): data off 60 m
 
@@ -265,7 +266,7 @@ unfoldable pub considered : Case → Nearest → ℕ → Range → Nearest
 considered c best i segment = cond (overlapsOf segment (c .guarded)) (nearerBy best i (reach segment (c .air))) best
 
 -- "among segments overlapping the guarded range take the least overshoot (unguarded), first at a tie": of the first n
-unfoldable pub nearestUpTo : List ℕ → Case → ℕ → Nearest
+unfoldable pub nearestUpTo : Table → Case → ℕ → Nearest
 nearestUpTo table c zero = NoneNear
 nearestUpTo table c (suc n) = considered c (nearestUpTo table c n) n (segmentAt table n .range)
 
@@ -283,23 +284,23 @@ overshootOf segment air =
     cond (le (below segment air) (above segment air)) (overshootBy (above segment air) Upper) (overshootBy (below segment air) Lower)
 
 -- 97.305(c): no data segment holds the guarded signal; the nearest one says how far it lies outside
-unfoldable pub outsideSegments : List ℕ → Case → ℕ → Decision
+unfoldable pub outsideSegments : Table → Case → ℕ → Decision
 outsideSegments table c band =
-    onNearest (nearestUpTo table c (countOf table segments))
+    onNearest (nearestUpTo table c (table .count segments))
     (λ i.
     finishOf (draftInside c band (segmentAt table i .range) (segmentAt table i .rule)) Blocked OutsideDataSegment (segmentAt table i .rule)
     (overshootOf (segmentAt table i .range) (c .air)) noAdvice)
     (simpleOf (draftOf c (Band band)) Blocked NoDataHere §97-305c)
 
 -- inside a data segment: the operator's privileges (97.301), then automatic control (97.221)
-unfoldable pub insideSegment : List ℕ → Case → ℕ → SegmentRecord → Decision
+unfoldable pub insideSegment : Table → Case → ℕ → SegmentRecord → Decision
 insideSegment table c band s =
     underPrivilege (privilegedOf table c Data) (draftInside c band (s .range) (s .rule))
     (cond (c .automatic) (automaticData table c band (s .range) (s .rule))
     (advised table c (c .air) (draftInside c band (s .range) (s .rule)) Permitted (s .rule)))
 
 -- 97.307(f): the widest data emission, by the segment that holds the guarded range, else the general limit
-abbrev pub limitFor : List ℕ → Found → DataLimit
+abbrev pub limitFor : Table → Found → DataLimit
 limitFor table found =
     onFound found (λ i. dataLimitOf (segmentAt table i .own) (segmentAt table i .second) (generalLimit table)) (generalLimit table)
 
@@ -307,7 +308,7 @@ abbrev pub tooWide : Case → ℕ → DataLimit → Decision
 tooWide c band limit = simpleOf (draftOf c (Band band)) Blocked TooWide (limit .rule)
 
 -- 97.305(c), by the first data segment that holds the guarded range; too wide comes before "no segment"
-unfoldable pub judgeData : List ℕ → Case → ℕ → Found → Decision
+unfoldable pub judgeData : Table → Case → ℕ → Found → Decision
 judgeData table c band found =
     cond (wider (c .width) (limitFor table found .«max_bandwidth_hz»))
     (tooWide c band (limitFor table found))
@@ -323,18 +324,18 @@ otherRule Test = §97-305b
 otherRule NoEmission = §97-301
 
 -- an emission that is allowed wherever the operator's privileges allow it
-abbrev pub emitted : List ℕ → Case → ℕ → EmissionKind → Decision
+abbrev pub emitted : Table → Case → ℕ → EmissionKind → Decision
 emitted table c band kind =
     underPrivilege (privilegedOf table c kind) (draftOf c (Band band)) (simpleOf (draftOf c (Band band)) Legal Permitted (otherRule kind))
 
 -- keyed with no audio: some privilege holds the dial
-abbrev pub keyed : List ℕ → Case → ℕ → Decision
+abbrev pub keyed : Table → Case → ℕ → Decision
 keyed table c band =
     cond (somePrivilege table c (range (c .«dial_hz») (c .«dial_hz»))) (simpleOf (draftOf c (Band band)) Legal Permitted §97-301)
-    (simpleOf (draftOf c (Band band)) Blocked Privilege (generalOf table .«privileges_rule»))
+    (simpleOf (draftOf c (Band band)) Blocked Privilege (table .general .«privileges_rule»))
 
 -- by the kind of emission, off 60 m
-abbrev pub offSixty : List ℕ → Case → ℕ → EmissionKind → Decision
+abbrev pub offSixty : Table → Case → ℕ → EmissionKind → Decision
 offSixty table c band Data = judgeData table c band (firstIn table segments (Holds (c .guarded)))
 offSixty table c band Cw = emitted table c band Cw
 offSixty table c band Test = emitted table c band Test
@@ -397,7 +398,7 @@ isData Test = false
 isData NoEmission = false
 
 -- in the segment: "The segment tests the general width only."
-unfoldable pub sixtySegment : List ℕ → Case → ℕ → SegmentRecord → Decision
+unfoldable pub sixtySegment : Table → Case → ℕ → SegmentRecord → Decision
 sixtySegment table c band s =
     cond (isData (c .kind) && wider (c .width) (generalLimit table .«max_bandwidth_hz»))
     (simpleOf (draftInside c band (s .range) (s .rule)) Blocked TooWide (generalLimit table .rule))
@@ -405,29 +406,29 @@ sixtySegment table c band s =
     (record { «channel_power» = false; shared = false; «segment_power» = exceeds (c .power) segmentWatts }))
 
 -- "An overlapping channel comes before the segment." Neither: off channel
-unfoldable pub sixtyPlace : List ℕ → Case → Channels → Decision
+unfoldable pub sixtyPlace : Table → Case → Channels → Decision
 sixtyPlace table c ch =
     onFound (firstIn table channels (ChannelOverlaps (ch .«width_hz») (c .guarded)))
-    (λ i. sixtyChannel c ch (centreOf (recordOf table channels i)))
+    (λ i. sixtyChannel c ch (centreOf (table .at channels i)))
     (onFound (firstIn table segments (BandHolds (ch .band) (c .guarded)))
     (λ i. sixtySegment table c (ch .band) (segmentAt table i))
     (simpleOf (draftOf c (Band (ch .band))) Blocked SixtyOffChannel (ch .rule)))
 
 -- 97.307(f)(14): the emissions allowed on 60 m; the bit for keying alone is never asked for
-unfoldable pub sixtyEmission : List ℕ → Case → Channels → SixtyEmissions → Decision
+unfoldable pub sixtyEmission : Table → Case → Channels → SixtyEmissions → Decision
 sixtyEmission table c ch (Allowed bits rule) =
     cond (bitOf bits (kindCode (c .kind))) (sixtyPlace table c ch) (simpleOf (draftOf c (Band (ch .band))) Blocked SixtyEmission rule)
 sixtyEmission table c ch AnyEmission = sixtyPlace table c ch
 
 -- "Nothing is then permitted."
-unfoldable pub sixtyKind : List ℕ → Case → Channels → EmissionKind → Decision
-sixtyKind table c ch Data = sixtyEmission table c ch (sixtyOf (generalOf table))
-sixtyKind table c ch Cw = sixtyEmission table c ch (sixtyOf (generalOf table))
-sixtyKind table c ch Test = sixtyEmission table c ch (sixtyOf (generalOf table))
+unfoldable pub sixtyKind : Table → Case → Channels → EmissionKind → Decision
+sixtyKind table c ch Data = sixtyEmission table c ch (sixtyOf (table .general))
+sixtyKind table c ch Cw = sixtyEmission table c ch (sixtyOf (table .general))
+sixtyKind table c ch Test = sixtyEmission table c ch (sixtyOf (table .general))
 sixtyKind table c ch NoEmission = simpleOf (draftOf c (Band (ch .band))) Legal Permitted §97-301
 
 -- "some privilege must hold the unguarded range; emission lists of privileges aren't read"
-unfoldable pub sixty : List ℕ → Case → Channels → Decision
+unfoldable pub sixty : Table → Case → Channels → Decision
 sixty table c ch =
     cond (somePrivilege table c (c .air)) (sixtyKind table c ch (c .kind))
     (simpleOf (draftOf c (Band (ch .band))) Blocked Privilege §97-301)
@@ -435,25 +436,25 @@ sixty table c ch =
 -- ---- 97.301, 97.109(d): the band, and where automatic control is not allowed at all
 
 -- 60 m is the band that has the channels' number
-unfoldable pub judgeOnBand : List ℕ → Case → ℕ → ChannelBand → Decision
+unfoldable pub judgeOnBand : Table → Case → ℕ → ChannelBand → Decision
 judgeOnBand table c band (On ch) = cond (eqb (ch .band) band) (sixty table c ch) (offSixty table c band (c .kind))
 judgeOnBand table c band NoChannels = offSixty table c band (c .kind)
 
 -- an excluded band, for a station to which 97.221 applies
-unfoldable pub judgeInBand : List ℕ → Case → ℕ → Decision
+unfoldable pub judgeInBand : Table → Case → ℕ → Decision
 judgeInBand table c band =
     cond (c .automatic)
     (onFound (firstIn table excluded (OfBand band))
-    (λ x. simpleOf (draftOf c (Band band)) Blocked AutomaticExcluded (excludedOf (recordOf table excluded x) .rule))
-    (judgeOnBand table c band (channelsOf (generalOf table))))
-    (judgeOnBand table c band (channelsOf (generalOf table)))
+    (λ x. simpleOf (draftOf c (Band band)) Blocked AutomaticExcluded (excludedOf (table .at excluded x) .rule))
+    (judgeOnBand table c band (channelsOf (table .general))))
+    (judgeOnBand table c band (channelsOf (table .general)))
 
 -- the first band that the guarded range touches
-unfoldable pub touching : List ℕ → Case → BandNumber
+unfoldable pub touching : Table → Case → BandNumber
 touching table c = onFound (firstIn table bands (Overlaps (c .guarded))) (λ b. Band (bandAt table b .band)) NoBand
 
 -- 97.301: the first band that holds the guarded range
-unfoldable pub judge : List ℕ → Case → Decision
+unfoldable pub judge : Table → Case → Decision
 judge table c =
     onFound (firstIn table bands (Holds (c .guarded))) (λ b. judgeInBand table c (bandAt table b .band))
     (simpleOf (draftOf c (touching table c)) Blocked OutOfBand §97-301)

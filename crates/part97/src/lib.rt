@@ -24,13 +24,14 @@ pub struct Case {
     // Whether 97.221 applies.
     pub automatic: bool,
     pub dial_hz: f64,
-    pub margin_hz: f64,
     // The audio edges that the reading takes, and their width.
     pub audio: Range,
     pub width: f64,
     // The range on the air, and the same widened by the margin: what has to fit.
     pub air: Range,
     pub guarded: Range,
+    // The guarded range with the margin taken off again: what an automatic station's advice goes by.
+    pub advised: Range,
     pub power: Figure,
     // Whether to say where the voluntary band plan differs.
     pub band_plan: bool,

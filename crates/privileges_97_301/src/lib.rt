@@ -8,12 +8,13 @@ use part97::Privileged;
 use profile::Range;
 ghost use mathlib.Core.Path.{_≡_};
 ghost use Rattle.layout.specs.Form.{Whole};
+ghost use Rattle.table.specs.Table.{tableOf};
 ghost use Rattle.part97.specs.Part97.{privilegedOf, somePrivilege};
 
 // Whether some privilege of the operator's class holds a range, whatever emissions it allows.
 pub fn some_privilege(s: &[u8], c: Case, r: Range) -> bool
     requires { ⌜ Whole (now s) ⌝ }
-    ensures { λ x. ⌜ x ≡ somePrivilege (now (s .entry)) c r ⌝ }
+    ensures { λ x. ⌜ x ≡ somePrivilege (tableOf (now (s .entry))) c r ⌝ }
 {
     let class = c.class;
     let n = codes::class_code(class);
@@ -23,7 +24,7 @@ pub fn some_privilege(s: &[u8], c: Case, r: Range) -> bool
 // What the first privilege of the operator's class that holds the guarded range says of an emission.
 pub fn privileged(s: &[u8], c: Case, kind: EmissionKind) -> Privileged
     requires { ⌜ Whole (now s) ⌝ }
-    ensures { λ x. ⌜ x ≡ privilegedOf (now (s .entry)) c kind ⌝ }
+    ensures { λ x. ⌜ x ≡ privilegedOf (tableOf (now (s .entry))) c kind ⌝ }
 {
     let class = c.class;
     let guarded = c.guarded;

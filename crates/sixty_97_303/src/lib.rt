@@ -18,6 +18,7 @@ ghost use mathlib.Core.Path.{_≡_};
 ghost use mathlib.Core.Bool.{_&&_};
 ghost use lib.Ieee.{lt};
 ghost use Rattle.layout.specs.Form.{Whole};
+ghost use Rattle.table.specs.Table.{Table, tableOf};
 ghost use Prim.Native.Nat.{ℕ};
 ghost use mathlib.Core.List.{List};
 ghost use Rattle.part97.specs.Finding.{concluded};
@@ -78,7 +79,7 @@ fn on_channel(c: Case, ch: Channels, centre: f64, kind: EmissionKind) -> bool
 
 // On a channel: set up for it, or blocked.
 fn sixty_channel(c: Case, ch: Channels, centre: f64) -> Finding
-    ensures { λ r. ⌜ ((table : List ℕ) → concluded table c r ≡ sixtyChannel c ch centre) ⌝ }
+    ensures { λ r. ⌜ ((table : Table) → concluded table c r ≡ sixtyChannel c ch centre) ⌝ }
 {
     let kind = c.kind;
     let power = c.power;
@@ -116,7 +117,7 @@ fn too_wide(kind: EmissionKind, width: f64, most: f64) -> bool
 // In the segment: the general width is tested, and no other.
 fn sixty_segment(s: &[u8], c: Case, band: u8, place: Segment) -> Finding
     requires { ⌜ Whole (now s) ⌝ }
-    ensures { λ r. ⌜ concluded (now (s .entry)) c r ≡ sixtySegment (now (s .entry)) c band place ⌝ }
+    ensures { λ r. ⌜ concluded (tableOf (now (s .entry))) c r ≡ sixtySegment (tableOf (now (s .entry))) c band place ⌝ }
 {
     let kind = c.kind;
     let power = c.power;
@@ -137,7 +138,7 @@ fn sixty_segment(s: &[u8], c: Case, band: u8, place: Segment) -> Finding
 // An overlapping channel comes before the segment; neither: off channel.
 fn sixty_place(s: &[u8], c: Case, ch: Channels) -> Finding
     requires { ⌜ Whole (now s) ⌝ }
-    ensures { λ r. ⌜ concluded (now (s .entry)) c r ≡ sixtyPlace (now (s .entry)) c ch ⌝ }
+    ensures { λ r. ⌜ concluded (tableOf (now (s .entry))) c r ≡ sixtyPlace (tableOf (now (s .entry))) c ch ⌝ }
 {
     let guarded = c.guarded;
     match find::pick_in(
@@ -165,7 +166,7 @@ fn sixty_place(s: &[u8], c: Case, ch: Channels) -> Finding
 // The emissions allowed on 60 m (97.307(f)(14)).
 fn sixty_emission(s: &[u8], c: Case, ch: Channels, allowed: SixtyEmissions) -> Finding
     requires { ⌜ Whole (now s) ⌝ }
-    ensures { λ r. ⌜ concluded (now (s .entry)) c r ≡ sixtyEmission (now (s .entry)) c ch allowed ⌝ }
+    ensures { λ r. ⌜ concluded (tableOf (now (s .entry))) c r ≡ sixtyEmission (tableOf (now (s .entry))) c ch allowed ⌝ }
 {
     let kind = c.kind;
     match allowed {
@@ -188,7 +189,7 @@ fn sixty_emission(s: &[u8], c: Case, ch: Channels, allowed: SixtyEmissions) -> F
 // Keyed with no audio is permitted; anything else goes by the emissions allowed.
 fn sixty_kind(s: &[u8], c: Case, ch: Channels, kind: EmissionKind) -> Finding
     requires { ⌜ Whole (now s) ⌝ }
-    ensures { λ r. ⌜ concluded (now (s .entry)) c r ≡ sixtyKind (now (s .entry)) c ch kind ⌝ }
+    ensures { λ r. ⌜ concluded (tableOf (now (s .entry))) c r ≡ sixtyKind (tableOf (now (s .entry))) c ch kind ⌝ }
 {
     let allowed = table::sixty_emissions_of(layout::general_of(s));
     match kind {
@@ -208,7 +209,7 @@ fn sixty_kind(s: &[u8], c: Case, ch: Channels, kind: EmissionKind) -> Finding
 // aren't read.
 pub fn sixty(s: &[u8], c: Case, ch: Channels) -> Finding
     requires { ⌜ Whole (now s) ⌝ }
-    ensures { λ r. ⌜ concluded (now (s .entry)) c r ≡ sixty (now (s .entry)) c ch ⌝ }
+    ensures { λ r. ⌜ concluded (tableOf (now (s .entry))) c r ≡ sixty (tableOf (now (s .entry))) c ch ⌝ }
 {
     let kind = c.kind;
     let on_air = c.air;

@@ -32,7 +32,7 @@ use Rattle.occupancy.specs.declared.Edges.{Edges}
 use Rattle.station.specs.declared.Situation.{Situation}
 use Rattle.station.specs.declared.Figure.{Figure}
 use Rattle.station.specs.declared.Figure.the-variants.{Known, Absent}
-use Rattle.layout.specs.Layout.{generalOf}
+use Rattle.table.specs.Table.{Table, tableOf}
 use Rattle.decision.specs.Number.{noRule, §97-301, §97-109}
 use Rattle.decision.specs.Decision.{simpleOf}
 use Rattle.decision.specs.declared.Verdict.the-variants.{Blocked}
@@ -42,7 +42,7 @@ use Rattle.decision.specs.declared.Decision.{Decision}
 use Rattle.part97.specs.Part97.{judge}
 use Rattle.verdict.specs.Verdict.{withControl, withLicense, withSideband, withDial, caseOf, ruledOf, decideOf, besideValid, edgeTests, unlessRefused, evaluateOf}
 
-module _ (table : List ℕ) (s : Situation) (dial : Figure) (kind : EmissionKind) (direction : Direction) (audio : Range) (signal : Draft) where
+module _ (table : Table) (s : Situation) (dial : Figure) (kind : EmissionKind) (direction : Direction) (audio : Range) (signal : Draft) where
   -- what is asked after each prerequisite
   abbrev atDial : ControlMode → LicenseClass → Sideband → Figure → Decision
   atDial control class sideband d =
@@ -57,11 +57,11 @@ module _ (table : List ℕ) (s : Situation) (dial : Figure) (kind : EmissionKind
   abbrev atControl : Control → Decision
   atControl set = withControl set (simpleOf signal Blocked NoControl §97-109) (λ control. atLicense control (s .license))
 
-  pub ruled-region : eqb (s .«itu_region») (generalOf table .region) ≡ false → simpleOf signal Blocked Region §97-301 ≡ ruledOf table s dial kind direction audio signal
+  pub ruled-region : eqb (s .«itu_region») (table .general .region) ≡ false → simpleOf signal Blocked Region §97-301 ≡ ruledOf table s dial kind direction audio signal
   unfolding ruledOf
   ruled-region e = sym (cond-not (atControl (s .control)) _ e)
 
-  module _ (here : eqb (s .«itu_region») (generalOf table .region) ≡ true) where
+  module _ (here : eqb (s .«itu_region») (table .general .region) ≡ true) where
     pub ruled-control : s .control ≡ ControlAbsent → simpleOf signal Blocked NoControl §97-109 ≡ ruledOf table s dial kind direction audio signal
     unfolding ruledOf
     ruled-control c = sym (cond-yes (atControl (s .control)) _ here ∙ ap atControl c)
@@ -111,12 +111,12 @@ rules-whole r beside l more e p = entry-whole r beside l (refusal-both (entryTes
 pub evaluate-accepted :
     (r : StationRecord) (kind direction : ℕ) (e : Edges) (l : List ℕ) → entryOf r (besideValid kind direction) l ≡ Accepted → edgesValid e ≡ true
     → evaluateOf r kind direction e l
-    ≡ decideOf l (situationOf r) (situationOf r .policy) (situationOf r .dial) (kindOf kind) (directionOf direction) (edgesRead e)
+    ≡ decideOf (tableOf l) (situationOf r) (situationOf r .policy) (situationOf r .dial) (kindOf kind) (directionOf direction) (edgesRead e)
 unfolding evaluateOf entryOf
 evaluate-accepted r kind direction e l h v =
     ap
     (λ (x : Checked).
     unlessRefused x
-    (decideOf l (situationOf r) (situationOf r .policy) (situationOf r .dial) (kindOf kind) (directionOf direction) (edgesRead e)))
+    (decideOf (tableOf l) (situationOf r) (situationOf r .policy) (situationOf r .dial) (kindOf kind) (directionOf direction) (edgesRead e)))
     (refusal-next (entryTests r (besideValid kind direction) l) (edgeTests e) h
     ∙ ap (λ (b : Bool). refusalOf (test 15 (not b) ∷ [])) v)

@@ -28,14 +28,14 @@ use Rattle.occupancy.specs.Edges.{rangeOf}
 use Rattle.occupancy.specs.declared.Edges.{Edges}
 use Rattle.occupancy.specs.declared.Reading.{Reading}
 use Rattle.occupancy.specs.declared.Reading.the-variants.{Wider}
-use Rattle.air.specs.Air.{rfRangeOf, guardedOf, widthOf}
+use Rattle.air.specs.Air.{rfRangeOf, guardedOf, unguardedOf, widthOf}
 use Rattle.station.specs.Station.{situationOf}
 use Rattle.station.specs.declared.StationRecord.{StationRecord}
 use Rattle.station.specs.declared.Situation.{Situation}
 use Rattle.station.specs.declared.Figure.{Figure}
 use Rattle.station.specs.declared.Figure.the-variants.{Known, Absent}
-use Rattle.layout.specs.Layout.{generalOf}
 use Rattle.table.specs.Parts.{readingOf}
+use Rattle.table.specs.Table.{Table, tableOf}
 use Rattle.automatic_97_221.specs.Automatic.{appliesOf}
 use Rattle.entry.specs.Entry.{entryTests, edgesValid, edgesRead}
 use Rattle.decision.specs.Number.{noRule, §97-301, §97-109}
@@ -81,11 +81,11 @@ caseOf s control class sideband dial kind direction audio =
       kind = kind;
       automatic = appliesOf control direction;
       «dial_hz» = dial;
-      «margin_hz» = s .«margin_hz»;
       audio = audio;
       width = widthOf audio;
       air = rfRangeOf dial sideband audio;
       guarded = guardedOf (s .«margin_hz») (rfRangeOf dial sideband audio);
+      advised = unguardedOf (s .«margin_hz») (guardedOf (s .«margin_hz») (rfRangeOf dial sideband audio));
       power = s .power;
       «band_plan» = s .«band_plan»;
     }
@@ -108,9 +108,9 @@ withDial (Known dial) missing next = next dial
 withDial Absent missing next = missing
 
 -- the verdict under an accepted table, at a dial
-unfoldable pub ruledOf : List ℕ → Situation → Figure → EmissionKind → Direction → Range → Draft → Decision
+unfoldable pub ruledOf : Table → Situation → Figure → EmissionKind → Direction → Range → Draft → Decision
 ruledOf table s dial kind direction audio signal =
-    cond (eqb (s .«itu_region») (generalOf table .region))
+    cond (eqb (s .«itu_region») (table .general .region))
     (withControl (s .control) (simpleOf signal Blocked NoControl §97-109)
     (λ control.
     withLicense (s .license) (simpleOf signal Blocked NoLicense §97-301)
@@ -122,7 +122,7 @@ ruledOf table s dial kind direction audio signal =
     (simpleOf signal Blocked Region §97-301)
 
 -- under Rules by the table's reading of bandwidth
-unfoldable pub underRulesOf : List ℕ → Situation → Figure → EmissionKind → Direction → Range → Decision
+unfoldable pub underRulesOf : Table → Situation → Figure → EmissionKind → Direction → Range → Decision
 underRulesOf table s dial kind direction audio = ruledOf table s dial kind direction audio (signalOf dial (s .sideband) audio)
 
 -- without a table the policy alone decides, and the reading is Wider
@@ -130,10 +130,10 @@ unfoldable pub unruledOf : Situation → Figure → Edges → Verdict → Code �
 unruledOf s dial e verdict code = simpleOf (signalOf dial (s .sideband) (rangeOf e Wider)) verdict code noRule
 
 -- by the policy, at a dial
-unfoldable pub decideOf : List ℕ → Situation → Policy → Figure → EmissionKind → Direction → Edges → Decision
+unfoldable pub decideOf : Table → Situation → Policy → Figure → EmissionKind → Direction → Edges → Decision
 decideOf table s Unset dial kind direction e = unruledOf s dial e Blocked NoProfile
 decideOf table s NoneApply dial kind direction e = unruledOf s dial e Legal NoRules
-decideOf table s Rules dial kind direction e = underRulesOf table s dial kind direction (rangeOf e (readingOf (generalOf table)))
+decideOf table s Rules dial kind direction e = underRulesOf table s dial kind direction (rangeOf e (readingOf (table .general)))
 decideOf table s Broken dial kind direction e = unruledOf s dial e Blocked ProfileBroken
 
 -- the codes beside the record
@@ -158,7 +158,7 @@ unlessRefused (Refused n) d = refusedOf n
 unfoldable pub evaluateOf : StationRecord → ℕ → ℕ → Edges → List ℕ → Decision
 evaluateOf r kind direction e l =
     unlessRefused (refusalOf (evaluateTests r kind direction e l))
-    (decideOf l (situationOf r) (situationOf r .policy) (situationOf r .dial) (kindOf kind) (directionOf direction) (edgesRead e))
+    (decideOf (tableOf l) (situationOf r) (situationOf r .policy) (situationOf r .dial) (kindOf kind) (directionOf direction) (edgesRead e))
 
 -- `unmeasured`: a signal whose spectrum is not known is blocked with code 4; its edges are taken as zero
 unfoldable pub unmeasuredOf : StationRecord → List ℕ → Decision

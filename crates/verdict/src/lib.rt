@@ -27,6 +27,7 @@ use station::StationRecord;
 ghost use mathlib.Core.Path.{_≡_};
 ghost use Rattle.codes.specs.Refusal.{refusalOf};
 ghost use Rattle.layout.specs.Form.{Whole};
+ghost use Rattle.table.specs.Table.{tableOf};
 ghost use Rattle.verdict.specs.Verdict.{airOf, signalOf, caseOf, ruledOf, underRulesOf, unruledOf, decideOf, besideValid, evaluateTests, evaluateOf, unmeasuredOf};
 
 // The range on the air, where dial and sideband are known.
@@ -72,6 +73,7 @@ pub fn case_of(
     let power = s.power;
     let on_air = air::rf_range(dial, sideband, audio);
     let guarded = air::guarded(s.margin_hz, on_air);
+    let advised = air::unguarded(s.margin_hz, guarded);
     Case {
         class,
         sideband,
@@ -79,11 +81,11 @@ pub fn case_of(
         kind,
         automatic: automatic_97_221::applies(control, direction),
         dial_hz: dial,
-        margin_hz: s.margin_hz,
         audio,
         width: air::width(audio),
         air: on_air,
         guarded,
+        advised,
         power,
         band_plan: s.band_plan,
     }
@@ -100,7 +102,7 @@ fn ruled(
     signal: Draft,
 ) -> Decision
     requires { ⌜ Whole (now image) ⌝ }
-    ensures { λ x. ⌜ x ≡ ruledOf (now (image .entry)) s dial kind direction audio signal ⌝ }
+    ensures { λ x. ⌜ x ≡ ruledOf (tableOf (now (image .entry))) s dial kind direction audio signal ⌝ }
 {
     let g = layout::general_of(image);
     if s.itu_region != g.region {
@@ -156,7 +158,7 @@ fn under_rules(
     audio: Range,
 ) -> Decision
     requires { ⌜ Whole (now image) ⌝ }
-    ensures { λ x. ⌜ x ≡ underRulesOf (now (image .entry)) s dial kind direction audio ⌝ }
+    ensures { λ x. ⌜ x ≡ underRulesOf (tableOf (now (image .entry))) s dial kind direction audio ⌝ }
 {
     let sideband = s.sideband;
     let signal = signal_of(dial, sideband, audio);
@@ -184,7 +186,7 @@ pub fn decide(
     e: Edges,
 ) -> Decision
     requires { ⌜ (policy ≡ Policy.Rules → Whole (now image)) ⌝ }
-    ensures { λ x. ⌜ x ≡ decideOf (now (image .entry)) s policy dial kind direction e ⌝ }
+    ensures { λ x. ⌜ x ≡ decideOf (tableOf (now (image .entry))) s policy dial kind direction e ⌝ }
 {
     match policy {
         Policy::Unset => unruled(s, dial, e, Verdict::Blocked, Code::NoProfile),

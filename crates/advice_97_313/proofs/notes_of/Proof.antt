@@ -6,6 +6,7 @@ use lib.ListN.{length}
 use borrow.Author.Needs.{needs}
 use Rattle.layout.specs.Layout.{recordSize, trailerSize, power, countOf, startOf}
 use Rattle.layout.specs.Form.{table-within}
+use Rattle.table.specs.Table.{tableOf, read-in}
 use Rattle.part97.specs.Part97.{noteAt, notesUpTo, anyNote}
 use Rattle.part97.specs.Laws.{notes-more, any-more}
 use native.Mathlib.Omega.{arith}
@@ -13,7 +14,7 @@ use Rattle.advice_97_313.proofs.notes_of.Statement.{statement}
 use Rattle.advice_97_313.proofs.notes_of.Tie as tie
 
 abbrev Inv-loop : tie.InvT-loop
-Inv-loop s c r start count marks₀ any₀ i₀ marks any i = (i ≤ count) × (marks ≡ notesUpTo (noteAt s c r) i) × (any ≡ anyNote (noteAt s c r) i)
+Inv-loop s c r start count marks₀ any₀ i₀ marks any i = (i ≤ count) × (marks ≡ notesUpTo (noteAt (tableOf s) c r) i) × (any ≡ anyNote (noteAt (tableOf s) c r) i)
 
 abbrev μ-loop : tie.MeasureT-loop
 μ-loop s c r start count marks₀ any₀ i₀ marks any i = count - i
@@ -22,12 +23,13 @@ within : (c : tie.Start Inv-loop μ-loop) → startOf (c .args .s .now) power + 
 within c = table-within (c .args .s .now) (c .pre) power (omega arith)
 
 -- what a turn asked of power record i
-asked : (c : tie.After-is-noted Inv-loop μ-loop) → c .is-noted .result ≡ noteAt (c .before .before .before .before .before .before .before .before .args .s .now) (c .before .before .before .before .before .before .before .before .args .c) (c .before .before .before .before .before .before .before .before .args .r) (c .before .before .before .before .loop .i)
+asked : (c : tie.After-is-noted Inv-loop μ-loop) → c .is-noted .result ≡ noteAt (tableOf (c .before .before .before .before .before .before .before .before .args .s .now)) (c .before .before .before .before .before .before .before .before .args .c) (c .before .before .before .before .before .before .before .before .args .r) (c .before .before .before .before .loop .i)
 asked c =
     rw (c .is-noted .ensures)
     (rw (c .before .power-limit-of .ensures)
-    (rw (c .before .before .record-at .ensures)
-    (rw (c .before .before .before .before .before .before .start-of .ensures))))
+    (rw
+    (read-in _ power _ _ _ (omega arith) (omega (arith, c .before .before .before .before .before .count-of .ensures, c .before .before .before .loop-test .taken))
+    (c .before .before .before .before .before .before .start-of .ensures) (c .before .before .record-at .ensures))))
 
 start-of-requires : tie.Need-start-of-requires Inv-loop μ-loop
 start-of-requires c κs = omega (arith, c .before .pre .sized)

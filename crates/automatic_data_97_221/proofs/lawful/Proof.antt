@@ -3,15 +3,11 @@ use borrow.Author.Needs.{needs}
 use Rattle.automatic_data_97_221.proofs.lawful.Statement.{statement}
 use Rattle.automatic_data_97_221.proofs.lawful.Tie as tie
 
-unguarded-requires : tie.Need-unguarded-requires
-unguarded-requires c κs = search needs
-
 lawful-in-requires : tie.Need-lawful-in-requires
 lawful-in-requires c κs = search needs
 
 returns : tie.Need-returns
-returns c =
-    rw (c .lawful-in .ensures) (rw (c .before .unguarded .ensures))
+returns c = rw (c .lawful-in .ensures)
 
 pub lawful-spec : {M : Type 1} → statement M
-lawful-spec = tie.close (tie.spec unguarded-requires lawful-in-requires returns)
+lawful-spec = tie.close (tie.spec lawful-in-requires returns)

@@ -5,6 +5,7 @@ use lib.ListN.{length}
 use borrow.Author.Needs.{needs}
 use Rattle.layout.specs.Layout.{recordSize, trailerSize, segments, countOf, startOf}
 use Rattle.layout.specs.Form.{table-within}
+use Rattle.table.specs.Table.{tableOf, read-in}
 use Rattle.part97.specs.Part97.{nearestUpTo}
 use Rattle.part97.specs.Laws.{nearest-more}
 use native.Mathlib.Omega.{arith}
@@ -12,7 +13,7 @@ use Rattle.overshoot_97_305.proofs.nearest_segment.Statement.{statement
 use Rattle.overshoot_97_305.proofs.nearest_segment.Tie as tie
 
 abbrev Inv-loop : tie.InvT-loop
-Inv-loop s c start count best₀ i₀ best i = (i ≤ count) × (best ≡ nearestUpTo s c i)
+Inv-loop s c start count best₀ i₀ best i = (i ≤ count) × (best ≡ nearestUpTo (tableOf s) c i)
 
 abbrev μ-loop : tie.MeasureT-loop
 μ-loop s c start count best₀ i₀ best i = count - i
@@ -60,7 +61,11 @@ loop-again c = (
   rw nearest-more
       (rw (← c .before .before .before .before .loop .inv .1)
       (rw (c .consider .ensures)
-      (rw (c .before .span-of .ensures) (rw (c .before .before .record-at .ensures) (rw (c .before .before .before .before .before .before .start-of .ensures)))))),
+      (rw (c .before .span-of .ensures)
+      (rw
+      (read-in _ segments _ _ _ (omega arith)
+      (omega (arith, c .before .before .before .before .before .count-of .ensures, c .before .before .before .loop-test .taken))
+      (c .before .before .before .before .before .before .start-of .ensures) (c .before .before .record-at .ensures)))))),
 )
 
 returns : tie.Need-returns Inv-loop μ-loop
