@@ -156,6 +156,42 @@ pub struct Decision {
     pub notes: [u8; NOTES],
 }
 
+impl Decision {
+    /// The limit of a ceiling that has none: verdict 2, all else zero. A refusal is this with its number.
+    pub const ABSENT: Self = Self {
+        segment_low: 0.0,
+        segment_high: 0.0,
+        automatic_low: 0.0,
+        automatic_high: 0.0,
+        audio_low: 0.0,
+        audio_high: 0.0,
+        width: 0.0,
+        air_low: 0.0,
+        air_high: 0.0,
+        beyond_hz: 0.0,
+        rule: 0,
+        segment_rule: 0,
+        guidance_index: 0,
+        refusal: 0,
+        verdict: 2,
+        code: 0,
+        rule_known: 0,
+        band_known: 0,
+        band: 0,
+        segment_known: 0,
+        automatic_known: 0,
+        audio_known: 0,
+        air_known: 0,
+        overshoot: 0,
+        edge: 0,
+        guidance: 0,
+        note_channel_power: 0,
+        note_shared: 0,
+        note_segment_power: 0,
+        notes: [0; NOTES],
+    };
+}
+
 /// How fast a rung may be sent.
 #[repr(C)]
 #[derive(Clone, Copy)]
