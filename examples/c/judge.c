@@ -166,7 +166,7 @@ static void verdicts(void)
 
 static void print_ceiling(const double *rungs, size_t rung_count)
 {
-    static const uint8_t floors[PAMUKLID_RUNGS] = {0}; /* all with the ordinary control frame */
+    static const uint8_t floors[PAMUKLID_MOST_RUNGS] = {0}; /* all with the ordinary control frame */
     pamuklid_station s = station_at(14100000, LOCAL, POWER_UNKNOWN);
     pamuklid_edges control = both(1250, 1750);
     pamuklid_ceiling c =

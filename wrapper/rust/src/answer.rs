@@ -37,12 +37,12 @@ pub struct SixtyNotes {
 /// The power records of the image that the power is above, by their index.
 #[derive(Clone, Copy, PartialEq, Eq)]
 pub struct PowerNotes {
-    marks: [bool; raw::NOTES],
+    marks: [bool; raw::MOST_NOTES],
 }
 
 impl PowerNotes {
     /// No record.
-    pub const NONE: Self = Self { marks: [false; raw::NOTES] };
+    pub const NONE: Self = Self { marks: [false; raw::MOST_NOTES] };
 
     /// Whether there is none.
     pub fn is_empty(&self) -> bool {
