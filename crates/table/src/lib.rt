@@ -12,8 +12,9 @@ use profile::RuleName;
 ghost use mathlib.Core.Path.{_≡_};
 ghost use Prim.Native.Nat.{_+_, _*_, _≤_, _<_};
 ghost use lib.ListN.{length};
-ghost use Rattle.layout.specs.Layout.{recordOf, countOf};
+ghost use Rattle.layout.specs.Layout.{countOf};
 ghost use Rattle.layout.specs.Form.{Whole};
+ghost use Rattle.table.specs.Table.{recordIn};
 ghost use Rattle.table.specs.Parts.{spanOf, bandOf, ownLimitOf, namedOf, listedOf, channelSidebandOf, segmentOf, centreOf, privilegeOf, excludedOf, powerOf, planOf, dataOf, readingOf, elsewhereOf, channelsOf, sixtyOf, hasPlan};
 
 // A band, for naming a frequency.
@@ -95,7 +96,7 @@ pub enum SixtyEmissions {
 // Record i of table t.
 pub fn record_of(s: &[u8], t: usize, i: usize) -> Record
     requires { ⌜ (Whole (now s)) × (t < 9) × (i < countOf (now s) t) ⌝ }
-    ensures { λ r. ⌜ r ≡ recordOf (now (s .entry)) t i ⌝ }
+    ensures { λ r. ⌜ r ≡ recordIn (now (s .entry)) t i ⌝ }
 {
     let at = layout::start_of(s, t) + layout::RECORD_SIZE * i;
     layout::record_at(s, at)

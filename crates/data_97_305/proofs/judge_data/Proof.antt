@@ -4,6 +4,7 @@ use mathlib.Core.Path.{_≡_, sym, ap, _∙_}
 use Rattle.layout.specs.Layout.{segments}
 use Rattle.find.specs.Question.{firstIn, PickedAt, picked, missed}
 use Rattle.find.specs.declared.Question.the-variants.{Holds}
+use Rattle.table.specs.Table.{tableOf}
 use Rattle.part97.specs.Part97.{limitFor}
 use Rattle.part97.specs.Laws.{judge-wide, judge-inside, judge-outside}
 use Rattle.part97.specs.Finding.{concluded, on-band}
@@ -14,8 +15,8 @@ use Rattle.data_97_305.proofs.judge_data.Tie as tie
 -- the limit by the segment that was found
 limit :
     (c : tie.After-data-limit) (i : ℕ)
-    → PickedAt (c .before .before .before .before .before .before .before .before .before .before .args .s .now) segments (Holds (c .before .before .before .before .before .before .before .before .before .before .args .c .guarded)) i (c .before .before .before .r .given .0 .1 .0)
-    → c .data-limit .result ≡ limitFor (c .before .before .before .before .before .before .before .before .before .before .args .s .now) (firstIn (c .before .before .before .before .before .before .before .before .before .before .args .s .now) segments (Holds (c .before .before .before .before .before .before .before .before .before .before .args .c .guarded)))
+    → PickedAt (tableOf (c .before .before .before .before .before .before .before .before .before .before .args .s .now)) segments (Holds (c .before .before .before .before .before .before .before .before .before .before .args .c .guarded)) i (c .before .before .before .r .given .0 .1 .0)
+    → c .data-limit .result ≡ limitFor (tableOf (c .before .before .before .before .before .before .before .before .before .before .args .s .now)) (firstIn (tableOf (c .before .before .before .before .before .before .before .before .before .before .args .s .now)) segments (Holds (c .before .before .before .before .before .before .before .before .before .before .args .c .guarded)))
 limit c i p =
     rw (c .data-limit .ensures)
     (rw (c .before .segment-of .ensures)

@@ -1,8 +1,6 @@
 -- `find::pick_in` meets its contract: on each way to a return, the tests and what the calls ensure say which case of the definition holds.
-use mathlib.Core.Path.{sym, ap, _∙_}
-use Rattle.table.specs.Table.{at-in}
+use mathlib.Core.Path.{sym, _∙_}
 use Rattle.find.specs.Question.{pickIn, found-below}
-use Rattle.find.specs.declared.Pick.the-variants.{Picked}
 use borrow.Author.Needs.{needs}
 use Rattle.find.proofs.pick_in.Statement.{statement}
 use Rattle.find.proofs.pick_in.Tie as tie
@@ -26,14 +24,7 @@ enum-told c = search needs
 
 returns : tie.Need-returns
 unfolding pickIn
-returns c =
-    let a = c .before .before .before .before .before .before in
-    let found = sym (c .before .before .before .before .find-in .ensures) ∙ c .before .before .i .given .1 in
-    rw (← c .before .before .before .before .find-in .ensures)
-    (rw (c .before .before .i .given .1)
-    (ap (Picked (c .before .before .i .given .0 .0))
-    (c .record-of .ensures
-    ∙ sym (at-in (a .args .s .now) (a .args .t) _ (a .pre .1) (found-below (a .args .s .now) (a .args .t) (a .args .q) _ (a .pre .1) found)))))
+returns c = rw (← c .before .before .before .before .find-in .ensures) (rw (c .before .before .i .given .1) (rw (← c .record-of .ensures)))
 
 returns-2 : tie.Need-returns-2
 unfolding pickIn

@@ -2,6 +2,7 @@
 use mathlib.Core.Path.{_≡_}
 use mathlib.Core.Bool.{_&&_}
 use lib.Ieee.{lt}
+use Rattle.table.specs.Table.{tableOf}
 use Rattle.part97.specs.Finding.{in-segment, on-sixty}
 use Rattle.part97.specs.Part97.{sixtySegment, isData, generalLimit}
 use borrow.Author.Needs.{needs}
@@ -21,7 +22,7 @@ in-segment-requires : tie.Need-in-segment-requires
 in-segment-requires c κs = search needs
 
 -- what the width was asked
-asked : (c : tie.After-too-wide) → c .too-wide .result ≡ (isData (c .before .before .before .before .before .args .c .kind) && lt (generalLimit (c .before .before .before .before .before .args .s .now) .«max_bandwidth_hz») (c .before .before .before .before .before .args .c .width))
+asked : (c : tie.After-too-wide) → c .too-wide .result ≡ (isData (c .before .before .before .before .before .args .c .kind) && lt (generalLimit (tableOf (c .before .before .before .before .before .args .s .now)) .«max_bandwidth_hz») (c .before .before .before .before .before .args .c .width))
 asked c = rw (c .too-wide .ensures) (rw (c .before .data-of .ensures) (rw (c .before .before .general-of .ensures)))
 
 returns : tie.Need-returns

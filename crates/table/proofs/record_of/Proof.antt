@@ -4,6 +4,7 @@ use lib.ListN.{length}
 use Rattle.layout.specs.Layout.{recordSize, trailerSize, countOf, startOf}
 use Rattle.layout.specs.Form.{table-within}
 use native.Mathlib.Omega.{arith}
+use Rattle.table.specs.Table.{read-in}
 use borrow.Author.Needs.{needs}
 use Rattle.table.proofs.record_of.Statement.{statement}
 use Rattle.table.proofs.record_of.Tie as tie
@@ -26,8 +27,8 @@ record-at-requires c κs = omega (arith, within (c .before .before))
 
 returns : tie.Need-returns
 returns c =
-    rw (← c .before .start-of .ensures)
-    (rw (c .record-at .ensures))
+    let a = c .before .before .before in
+    read-in (a .args .s .now) (a .args .t) (a .args .i) _ _ (a .pre .1) (a .pre .2) (c .before .start-of .ensures) (c .record-at .ensures)
 
 pub record-of-spec : {M : Type 1} → statement M
 record-of-spec = tie.close (tie.spec start-of-requires mul-at add-at record-at-requires returns)
