@@ -8,6 +8,7 @@ ghost use Prim.Native.Nat.{_+_, _*_, _≤_, _<_};
 ghost use lib.ListN.{length};
 ghost use Rattle.codes.specs.Refusal.{refusalOf};
 ghost use Rattle.layout.specs.Form.{Whole};
+ghost use Rattle.table.specs.Table.{tableOf};
 ghost use Rattle.image.specs.Check.{codedBlock, miscoded, soundBlock, unsound, bare, unlimited, contentTests, checkOf};
 ghost use Rattle.plain.specs.Plain.{isRough};
 ghost use Rattle.image.specs.Short.{plainImage, leftTests};
@@ -15,7 +16,7 @@ ghost use Rattle.image.specs.Short.{plainImage, leftTests};
 // The general block's codes, with the counts of the tables whose part may be absent.
 fn coded_block(s: &[u8]) -> bool
     requires { ⌜ Whole (now s) ⌝ }
-    ensures { λ r. ⌜ r ≡ codedBlock (now (s .entry)) ⌝ }
+    ensures { λ r. ⌜ r ≡ codedBlock (tableOf (now (s .entry))) ⌝ }
 {
     coded::coded_general(
         layout::general_of(s),
@@ -28,7 +29,7 @@ fn coded_block(s: &[u8]) -> bool
 // 5: the general block, then each table.
 fn is_miscoded(s: &[u8]) -> bool
     requires { ⌜ Whole (now s) ⌝ }
-    ensures { λ r. ⌜ r ≡ miscoded (now (s .entry)) ⌝ }
+    ensures { λ r. ⌜ r ≡ miscoded (tableOf (now (s .entry))) ⌝ }
 {
     if !coded_block(s) {
         return true;
@@ -55,7 +56,7 @@ fn sound_block(g: General) -> bool
 // 6: the general block's figures, then those of each table's records.
 fn is_unsound(s: &[u8]) -> bool
     requires { ⌜ Whole (now s) ⌝ }
-    ensures { λ r. ⌜ r ≡ unsound (now (s .entry)) ⌝ }
+    ensures { λ r. ⌜ r ≡ unsound (tableOf (now (s .entry))) ⌝ }
 {
     if !sound_block(layout::general_of(s)) {
         return true;
@@ -73,7 +74,7 @@ fn is_unsound(s: &[u8]) -> bool
 // 11
 fn is_bare(s: &[u8]) -> bool
     requires { ⌜ Whole (now s) ⌝ }
-    ensures { λ r. ⌜ r ≡ bare (now (s .entry)) ⌝ }
+    ensures { λ r. ⌜ r ≡ bare (tableOf (now (s .entry))) ⌝ }
 {
     layout::count_of(s, layout::BANDS) == 0 || layout::count_of(s, layout::SEGMENTS) == 0
 }
@@ -88,7 +89,7 @@ fn is_unlimited(g: General) -> bool
 // Refusals 5 to 14 of a whole image, test by test.
 fn in_order(s: &[u8]) -> Checked
     requires { ⌜ Whole (now s) ⌝ }
-    ensures { λ r. ⌜ r ≡ refusalOf (contentTests (now (s .entry))) ⌝ }
+    ensures { λ r. ⌜ r ≡ refusalOf (contentTests (tableOf (now (s .entry)))) ⌝ }
 {
     if is_miscoded(s) {
         return Checked::Refused(5);
@@ -134,7 +135,7 @@ fn is_plain(s: &[u8]) -> bool
 // The refusals that are left of a plain image.
 fn left(s: &[u8]) -> Checked
     requires { ⌜ (Whole (now s)) × (isRough (now s) ≡ false) ⌝ }
-    ensures { λ r. ⌜ r ≡ refusalOf (leftTests (now (s .entry))) ⌝ }
+    ensures { λ r. ⌜ r ≡ refusalOf (leftTests (tableOf (now (s .entry)))) ⌝ }
 {
     if is_bare(s) {
         return Checked::Refused(11);
@@ -151,7 +152,7 @@ fn left(s: &[u8]) -> Checked
 // Refusals 5 to 14 of a whole image. A plain one, as most are, is visited once.
 fn content(s: &[u8]) -> Checked
     requires { ⌜ Whole (now s) ⌝ }
-    ensures { λ r. ⌜ r ≡ refusalOf (contentTests (now (s .entry))) ⌝ }
+    ensures { λ r. ⌜ r ≡ refusalOf (contentTests (tableOf (now (s .entry)))) ⌝ }
 {
     if is_plain(s) {
         return left(s);

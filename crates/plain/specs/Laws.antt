@@ -11,8 +11,9 @@ use Rattle.codes.specs.Code.{bitOf}
 use Rattle.layout.specs.Layout.{bands, segments, privileges, automatic, tables, startOf, countOf, recordOf}
 use Rattle.layout.specs.declared.Record.{Record}
 use Rattle.coded.specs.Coded.{codedOf}
-use Rattle.scan.specs.First.{some, and-true, some-false, some-all}
-use Rattle.find.specs.Question.{soundBits, soundRecord, asks, someIn}
+use Rattle.table.specs.Table.{tableOf}
+use Rattle.scan.specs.First.{some, isAt, and-true, some-false, some-all}
+use Rattle.find.specs.Question.{soundBits, soundRecord, asks, asksAt, someIn, first-in}
 use Rattle.find.specs.declared.Question.{Question}
 use Rattle.find.specs.declared.Question.the-variants.{Miscoded, Unsound, NotLengthy, NoLimit}
 use Rattle.plain.specs.Plain.{sizedOf, longer, longOf, limitedOf, plainOf, roughAt, roughFrom, roughIn, isRough}
@@ -81,26 +82,27 @@ module _ (l : List ℕ) (smooth : isRough l ≡ false) where
   plain-at t i h k = not-false (plainOf t (recordOf l t i)) (some-false (roughAt l t (startOf l t)) (countOf l t) (some-false (roughIn l) tables smooth t h) i k)
 
   -- a test that no plain record of table t passes
-  none-in : (t : ℕ) (q : Question) → t < tables → ((r : Record) → plainOf t r ≡ true → asks q r ≡ false) → someIn l t q ≡ false
-  none-in t q h f = some-all (λ i. asks q (recordOf l t i)) (countOf l t) (λ i k. f (recordOf l t i) (plain-at t i h k))
+  none-in : (t : ℕ) (q : Question) → t < tables → ((r : Record) → plainOf t r ≡ true → asks q r ≡ false) → someIn (tableOf l) t q ≡ false
+  none-in t q h f =
+      ap isAt (first-in l t q h) ∙ some-all (asksAt l (startOf l t) q) (countOf l t) (λ i k. f (recordOf l t i) (plain-at t i h k))
 
-  pub none-miscoded : some (λ t. someIn l t (Miscoded t)) tables ≡ false
-  none-miscoded = some-all (λ t. someIn l t (Miscoded t)) tables (λ t h. none-in t (Miscoded t) h (plain-coded t))
+  pub none-miscoded : some (λ t. someIn (tableOf l) t (Miscoded t)) tables ≡ false
+  none-miscoded = some-all (λ t. someIn (tableOf l) t (Miscoded t)) tables (λ t h. none-in t (Miscoded t) h (plain-coded t))
 
-  pub none-unsound : some (λ t. someIn l t Unsound) tables ≡ false
-  none-unsound = some-all (λ t. someIn l t Unsound) tables (λ t h. none-in t Unsound h (plain-sound t))
+  pub none-unsound : some (λ t. someIn (tableOf l) t Unsound) tables ≡ false
+  none-unsound = some-all (λ t. someIn (tableOf l) t Unsound) tables (λ t h. none-in t Unsound h (plain-sound t))
 
-  pub bands-lengthy : someIn l bands NotLengthy ≡ false
+  pub bands-lengthy : someIn (tableOf l) bands NotLengthy ≡ false
   bands-lengthy = none-in bands NotLengthy (omega arith) (λ r. plain-lengthy bands r (unfold longOf in refl))
 
-  pub segments-lengthy : someIn l segments NotLengthy ≡ false
+  pub segments-lengthy : someIn (tableOf l) segments NotLengthy ≡ false
   segments-lengthy = none-in segments NotLengthy (omega arith) (λ r. plain-lengthy segments r (unfold longOf in refl))
 
-  pub automatic-lengthy : someIn l automatic NotLengthy ≡ false
+  pub automatic-lengthy : someIn (tableOf l) automatic NotLengthy ≡ false
   automatic-lengthy = none-in automatic NotLengthy (omega arith) (λ r. plain-lengthy automatic r (unfold longOf in refl))
 
-  pub privileges-lengthy : someIn l privileges NotLengthy ≡ false
+  pub privileges-lengthy : someIn (tableOf l) privileges NotLengthy ≡ false
   privileges-lengthy = none-in privileges NotLengthy (omega arith) (λ r. plain-lengthy privileges r (unfold longOf in refl))
 
-  pub segments-limited : someIn l segments NoLimit ≡ false
+  pub segments-limited : someIn (tableOf l) segments NoLimit ≡ false
   segments-limited = none-in segments NoLimit (omega arith) plain-limited

@@ -11,6 +11,7 @@ ghost use lib.ListN.{length};
 ghost use Rattle.scan.specs.First.{first, some, isAt};
 ghost use Rattle.layout.specs.Layout.{recordAt, countOf};
 ghost use Rattle.layout.specs.Form.{Whole};
+ghost use Rattle.table.specs.Table.{tableOf};
 ghost use Rattle.find.specs.Question.{homelessOf};
 ghost use Rattle.plain.specs.Plain.{sizedOf, longOf, limitedOf, plainOf, roughFrom, isRough};
 ghost use Rattle.plain.specs.Quick.{rangeWithin, pointWithin, listedOf, privilegeWithin, Stretch};
@@ -271,7 +272,7 @@ fn home_near(s: &[u8], near: usize, low: u64, high: u64) -> Found
 // Whether a data segment of a plain table lies in no band.
 pub fn is_homeless(s: &[u8]) -> bool
     requires { ⌜ (Whole (now s)) × (isRough (now s) ≡ false) ⌝ }
-    ensures { λ x. ⌜ x ≡ homelessOf (now (s .entry)) false ⌝ }
+    ensures { λ x. ⌜ x ≡ homelessOf (tableOf (now (s .entry))) false ⌝ }
 {
     let start = layout::start_of(s, layout::SEGMENTS);
     let count = layout::count_of(s, layout::SEGMENTS) as usize;

@@ -458,7 +458,10 @@ fn fault_case(s: &[u8], at: usize, image: &[u8]) -> Told {
     let b = &s[at..end];
     let f = pamuklid::pamuklid_fault_of(image);
     let placed = f.refusal == byte(b, 0) && f.place == byte(b, 1);
-    ended(placed && (f.table == byte(b, 2) && f.record == word(b, 3)), end)
+    ended(
+        placed && (f.table == byte(b, 2) && f.record == word(b, 3)),
+        end,
+    )
 }
 
 fn case(s: &[u8], at: usize, image: &[u8]) -> Told {

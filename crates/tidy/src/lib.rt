@@ -6,6 +6,7 @@ use scan::Found;
 ghost use mathlib.Core.Path.{_≡_};
 ghost use Prim.Native.Nat.{_<_};
 ghost use Rattle.layout.specs.Form.{Whole};
+ghost use Rattle.table.specs.Table.{tableOf};
 ghost use Rattle.tidy.specs.Tidy.{pairQuestion, twoShare, tidyTable, tidyOf};
 
 pub enum Tidiness {
@@ -28,7 +29,7 @@ fn pair_question(classes: bool, r: Record) -> Question
 // Whether two records of table t share a stretch of positive length; with classes, two of one class.
 fn two_share(s: &[u8], t: usize, classes: bool) -> bool
     requires { ⌜ (Whole (now s)) × (t < 9) ⌝ }
-    ensures { λ r. ⌜ r ≡ twoShare (now (s .entry)) t classes ⌝ }
+    ensures { λ r. ⌜ r ≡ twoShare (tableOf (now (s .entry))) t classes ⌝ }
 {
     let start = layout::start_of(s, t);
     let count = layout::count_of(s, t) as usize;
@@ -47,7 +48,7 @@ fn two_share(s: &[u8], t: usize, classes: bool) -> bool
 // Whether the table of an accepted image is tidy.
 fn tidy_table(s: &[u8]) -> bool
     requires { ⌜ Whole (now s) ⌝ }
-    ensures { λ r. ⌜ r ≡ tidyTable (now (s .entry)) ⌝ }
+    ensures { λ r. ⌜ r ≡ tidyTable (tableOf (now (s .entry))) ⌝ }
 {
     if find::homeless(s, true) {
         return false;

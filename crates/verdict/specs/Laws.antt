@@ -32,64 +32,60 @@ use Rattle.occupancy.specs.declared.Edges.{Edges}
 use Rattle.station.specs.declared.Situation.{Situation}
 use Rattle.station.specs.declared.Figure.{Figure}
 use Rattle.station.specs.declared.Figure.the-variants.{Known, Absent}
-use Rattle.table.specs.Table.{Table, tableOf}
+use Rattle.layout.specs.declared.General.{General}
+use Rattle.table.specs.Table.{tableOf}
 use Rattle.decision.specs.Number.{noRule, §97-301, §97-109}
-use Rattle.decision.specs.Decision.{simpleOf}
-use Rattle.decision.specs.declared.Verdict.the-variants.{Blocked}
 use Rattle.decision.specs.declared.Code.the-variants.{Region, NoControl, NoLicense, NoSideband, NoDial}
-use Rattle.decision.specs.declared.Draft.{Draft}
-use Rattle.decision.specs.declared.Decision.{Decision}
-use Rattle.part97.specs.Part97.{judge}
-use Rattle.verdict.specs.Verdict.{withControl, withLicense, withSideband, withDial, caseOf, ruledOf, decideOf, besideValid, edgeTests, unlessRefused, evaluateOf}
+use Rattle.verdict.specs.declared.Ready.{Ready}
+use Rattle.verdict.specs.declared.Ready.the-variants.{Met, Missing}
+use Rattle.verdict.specs.Verdict.{withControl, withLicense, withSideband, withDial, caseOf, readyOf, decideOf, besideValid, edgeTests, unlessRefused, evaluateOf}
 
-module _ (table : Table) (s : Situation) (dial : Figure) (kind : EmissionKind) (direction : Direction) (audio : Range) (signal : Draft) where
+module _ (g : General) (s : Situation) (dial : Figure) (kind : EmissionKind) (direction : Direction) (audio : Range) where
   -- what is asked after each prerequisite
-  abbrev atDial : ControlMode → LicenseClass → Sideband → Figure → Decision
-  atDial control class sideband d =
-      withDial d (simpleOf signal Blocked NoDial noRule) (λ hz. judge table (caseOf s control class sideband hz kind direction audio))
+  abbrev atDial : ControlMode → LicenseClass → Sideband → Figure → Ready
+  atDial control class sideband d = withDial d (Missing NoDial noRule) (λ hz. Met (caseOf s control class sideband hz kind direction audio))
 
-  abbrev atSideband : ControlMode → LicenseClass → SidebandSet → Decision
-  atSideband control class set = withSideband set (simpleOf signal Blocked NoSideband noRule) (λ sideband. atDial control class sideband dial)
+  abbrev atSideband : ControlMode → LicenseClass → SidebandSet → Ready
+  atSideband control class set = withSideband set (Missing NoSideband noRule) (λ sideband. atDial control class sideband dial)
 
-  abbrev atLicense : ControlMode → License → Decision
-  atLicense control set = withLicense set (simpleOf signal Blocked NoLicense §97-301) (λ class. atSideband control class (s .sideband))
+  abbrev atLicense : ControlMode → License → Ready
+  atLicense control set = withLicense set (Missing NoLicense §97-301) (λ class. atSideband control class (s .sideband))
 
-  abbrev atControl : Control → Decision
-  atControl set = withControl set (simpleOf signal Blocked NoControl §97-109) (λ control. atLicense control (s .license))
+  abbrev atControl : Control → Ready
+  atControl set = withControl set (Missing NoControl §97-109) (λ control. atLicense control (s .license))
 
-  pub ruled-region : eqb (s .«itu_region») (table .general .region) ≡ false → simpleOf signal Blocked Region §97-301 ≡ ruledOf table s dial kind direction audio signal
-  unfolding ruledOf
-  ruled-region e = sym (cond-not (atControl (s .control)) _ e)
+  pub ready-region : eqb (s .«itu_region») (g .region) ≡ false → Missing Region §97-301 ≡ readyOf g s dial kind direction audio
+  unfolding readyOf
+  ready-region e = sym (cond-not (atControl (s .control)) _ e)
 
-  module _ (here : eqb (s .«itu_region») (table .general .region) ≡ true) where
-    pub ruled-control : s .control ≡ ControlAbsent → simpleOf signal Blocked NoControl §97-109 ≡ ruledOf table s dial kind direction audio signal
-    unfolding ruledOf
-    ruled-control c = sym (cond-yes (atControl (s .control)) _ here ∙ ap atControl c)
+  module _ (here : eqb (s .«itu_region») (g .region) ≡ true) where
+    pub ready-control : s .control ≡ ControlAbsent → Missing NoControl §97-109 ≡ readyOf g s dial kind direction audio
+    unfolding readyOf
+    ready-control c = sym (cond-yes (atControl (s .control)) _ here ∙ ap atControl c)
 
     module _ (control : ControlMode) (c : s .control ≡ ControlIs control) where
-      pub ruled-license : s .license ≡ LicenseAbsent → simpleOf signal Blocked NoLicense §97-301 ≡ ruledOf table s dial kind direction audio signal
-      unfolding ruledOf
-      ruled-license l = sym (cond-yes (atControl (s .control)) _ here ∙ ap atControl c ∙ ap (atLicense control) l)
+      pub ready-license : s .license ≡ LicenseAbsent → Missing NoLicense §97-301 ≡ readyOf g s dial kind direction audio
+      unfolding readyOf
+      ready-license l = sym (cond-yes (atControl (s .control)) _ here ∙ ap atControl c ∙ ap (atLicense control) l)
 
       module _ (class : LicenseClass) (l : s .license ≡ LicenseIs class) where
-        pub ruled-sideband : s .sideband ≡ SidebandAbsent → simpleOf signal Blocked NoSideband noRule ≡ ruledOf table s dial kind direction audio signal
-        unfolding ruledOf
-        ruled-sideband b = sym (cond-yes (atControl (s .control)) _ here ∙ ap atControl c ∙ ap (atLicense control) l ∙ ap (atSideband control class) b)
+        pub ready-sideband : s .sideband ≡ SidebandAbsent → Missing NoSideband noRule ≡ readyOf g s dial kind direction audio
+        unfolding readyOf
+        ready-sideband b = sym (cond-yes (atControl (s .control)) _ here ∙ ap atControl c ∙ ap (atLicense control) l ∙ ap (atSideband control class) b)
 
         module _ (sideband : Sideband) (b : s .sideband ≡ SidebandIs sideband) where
-          pub ruled-dial : dial ≡ Absent → simpleOf signal Blocked NoDial noRule ≡ ruledOf table s dial kind direction audio signal
-          unfolding ruledOf
-          ruled-dial d =
-              sym
-              (cond-yes (atControl (s .control)) _ here ∙ ap atControl c ∙ ap (atLicense control) l ∙ ap (atSideband control class) b
-              ∙ ap (atDial control class sideband) d)
+          at-dial : (d : Figure) → dial ≡ d → readyOf g s dial kind direction audio ≡ atDial control class sideband d
+          unfolding readyOf
+          at-dial d e =
+              cond-yes (atControl (s .control)) _ here ∙ ap atControl c ∙ ap (atLicense control) l ∙ ap (atSideband control class) b
+              ∙ ap (atDial control class sideband) e
 
-          pub ruled-met : (hz : Float) → dial ≡ Known hz → judge table (caseOf s control class sideband hz kind direction audio) ≡ ruledOf table s dial kind direction audio signal
-          unfolding ruledOf
-          ruled-met hz d =
-              sym
-              (cond-yes (atControl (s .control)) _ here ∙ ap atControl c ∙ ap (atLicense control) l ∙ ap (atSideband control class) b
-              ∙ ap (atDial control class sideband) d)
+          pub ready-dial : dial ≡ Absent → Missing NoDial noRule ≡ readyOf g s dial kind direction audio
+          ready-dial d = sym (at-dial Absent d)
+
+          pub ready-met :
+              (hz : Float) → dial ≡ Known hz → Met (caseOf s control class sideband hz kind direction audio) ≡ readyOf g s dial kind direction audio
+          ready-met hz d = sym (at-dial (Known hz) d)
 
 -- Accepted under Rules, a call's image is whole.
 rules-code : (n : ℕ) → policyOf n ≡ Rules → eqb n 2 ≡ true

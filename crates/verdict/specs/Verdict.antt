@@ -34,6 +34,7 @@ use Rattle.station.specs.declared.StationRecord.{StationRecord}
 use Rattle.station.specs.declared.Situation.{Situation}
 use Rattle.station.specs.declared.Figure.{Figure}
 use Rattle.station.specs.declared.Figure.the-variants.{Known, Absent}
+use Rattle.layout.specs.declared.General.{General}
 use Rattle.table.specs.Parts.{readingOf}
 use Rattle.table.specs.Table.{Table, tableOf}
 use Rattle.automatic_97_221.specs.Automatic.{appliesOf}
@@ -52,6 +53,8 @@ use Rattle.decision.specs.declared.Draft.{Draft}
 use Rattle.decision.specs.declared.Decision.{Decision}
 use Rattle.part97.specs.Part97.{judge}
 use Rattle.part97.specs.declared.Case.{Case}
+use Rattle.verdict.specs.declared.Ready.{Ready}
+use Rattle.verdict.specs.declared.Ready.the-variants.{Met, Missing}
 
 -- the range on the air, where dial and sideband are known
 unfoldable pub airOf : Figure → SidebandSet → Range → MaybeRange
@@ -90,40 +93,46 @@ caseOf s control class sideband dial kind direction audio =
       «band_plan» = s .«band_plan»;
     }
 
--- "Prerequisites in order: region, control, licence, sideband, dial." Each stops at the first one missing.
-abbrev pub withControl : Control → Decision → (ControlMode → Decision) → Decision
+-- "Prerequisites in order: region, control, licence, sideband, dial." The walk stops at the first one missing, with its code and rule.
+abbrev pub withControl : Control → Ready → (ControlMode → Ready) → Ready
 withControl (ControlIs control) missing next = next control
 withControl ControlAbsent missing next = missing
 
-abbrev pub withLicense : License → Decision → (LicenseClass → Decision) → Decision
+abbrev pub withLicense : License → Ready → (LicenseClass → Ready) → Ready
 withLicense (LicenseIs class) missing next = next class
 withLicense LicenseAbsent missing next = missing
 
-abbrev pub withSideband : SidebandSet → Decision → (Sideband → Decision) → Decision
+abbrev pub withSideband : SidebandSet → Ready → (Sideband → Ready) → Ready
 withSideband (SidebandIs sideband) missing next = next sideband
 withSideband SidebandAbsent missing next = missing
 
-abbrev pub withDial : Figure → Decision → (Float → Decision) → Decision
+abbrev pub withDial : Figure → Ready → (Float → Ready) → Ready
 withDial (Known dial) missing next = next dial
 withDial Absent missing next = missing
 
--- the verdict under an accepted table, at a dial
-unfoldable pub ruledOf : Table → Situation → Figure → EmissionKind → Direction → Range → Draft → Decision
-ruledOf table s dial kind direction audio signal =
-    cond (eqb (s .«itu_region») (table .general .region))
-    (withControl (s .control) (simpleOf signal Blocked NoControl §97-109)
+-- the case to judge at a dial, or what is missing
+unfoldable pub readyOf : General → Situation → Figure → EmissionKind → Direction → Range → Ready
+readyOf g s dial kind direction audio =
+    cond (eqb (s .«itu_region») (g .region))
+    (withControl (s .control) (Missing NoControl §97-109)
     (λ control.
-    withLicense (s .license) (simpleOf signal Blocked NoLicense §97-301)
+    withLicense (s .license) (Missing NoLicense §97-301)
     (λ class.
-    withSideband (s .sideband) (simpleOf signal Blocked NoSideband noRule)
+    withSideband (s .sideband) (Missing NoSideband noRule)
     (λ sideband.
-    withDial dial (simpleOf signal Blocked NoDial noRule)
-    (λ hz. judge table (caseOf s control class sideband hz kind direction audio))))))
-    (simpleOf signal Blocked Region §97-301)
+    withDial dial (Missing NoDial noRule)
+    (λ hz. Met (caseOf s control class sideband hz kind direction audio))))))
+    (Missing Region §97-301)
 
--- under Rules by the table's reading of bandwidth
+-- Part 97 judges a case; what is missing blocks
+abbrev pub judgedOf : Table → Draft → Ready → Decision
+judgedOf table signal (Met c) = judge table c
+judgedOf table signal (Missing code rule) = simpleOf signal Blocked code rule
+
+-- the verdict under an accepted table, at a dial
 unfoldable pub underRulesOf : Table → Situation → Figure → EmissionKind → Direction → Range → Decision
-underRulesOf table s dial kind direction audio = ruledOf table s dial kind direction audio (signalOf dial (s .sideband) audio)
+underRulesOf table s dial kind direction audio =
+    judgedOf table (signalOf dial (s .sideband) audio) (readyOf (table .general) s dial kind direction audio)
 
 -- without a table the policy alone decides, and the reading is Wider
 unfoldable pub unruledOf : Situation → Figure → Edges → Verdict → Code → Decision

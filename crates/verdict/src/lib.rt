@@ -17,6 +17,7 @@ use decision::Draft;
 use decision::JudgedSegment;
 use decision::MaybeRange;
 use decision::Verdict;
+use layout::General;
 use occupancy::Edges;
 use occupancy::Reading;
 use part97::Case;
@@ -27,8 +28,15 @@ use station::StationRecord;
 ghost use mathlib.Core.Path.{_≡_};
 ghost use Rattle.codes.specs.Refusal.{refusalOf};
 ghost use Rattle.layout.specs.Form.{Whole};
+ghost use Rattle.layout.specs.Layout.{generalOf};
 ghost use Rattle.table.specs.Table.{tableOf};
-ghost use Rattle.verdict.specs.Verdict.{airOf, signalOf, caseOf, ruledOf, underRulesOf, unruledOf, decideOf, besideValid, evaluateTests, evaluateOf, unmeasuredOf};
+ghost use Rattle.verdict.specs.Verdict.{airOf, signalOf, caseOf, readyOf, underRulesOf, unruledOf, decideOf, besideValid, evaluateTests, evaluateOf, unmeasuredOf};
+
+// What the prerequisites leave: a case to judge, or what is missing, as a reason and its rule.
+pub enum Ready {
+    Met(Case),
+    Missing(Code, u16),
+}
 
 // The range on the air, where dial and sideband are known.
 fn air_of(dial: Figure, sideband: SidebandSet, audio: Range) -> MaybeRange
@@ -91,78 +99,62 @@ pub fn case_of(
     }
 }
 
-// Under an accepted table, at a dial: the prerequisites in order, then Part 97.
-fn ruled(
-    image: &[u8],
+// The prerequisites in order: the case to judge at a dial, or the first that is missing, with its rule.
+pub fn ready(
+    g: General,
     s: Situation,
     dial: Figure,
     kind: EmissionKind,
     direction: Direction,
     audio: Range,
-    signal: Draft,
-) -> Decision
-    requires { ⌜ Whole (now image) ⌝ }
-    ensures { λ x. ⌜ x ≡ ruledOf (tableOf (now (image .entry))) s dial kind direction audio signal ⌝ }
+) -> Ready
+    ensures { λ x. ⌜ x ≡ readyOf g s dial kind direction audio ⌝ }
 {
-    let g = layout::general_of(image);
     if s.itu_region != g.region {
-        return decision::simple(
-            signal,
-            Verdict::Blocked,
-            Code::Region,
-            decision::RULE_97_301,
-        );
+        return Ready::Missing(Code::Region, decision::RULE_97_301);
     }
     let control_set = s.control;
     let license_set = s.license;
     let sideband_set = s.sideband;
     let Control::ControlIs(control) = control_set else {
-        return decision::simple(
-            signal,
-            Verdict::Blocked,
-            Code::NoControl,
-            decision::RULE_97_109,
-        );
+        return Ready::Missing(Code::NoControl, decision::RULE_97_109);
     };
     let License::LicenseIs(class) = license_set else {
-        return decision::simple(
-            signal,
-            Verdict::Blocked,
-            Code::NoLicense,
-            decision::RULE_97_301,
-        );
+        return Ready::Missing(Code::NoLicense, decision::RULE_97_301);
     };
     let SidebandSet::SidebandIs(sideband) = sideband_set else {
-        return decision::simple(
-            signal,
-            Verdict::Blocked,
-            Code::NoSideband,
-            decision::NO_RULE,
-        );
+        return Ready::Missing(Code::NoSideband, decision::NO_RULE);
     };
     let Figure::Known(hz) = dial else {
-        return decision::simple(signal, Verdict::Blocked, Code::NoDial, decision::NO_RULE);
+        return Ready::Missing(Code::NoDial, decision::NO_RULE);
     };
-    let c = case_of(s, control, class, sideband, hz, kind, direction, audio);
-    let f = judge::judge_case(image, c);
-    judge::conclude(image, c, f)
+    Ready::Met(case_of(s, control, class, sideband, hz, kind, direction, audio))
 }
 
-// Under Rules.
+// Under Rules: Part 97 judges the case, and what is missing blocks.
 fn under_rules(
     image: &[u8],
+    g: General,
     s: Situation,
     dial: Figure,
     kind: EmissionKind,
     direction: Direction,
     audio: Range,
 ) -> Decision
-    requires { ⌜ Whole (now image) ⌝ }
+    requires { ⌜ (Whole (now image)) × (g ≡ generalOf (now image)) ⌝ }
     ensures { λ x. ⌜ x ≡ underRulesOf (tableOf (now (image .entry))) s dial kind direction audio ⌝ }
 {
-    let sideband = s.sideband;
-    let signal = signal_of(dial, sideband, audio);
-    ruled(image, s, dial, kind, direction, audio, signal)
+    match ready(g, s, dial, kind, direction, audio) {
+        Ready::Met(c) => {
+            let f = judge::judge_case(image, c);
+            judge::conclude(image, c, f)
+        }
+        Ready::Missing(code, rule) => {
+            let sideband = s.sideband;
+            let signal = signal_of(dial, sideband, audio);
+            decision::simple(signal, Verdict::Blocked, code, rule)
+        }
+    }
 }
 
 // Without a table, by the wider reading: the policy alone decides.
@@ -194,7 +186,7 @@ pub fn decide(
         Policy::Rules => {
             let g = layout::general_of(image);
             let audio = e.range(table::reading_of(g));
-            under_rules(image, s, dial, kind, direction, audio)
+            under_rules(image, g, s, dial, kind, direction, audio)
         }
         Policy::Broken => unruled(s, dial, e, Verdict::Blocked, Code::ProfileBroken),
     }

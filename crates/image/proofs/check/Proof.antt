@@ -2,6 +2,7 @@
 use mathlib.Core.Path.{sym, _∙_}
 use Rattle.codes.specs.Refusal.{refusal-next, refusal-stays}
 use Rattle.layout.specs.Form.{formTests, whole-of}
+use Rattle.table.specs.Table.{tableOf}
 use Rattle.image.specs.Check.{contentTests, checkOf}
 use borrow.Author.Needs.{needs}
 use Rattle.image.proofs.check.Statement.{statement}
@@ -23,14 +24,14 @@ returns : tie.Need-returns
 unfolding checkOf
 returns c =
     let l = c .before .before .before .before .before .args .s .now in
-    sym (refusal-stays (formTests l) (contentTests l) _ (sym (c .before .before .before .form .ensures) ∙ c .before .n .given .1))
+    sym (refusal-stays (formTests l) (contentTests (tableOf l)) _ (sym (c .before .before .before .form .ensures) ∙ c .before .n .given .1))
 
 returns-2 : tie.Need-returns-2
 unfolding checkOf
 returns-2 c =
     let l = c .before .before .before .before .before .args .s .now in
     c .content .ensures
-    ∙ sym (refusal-next (formTests l) (contentTests l) (sym (c .before .before .before .form .ensures) ∙ c .before .enum-told .given .1))
+    ∙ sym (refusal-next (formTests l) (contentTests (tableOf l)) (sym (c .before .before .before .form .ensures) ∙ c .before .enum-told .given .1))
 
 pub check-spec : {M : Type 1} → statement M
 check-spec =

@@ -1,4 +1,5 @@
 -- `image::is_unsound` meets its contract: on each way to a return, the tests and what the calls ensure say which case of the definition holds.
+use Rattle.table.specs.Table.{tableOf}
 use Rattle.image.specs.Check.{unsound, unsoundIn}
 use Prim.Native.Nat.{_-_}
 use Rattle.layout.specs.Layout.{tables}
@@ -9,7 +10,7 @@ use Rattle.image.proofs.is_unsound.Statement.{statement}
 use Rattle.image.proofs.is_unsound.Tie as tie
 
 abbrev Inv-loop : tie.InvT-loop
-Inv-loop s t₀ t = Passed (unsoundIn s) tables t
+Inv-loop s t₀ t = Passed (unsoundIn (tableOf s)) tables t
 
 abbrev μ-loop : tie.MeasureT-loop
 μ-loop s t₀ t = tables - t

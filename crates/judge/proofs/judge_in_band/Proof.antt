@@ -1,4 +1,8 @@
 -- `judge::judge_in_band` meets its contract: on each way to a return, the tests and what the calls ensure say which case of the definition holds.
+use mathlib.Core.Path.{ap, _∙_}
+use Rattle.table.specs.Parts.{channelsOf}
+use Rattle.table.specs.Table.{tableOf}
+use Rattle.part97.specs.Part97.{judgeOnBand}
 use Rattle.part97.specs.Finding.{on-band}
 use Rattle.judge.specs.Way.{in-band-by}
 use borrow.Author.Needs.{needs}
@@ -35,12 +39,13 @@ returns c =
 
 returns-2 : tie.Need-returns-2
 returns-2 c =
+    let a = c .before .before .before .before .before .before .before in
     rw (in-band-by _ _ _)
     (rw (← c .before .before .before .closed-by .ensures)
     (rw (c .before .enum-told .given .1)
-    (rw (← c .before .before .before .before .before .general-of .ensures)
-    (rw (← c .before .before .before .before .channels-of .ensures)
-    (c .judge-on-band .ensures)))))
+    (c .judge-on-band .ensures
+    ∙ ap (judgeOnBand (tableOf (a .args .s .now)) (a .args .c) (a .args .band))
+    (c .before .before .before .before .channels-of .ensures ∙ ap channelsOf (c .before .before .before .before .before .general-of .ensures)))))
 
 pub judge-in-band-spec : {M : Type 1} → statement M
 judge-in-band-spec =

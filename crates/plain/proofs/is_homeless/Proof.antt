@@ -8,13 +8,14 @@ use borrow.Author.Needs.{needs}
 use Rattle.layout.specs.Layout.{recordSize, trailerSize, segments, countOf, startOf}
 use Rattle.layout.specs.Form.{table-within}
 use Rattle.scan.specs.First.{isAt, Passed, passed-none, passed-step, some-here, some-none}
+use Rattle.table.specs.Table.{tableOf}
 use Rattle.find.specs.Question.{homelessAt}
 use Rattle.plain.specs.Home.{held-some}
 use Rattle.plain.proofs.is_homeless.Statement.{statement}
 use Rattle.plain.proofs.is_homeless.Tie as tie
 
 abbrev Inv-loop : tie.InvT-loop
-Inv-loop s start count near₀ i₀ near i = Passed (homelessAt s false) count i
+Inv-loop s start count near₀ i₀ near i = Passed (homelessAt (tableOf s) false) count i
 
 abbrev μ-loop : tie.MeasureT-loop
 μ-loop s start count near₀ i₀ near i = count - i
@@ -23,7 +24,7 @@ within : (c : tie.Start Inv-loop μ-loop) → startOf (c .args .s .now) segments
 within c = table-within (c .args .s .now) (c .pre .0) segments (omega arith)
 
 -- what a turn asked of segment i
-asked : (c : tie.After-home-near Inv-loop μ-loop) → not (isAt (c .home-near .result)) ≡ homelessAt (c .before .before .before .before .before .before .before .before .args .s .now) false (c .before .before .before .before .loop .i)
+asked : (c : tie.After-home-near Inv-loop μ-loop) → not (isAt (c .home-near .result)) ≡ homelessAt (tableOf (c .before .before .before .before .before .before .before .before .args .s .now)) false (c .before .before .before .before .loop .i)
 asked c =
     rw (c .home-near .ensures)
     (rw (c .before .high-at .ensures)

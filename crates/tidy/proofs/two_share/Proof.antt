@@ -6,13 +6,14 @@ use borrow.Author.Needs.{needs}
 use Rattle.layout.specs.Layout.{recordSize, trailerSize, countOf, startOf}
 use Rattle.layout.specs.Form.{table-within}
 use Rattle.scan.specs.First.{Passed, isAt, passed-none, passed-step, some-here, some-none}
-use Rattle.tidy.specs.Tidy.{twoShare, sharesEarlier}
+use Rattle.table.specs.Table.{tableOf, count-in}
+use Rattle.tidy.specs.Tidy.{twoShare, sharesEarlier, earlier-in}
 use native.Mathlib.Omega.{arith}
 use Rattle.tidy.proofs.two_share.Statement.{statement}
 use Rattle.tidy.proofs.two_share.Tie as tie
 
 abbrev Inv-loop : tie.InvT-loop
-Inv-loop s t classes start count j₀ j = Passed (sharesEarlier s t classes) count j
+Inv-loop s t classes start count j₀ j = Passed (sharesEarlier (tableOf s) t classes) count j
 
 abbrev μ-loop : tie.MeasureT-loop
 μ-loop s t classes start count j₀ j = count - j
@@ -21,12 +22,13 @@ within : (c : tie.Start Inv-loop μ-loop) → startOf (c .args .s .now) (c .args
 within c = table-within (c .args .s .now) (c .pre .0) (c .args .t) (c .pre .1)
 
 -- what a turn asked of the records before record j
-asked : (c : tie.After-find-from Inv-loop μ-loop) → isAt (c .find-from .result) ≡ sharesEarlier (c .before .before .before .before .before .before .before .before .args .s .now) (c .before .before .before .before .before .before .before .before .args .t) (c .before .before .before .before .before .before .before .before .args .classes) (c .before .before .before .before .loop .j)
+asked : (c : tie.After-find-from Inv-loop μ-loop) → isAt (c .find-from .result) ≡ sharesEarlier (tableOf (c .before .before .before .before .before .before .before .before .args .s .now)) (c .before .before .before .before .before .before .before .before .args .t) (c .before .before .before .before .before .before .before .before .args .classes) (c .before .before .before .before .loop .j)
 asked c =
-    rw (c .find-from .ensures)
-    (rw (c .before .pair-question .ensures)
-    (rw (c .before .before .record-at .ensures)
-    (rw (c .before .before .before .before .before .before .start-of .ensures))))
+    let a = c .before .before .before .before .before .before .before .before in
+    earlier-in (a .args .s .now) (a .args .t) (a .args .classes) (c .before .before .before .before .loop .j) _ _ _ _ (a .pre .1)
+    (omega (arith, c .before .before .before .before .before .count-of .ensures, c .before .before .before .loop-test .taken))
+    (c .before .before .before .before .before .before .start-of .ensures) (c .before .before .record-at .ensures) (c .before .pair-question .ensures)
+    (c .find-from .ensures)
 
 start-of-requires : tie.Need-start-of-requires Inv-loop μ-loop
 start-of-requires c κs = omega (arith, c .before .pre .0 .sized)
@@ -61,8 +63,10 @@ enum-told c = search needs
 returns : tie.Need-returns Inv-loop μ-loop
 unfolding twoShare
 returns c =
-    rw (← c .before .before .before .before .before .before .before .count-of .ensures)
-    (some-here _ _ _ (c .before .before .before .before .before .loop-test .taken) (c .before .before .before .before .before .before .loop .inv) (rw (← asked (c .before .before)) (ap isAt (c .enum-told .given .1))))
+    let a = c .before .before .before .before .before .before .before .before .before .before in
+    rw (count-in (a .args .s .now) (a .args .t) (a .pre .1))
+    (rw (← c .before .before .before .before .before .before .before .count-of .ensures)
+    (some-here _ _ _ (c .before .before .before .before .before .loop-test .taken) (c .before .before .before .before .before .before .loop .inv) (rw (← asked (c .before .before)) (ap isAt (c .enum-told .given .1)))))
 
 enum-told-2 : tie.Need-enum-told-2 Inv-loop μ-loop
 enum-told-2 c = search needs
@@ -79,7 +83,10 @@ loop-again c =
 
 returns-2 : tie.Need-returns-2 Inv-loop μ-loop
 unfolding twoShare
-returns-2 c = rw (← c .before .before .count-of .ensures) (some-none _ _ _ (c .loop-test .left) (c .before .loop .inv))
+returns-2 c =
+    let a = c .before .before .before .before .before in
+    rw (count-in (a .args .s .now) (a .args .t) (a .pre .1))
+    (rw (← c .before .before .count-of .ensures) (some-none _ _ _ (c .loop-test .left) (c .before .loop .inv)))
 
 pub two-share-spec : {M : Type 1} → statement M
 two-share-spec =
