@@ -33,12 +33,17 @@ use Rattle.station.specs.declared.Situation.{Situation}
 use Rattle.station.specs.declared.Figure.{Figure}
 use Rattle.station.specs.declared.Figure.the-variants.{Known, Absent}
 use Rattle.layout.specs.declared.General.{General}
-use Rattle.table.specs.Table.{tableOf}
+use Rattle.table.specs.Table.{Table, tableOf}
+use Rattle.decision.specs.Decision.{simpleOf}
+use Rattle.decision.specs.declared.Verdict.the-variants.{Blocked}
+use Rattle.decision.specs.declared.Code.{Code}
+use Rattle.part97.specs.Part97.{judge}
+use Rattle.part97.specs.declared.Case.{Case}
 use Rattle.decision.specs.Number.{noRule, §97-301, §97-109}
 use Rattle.decision.specs.declared.Code.the-variants.{Region, NoControl, NoLicense, NoSideband, NoDial}
 use Rattle.verdict.specs.declared.Ready.{Ready}
 use Rattle.verdict.specs.declared.Ready.the-variants.{Met, Missing}
-use Rattle.verdict.specs.Verdict.{withControl, withLicense, withSideband, withDial, caseOf, readyOf, decideOf, besideValid, edgeTests, unlessRefused, evaluateOf}
+use Rattle.verdict.specs.Verdict.{withControl, withLicense, withSideband, withDial, signalOf, caseOf, readyOf, judgedOf, underRulesOf, decideOf, besideValid, edgeTests, unlessRefused, evaluateOf}
 
 module _ (g : General) (s : Situation) (dial : Figure) (kind : EmissionKind) (direction : Direction) (audio : Range) where
   -- what is asked after each prerequisite
@@ -86,6 +91,19 @@ module _ (g : General) (s : Situation) (dial : Figure) (kind : EmissionKind) (di
           pub ready-met :
               (hz : Float) → dial ≡ Known hz → Met (caseOf s control class sideband hz kind direction audio) ≡ readyOf g s dial kind direction audio
           ready-met hz d = sym (at-dial (Known hz) d)
+
+-- Under Rules, by what the prerequisites leave.
+module _ (table : Table) (s : Situation) (dial : Figure) (kind : EmissionKind) (direction : Direction) (audio : Range) where
+  pub under-met :
+      (c : Case) → readyOf (table .general) s dial kind direction audio ≡ Met c → judge table c ≡ underRulesOf table s dial kind direction audio
+  unfolding underRulesOf
+  under-met c e = ap (judgedOf table (signalOf dial (s .sideband) audio)) (sym e)
+
+  pub under-missing :
+      (code : Code) (rule : ℕ) → readyOf (table .general) s dial kind direction audio ≡ Missing code rule
+      → simpleOf (signalOf dial (s .sideband) audio) Blocked code rule ≡ underRulesOf table s dial kind direction audio
+  unfolding underRulesOf
+  under-missing code rule e = ap (judgedOf table (signalOf dial (s .sideband) audio)) (sym e)
 
 -- Accepted under Rules, a call's image is whole.
 rules-code : (n : ℕ) → policyOf n ≡ Rules → eqb n 2 ≡ true

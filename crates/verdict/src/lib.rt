@@ -100,7 +100,7 @@ pub fn case_of(
 }
 
 // The prerequisites in order: the case to judge at a dial, or the first that is missing, with its rule.
-pub fn ready(
+pub fn prepare(
     g: General,
     s: Situation,
     dial: Figure,
@@ -144,7 +144,7 @@ fn under_rules(
     requires { ⌜ (Whole (now image)) × (g ≡ generalOf (now image)) ⌝ }
     ensures { λ x. ⌜ x ≡ underRulesOf (tableOf (now (image .entry))) s dial kind direction audio ⌝ }
 {
-    match ready(g, s, dial, kind, direction, audio) {
+    match prepare(g, s, dial, kind, direction, audio) {
         Ready::Met(c) => {
             let f = judge::judge_case(image, c);
             judge::conclude(image, c, f)

@@ -10,6 +10,9 @@ rf-range-requires c κs = search needs
 guarded-requires : tie.Need-guarded-requires
 guarded-requires c κs = search needs
 
+unguarded-requires : tie.Need-unguarded-requires
+unguarded-requires c κs = search needs
+
 applies-requires : tie.Need-applies-requires
 applies-requires c κs = search needs
 
@@ -19,11 +22,12 @@ width-requires c κs = search needs
 returns : tie.Need-returns
 unfolding caseOf
 returns c =
-    rw (← c .before .before .before .rf-range .ensures)
-    (rw (← c .before .before .guarded .ensures)
-    (rw (← c .before .applies .ensures)
-    (rw (c .width .ensures))))
+    rw (c .width .ensures)
+    (rw (c .before .applies .ensures)
+    (rw (c .before .before .unguarded .ensures)
+    (rw (c .before .before .before .guarded .ensures)
+    (rw (c .before .before .before .before .rf-range .ensures)))))
 
 pub case-of-spec : {M : Type 1} → statement M
 case-of-spec =
-    tie.close (tie.spec rf-range-requires guarded-requires applies-requires width-requires returns)
+    tie.close (tie.spec rf-range-requires guarded-requires unguarded-requires applies-requires width-requires returns)
