@@ -1,6 +1,6 @@
 //! docs/DIFFERENCES.md on both sides: each item's input, and the whole answer that the Rust gives,
-//! worked out by hand from document 01 and READINGS.md. Rust and library are compared on each as on
-//! every other case; then the agreed answer must be the one written here, every part of it.
+//! worked out by hand from document 01 and that page's table. Rust and library are compared on each
+//! as on every other case; then the agreed answer must be the one written here, every part of it.
 
 use crate::Run;
 use crate::distance::Asked as Asking;
@@ -64,6 +64,13 @@ impl Answer {
     fn above_segment_watts(self) -> Self {
         Self(Decision { note_segment_power: 1, ..self.0 })
     }
+
+    /// The note on the first power record.
+    fn noted(self) -> Self {
+        let mut d = self.0;
+        d.notes[0] = 1;
+        Self(d)
+    }
 }
 
 fn verdict(a: &mut Asked, what: &str, dial: f64, want: Answer) {
@@ -100,7 +107,7 @@ fn distance(a: &mut Asked, what: &str, rows: &[u8], dial: f64, want: Option<f64>
     }
 }
 
-/// Extra, region 0, local, upper sideband, originating data: as READINGS.md's examples.
+/// Extra, region 0, local, upper sideband, originating data: that page's station.
 fn on(run: &mut Run, table: Table, margin: f64, edges: (f64, f64)) -> Asked<'_> {
     asked(run, table, 4, 0, margin, edges)
 }
@@ -128,6 +135,9 @@ pub fn run(run: &mut Run) {
     ends_and_grid(run);
     believed(run);
     more_on_sixty(run);
+    either_sign(run);
+    data_alone(run);
+    region(run);
     demand_3(run);
 }
 
@@ -276,7 +286,7 @@ fn believed(run: &mut Run) {
     verdict(&mut a, "10: above 9.15 W", 30.0, want);
 }
 
-/// 11 to 13: where list and verdict part on 60 m besides.
+/// 11 to 14: where list and verdict part on 60 m besides.
 fn more_on_sixty(run: &mut Run) {
     let mut a = on(run, sixty(), 0.0, SHORT);
     a.table.flags |= HAS_EMISSIONS;
@@ -297,6 +307,75 @@ fn more_on_sixty(run: &mut Run) {
     verdict(&mut a, "13: a channel in the segment comes first", 40.0, want);
     let channel = (45.0, 55.0, 48.0, 48.0, 1, 10);
     list(&mut a, "13: the segment's row isn't cut", &[SEGMENT_ROW, channel]);
+
+    let mut a = on(run, sixty(), 2.0, SHORT);
+    a.table.tables[PRIVILEGES][0].low = 30.0;
+    let want = answer(LEGAL, 25, 13, SHORT, (31.0, 36.0)).band(1).segment(20.0, 80.0, 13);
+    verdict(&mut a, "14: the privilege holds the signal alone", 31.0, want);
+    let want = answer(BLOCKED, 15, 1, SHORT, (29.875, 34.875)).band(1);
+    verdict(&mut a, "14: it must hold the signal", 29.875, want);
+    let row = (30.0, 80.0, 32.0, 73.0, 1, 13);
+    list(&mut a, "14: the row keeps the margin", &[row, CHANNEL_ROW]);
+}
+
+/// 15 and 16.
+fn either_sign(run: &mut Run) {
+    let edges = (0.0, 10.0);
+    let mut a = on(run, small(), -3.0, edges);
+    let want = answer(LEGAL, 16, 13, edges, (18.0, 28.0)).band(1).segment(20.0, 80.0, 13);
+    verdict(&mut a, "15: a margin below nought", 18.0, want);
+    list(&mut a, "15: its row", &[(20.0, 80.0, 17.0, 73.0, 1, 13)]);
+
+    let mut a = on(run, small(), 0.0, (90.0, 10.0));
+    let want = answer(LEGAL, 16, 13, (90.0, 10.0), (90.0, 10.0)).band(1);
+    verdict(&mut a, "16: low above high", 0.0, want.segment(20.0, 80.0, 13));
+    list(&mut a, "16: its row", &[(20.0, 80.0, -70.0, 70.0, 1, 13)]);
+    a.edges = (200.0, -200.0);
+    let want = answer(LEGAL, 16, 13, (200.0, -200.0), (200.0, -200.0)).band(1);
+    verdict(&mut a, "16: neither edge in a band", 0.0, want.segment(20.0, 80.0, 13));
+}
+
+/// 17 and 18.
+fn data_alone(run: &mut Run) {
+    let lawful = |rule| answer(LEGAL, 16, rule, SHORT, (30.0, 35.0)).band(1);
+    let mut a = on(run, small(), 0.0, SHORT);
+    a.table.tables[POWER].push(Record { figure: 10.0, rule: 21, ..span(0.0, 100.0) });
+    (a.s.power_known, a.s.power_w) = (1, 1000.0);
+    verdict(&mut a, "17: data is warned", 30.0, in_segment(WARNING, 16, 13).noted());
+    a.kind = 1;
+    verdict(&mut a, "17: CW isn't", 30.0, lawful(3));
+    a.kind = 2;
+    verdict(&mut a, "17: a test emission isn't", 30.0, lawful(4));
+    let mut a = on(run, sixty(), 0.0, SHORT);
+    a.table.tables[POWER].push(Record { figure: 5.0, rule: 21, ..span(0.0, 100.0) });
+    (a.s.power_known, a.s.power_w) = (1, 50.0);
+    verdict(&mut a, "17: data on a channel isn't", 88.0, on_channel(LEGAL));
+    a.s.power_w = 9.0;
+    verdict(&mut a, "17: data in the 60 m segment isn't", 30.0, in_segment(LEGAL, 25, 13));
+
+    let mut a = on(run, small(), 0.0, SHORT);
+    a.s.control = 2;
+    verdict(&mut a, "18: automatic data", 30.0, in_segment(BLOCKED, 18, 9));
+    for (kind, rule) in [(1, 3), (2, 4), (3, 1)] {
+        a.kind = kind;
+        verdict(&mut a, "18: automatic CW, test and nothing", 30.0, lawful(rule));
+    }
+    a.table.tables[EXCLUDED].push(Record { band: 1, rule: 20, ..Record::default() });
+    for kind in 0..4 {
+        a.kind = kind;
+        let want = answer(BLOCKED, 11, 20, SHORT, (30.0, 35.0)).band(1);
+        verdict(&mut a, "18: unless the band is excluded", 30.0, want);
+    }
+}
+
+/// 19, which drops a premise of demand 3 as well: the prerequisites.
+fn region(run: &mut Run) {
+    let mut a = on(run, small(), 0.0, SHORT);
+    a.s.itu_region = 9;
+    let want = answer(BLOCKED, 5, 1, SHORT, (30.0, 35.0));
+    verdict(&mut a, "19: another region", 30.0, want);
+    let rows = list(&mut a, "19: the list doesn't ask", &[SEGMENT_ROW]);
+    distance(&mut a, "19: nought, but blocked", &rows, 30.0, Some(0.0));
 }
 
 /// Demand 3 with its premises met, and an input that breaks it once one is dropped.

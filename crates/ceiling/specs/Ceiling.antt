@@ -4,6 +4,7 @@ use Prim.Native.Nat.{ℕ, zero, suc, _+_, _*_, _/_, _%_}
 use mathlib.Core.Bool.{Bool, true, false, not, cond, _||_}
 use mathlib.Core.List.{List, [], _∷_, _++_}
 use lib.Dec.{eqb, ltb}
+use lib.IntN.{ℤ, pos, negsuc}
 use lib.ListN.{length, getD}
 use lib.Ieee.{Float, nan}
 use Rattle.figures.specs.Figure.{limit40, inSize}
@@ -58,7 +59,7 @@ abbrev pub joinedOf : Envelope → Edges → Edges
 joinedOf (Reached e) more = unionOf e more
 joinedOf Unreached more = more
 
--- an absent decision: that of refusal 0, which no input meets
+-- an absent decision is Blocked, with refusal 0, which no input meets: nobody may take it for a permission
 abbrev pub noDecision : Decision
 noDecision = refusedOf 0
 
@@ -122,10 +123,10 @@ rungTests ordinary floor rungs floors = test 15 (badEdges ordinary floor rungs) 
 abbrev pub ceilingTests : StationRecord → ℕ → Edges → Edges → List ℕ → List Float → List ℕ → List Test
 ceilingTests r direction ordinary floor l rungs floors = entryTests r (directionValid direction) l ++ rungTests ordinary floor rungs floors
 
--- the answer of a climb, or the refusal: "its number, … all else absent"
+-- the answer of a climb, or the refusal: its number, no rung, and a limit that says the same: the number, Blocked, all else absent
 abbrev pub unlessRefused : Checked → Climb → CeilingAnswer
 unlessRefused Accepted c = record { refusal = Accepted; rung = c .rung; limited = c .limited; limit = c .limit }
-unlessRefused (Refused n) c = record { refusal = Refused n; rung = NoRung; limited = false; limit = noDecision }
+unlessRefused (Refused n) c = record { refusal = Refused n; rung = NoRung; limited = false; limit = refusedOf n }
 
 -- `ceiling`: "No rungs: rung and limit are both absent under every policy."
 unfoldable pub ceilingOf : StationRecord → ℕ → Edges → Edges → List ℕ → List Float → List ℕ → CeilingAnswer
@@ -134,11 +135,7 @@ ceilingOf r direction ordinary floor l rungs floors =
     (climbed (judgeBy l (situationOf r) (directionOf direction)) (burstOf (edgesRead ordinary) (edgesRead floor) rungs floors)
     (length rungs / 4))
 
--- "rung or none": the number of the case, ours (0 none, 1 a rung), and the rung, 0 where there is none
-abbrev pub rungNumber : Rung → ℕ
-rungNumber (Fastest k) = 1
-rungNumber NoRung = 0
-
-abbrev pub rungIndex : Rung → ℕ
-rungIndex (Fastest k) = k
-rungIndex NoRung = 0
+-- a rung or none: the rung's number, and -1 where there is none, which is below every rung
+abbrev pub rungNumber : Rung → ℤ
+rungNumber (Fastest k) = pos k
+rungNumber NoRung = negsuc 0

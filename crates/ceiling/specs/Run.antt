@@ -19,7 +19,7 @@ use Rattle.scan.specs.declared.Found.the-variants.{At, Nothing}
 use Rattle.station.specs.Station.{situationOf}
 use Rattle.station.specs.declared.StationRecord.{StationRecord}
 use Rattle.entry.specs.Entry.{edgesRead}
-use Rattle.decision.specs.Decision.{isBlocked}
+use Rattle.decision.specs.Decision.{isBlocked, refusedOf}
 use Rattle.decision.specs.declared.Decision.{Decision}
 use Rattle.ceiling.specs.Ceiling.{joinedOf, noDecision, startOf, endedOf, wentOn, judgedOf, judgeBy, rungJudged, stepOf, climbed, burstOf, ceilingTests, unlessRefused, ceilingOf}
 use Rattle.ceiling.specs.declared.Rung.{Rung}
@@ -156,10 +156,28 @@ climb-zero : (judge : Edges → Decision) (burst : ℕ → Edges) → climbed ju
 unfolding climbed
 climb-zero judge burst = refl
 
-absent-by : (x : Checked) (c : Climb) → c ≡ startOf → (unlessRefused x c .rung ≡ NoRung) × ((unlessRefused x c .limited ≡ false) × (unlessRefused x c .limit ≡ noDecision))
+absent-by : (x : Checked) (c : Climb) → c ≡ startOf → (unlessRefused x c .rung ≡ NoRung) × (unlessRefused x c .limited ≡ false)
 unfolding startOf
-absent-by Accepted c e = (ap (λ (y : Climb). y .rung) e, (ap (λ (y : Climb). y .limited) e, ap (λ (y : Climb). y .limit) e))
-absent-by (Refused n) c e = (refl, (refl, refl))
+absent-by Accepted c e = (ap (λ (y : Climb). y .rung) e, ap (λ (y : Climb). y .limited) e)
+absent-by (Refused n) c e = (refl, refl)
+
+climb-blocked : (judge : Edges → Decision) (burst : ℕ → Edges) (n : ℕ) → isBlocked (climbed judge burst n .limit .verdict) ≡ true
+unfolding refusedOf endedOf
+climb-blocked judge burst n =
+    go (first (blockedAt judge burst) n) refl
+  where
+    at : {f : Found} → first (blockedAt judge burst) n ≡ f → climbed judge burst n ≡ onFound f (stoppedAt judge burst) (freeAt judge burst n)
+    at p = climb-first judge burst n ∙ ap (λ (f : Found). onFound f (stoppedAt judge burst) (freeAt judge burst n)) p
+
+    go : (f : Found) → first (blockedAt judge burst) n ≡ f → isBlocked (climbed judge burst n .limit .verdict) ≡ true
+    go (At j) p = ap (λ (c : Climb). isBlocked (c .limit .verdict)) (at p) ∙ first-at (blockedAt judge burst) n j p .passes
+    go Nothing p = ap (λ (c : Climb). isBlocked (c .limit .verdict)) (at p)
+
+unless-blocked :
+    (x : Checked) (c : Climb) → isBlocked (c .limit .verdict) ≡ true → isBlocked (unlessRefused x c .limit .verdict) ≡ true
+unfolding refusedOf
+unless-blocked Accepted c e = e
+unless-blocked (Refused n) c e = refl
 
 module _ (r : StationRecord) (direction : ℕ) (ordinary floor : Edges) (l : List ℕ) (rungs : List Float) (floors : List ℕ) where
   abbrev pub judging : Edges → Decision
@@ -184,9 +202,16 @@ module _ (r : StationRecord) (direction : ℕ) (ordinary floor : Edges) (l : Lis
       )
 
   -- "No rungs: rung and limit are both absent under every policy."
-  pub no-rungs : length rungs ≡ 0 → (answer .rung ≡ NoRung) × ((answer .limited ≡ false) × (answer .limit ≡ noDecision))
+  pub no-rungs : length rungs ≡ 0 → (answer .rung ≡ NoRung) × (answer .limited ≡ false)
   unfolding ceilingOf
   no-rungs e =
       let q : length rungs / 4 ≡ 0 = omega (arith, e) in
       absent-by (refusalOf (ceilingTests r direction ordinary floor l rungs floors)) (climbed judging bursts (length rungs / 4))
       (ap (climbed judging bursts) q ∙ climb-zero judging bursts)
+
+  -- The limit of every answer is Blocked: met, absent or refused.
+  pub limit-blocked : isBlocked (answer .limit .verdict) ≡ true
+  unfolding ceilingOf
+  limit-blocked =
+      unless-blocked (refusalOf (ceilingTests r direction ordinary floor l rungs floors)) (climbed judging bursts (length rungs / 4))
+      (climb-blocked judging bursts (length rungs / 4))

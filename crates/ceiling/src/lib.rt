@@ -28,8 +28,8 @@ pub enum Envelope {
     Unreached,
 }
 
-// A climb: the rungs judged so far, and the decision on the first that is blocked. Where there is none, `limit` is that of
-// refusal 0, which no input meets.
+// A climb: the rungs judged so far, and the decision on the first that is blocked. Where there is none, `limit` is absent: Blocked,
+// with refusal 0, which no input meets.
 pub struct Climb {
     pub envelope: Envelope,
     pub rung: Rung,
@@ -40,7 +40,8 @@ pub struct Climb {
 pub struct CeilingAnswer {
     pub refusal: Checked,
     pub rung: Rung,
-    // Whether a rung is blocked; then `limit` is the whole decision on its envelope, and else absent as in a climb.
+    // Whether a rung is blocked; then `limit` is the whole decision on its envelope. Else `limit` is absent as in a climb, and on a
+    // refusal it has the refusal's number. Its verdict is Blocked in every answer.
     pub limited: bool,
     pub limit: Decision,
 }
@@ -239,7 +240,7 @@ pub fn ceiling(
             refusal: Checked::Refused(n),
             rung: Rung::NoRung,
             limited: false,
-            limit: decision::refused(0),
+            limit: decision::refused(n),
         },
         Checked::Accepted => {
             let s = station::situation_of(r);

@@ -7,7 +7,7 @@ use native.Mathlib.Omega.{arith}
 use lib.Dec.{eqb}
 use borrow.Author.Tests.{eqb-true, not-true, not-false}
 use lib.Ieee.{Float, ofBits, neg, lt, le, eq}
-use Rattle.figures.specs.Figure.{zeroHz, limit40, inSize, readHz, figureOf, minOf, maxOf}
+use Rattle.figures.specs.Figure.{zeroHz, limit40, negativeZeroBits, inSize, readHz, figureOf, minOf, maxOf}
 use Rattle.codes.specs.Code.{bitOf}
 use Rattle.codes.specs.Refusal.{none-fails, refusal-both}
 use Rattle.codes.specs.declared.Checked.the-variants.{Accepted}
@@ -83,7 +83,7 @@ figure-read x on h = go (eq x zeroHz)
 
 bits-figure : (b : ℕ) → soundBits b ≡ true → inEighths (figureOf b) ≡ true → Figure (figureOf b)
 unfolding soundBits
-bits-figure b s on = figure-size (figureOf b) on (and-left (inSize limit40 (figureOf b)) (not (eqb b 0x8000_0000_0000_0000)) s)
+bits-figure b s on = figure-size (figureOf b) on (and-left (inSize limit40 (figureOf b)) (not (eqb b negativeZeroBits)) s)
 
 -- ---- the image
 

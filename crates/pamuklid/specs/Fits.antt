@@ -8,6 +8,8 @@ use borrow.Author.Tests.{ltb-false}
 use lib.Dec.{eqb, ltb}
 use lib.ListN.{length, length-append}
 use lib.Ieee.{Float}
+use mir.Syntax.{w32}
+use mir.Val.{SFits}
 use Rattle.codes.specs.Read.{directionValid, directionOf}
 use Rattle.codes.specs.Refusal.{test, refusalOf, refusal-both, none-fails}
 use Rattle.codes.specs.declared.Checked.{Checked}
@@ -41,7 +43,7 @@ use Rattle.dial_rows.specs.declared.Request.{Request}
 use Rattle.dials.specs.List.{withSideband, withLicense, withControl, knownRows, situationRows, listRows, lentTests, listTests, answerOf}
 use Rattle.dials.specs.declared.DialList.{DialList}
 use Rattle.dials.specs.declared.DialList.the-variants.{Rows}
-use Rattle.ceiling.specs.Ceiling.{judgeBy, burstOf, climbed, anyUnmarked, badRungs, rungTests, ceilingTests, unlessRefused, ceilingOf}
+use Rattle.ceiling.specs.Ceiling.{rungNumber, judgeBy, burstOf, climbed, anyUnmarked, badRungs, rungTests, ceilingTests, unlessRefused, ceilingOf}
 use Rattle.ceiling.specs.Run.{rungBelow, ceiling-run}
 use Rattle.ceiling.specs.declared.Rung.{Rung}
 use Rattle.ceiling.specs.declared.Rung.the-variants.{Fastest, NoRung}
@@ -140,6 +142,11 @@ list-counted r direction e l lent =
 -- what the boundary asks of a rung
 abbrev pub RungFits : Rung → Type 0
 RungFits k = (i : ℕ) → k ≡ Fastest i → i < 256
+
+-- its number, -1 included, fits in 32 bits with a sign
+pub rung-signed : (k : Rung) → RungFits k → SFits w32 (rungNumber k)
+rung-signed (Fastest i) h = record { sfits = omega (arith, h i refl) }
+rung-signed NoRung h = record { sfits = omega arith }
 
 -- Accepted, a call has at most 256 rungs.
 few-rungs : (rungs : List Float) (floors : List ℕ) → badRungs rungs floors ≡ false → length rungs / 4 ≤ 256

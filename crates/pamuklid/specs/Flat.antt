@@ -1,10 +1,12 @@
 -- The records of the boundary: the station record and the edges as they arrive, and an answer as it leaves, field by field.
--- An absent part is all zero.
-use Prim.Native.Nat.{ℕ, _+_, _%_}
+-- Whoever forgets to look at a mark ends on the safe side: an absent part is all zero where zero permits nothing; an absent limit is
+-- blocked, an absent rung is -1, and a distance from nothing is infinite.
+use Prim.Native.Nat.{ℕ}
 use mathlib.Core.Bool.{Bool, cond}
 use mathlib.Core.List.{List}
 use mathlib.Core.Path.{_≡_}
-use lib.Ieee.{Float}
+use lib.Ieee.{Float, binary64, ofBits}
+use lib.IntN.{ℤ}
 use Rattle.figures.specs.Figure.{zeroHz}
 use Rattle.profile.specs.Range.{range}
 use Rattle.profile.specs.declared.Range.{Range}
@@ -17,7 +19,6 @@ use Rattle.station.specs.declared.Figure.the-variants.{Known, Absent}
 use Rattle.tidy.specs.declared.Tidiness.{Tidiness}
 use Rattle.tidy.specs.declared.Tidiness.the-variants.{Tidy, Untidy, NotJudged}
 use Rattle.codes.specs.Refusal.{refusalOf}
-use Rattle.decision.specs.Decision.{noNotes}
 use Rattle.decision.specs.Number.{verdictNumber, codeNumber, edgeNumber, overshootNumber, guidanceNumber}
 use Rattle.decision.specs.declared.Overshoot.{Overshoot}
 use Rattle.decision.specs.declared.Overshoot.the-variants.{Beyond, TooClose, NoOvershoot}
@@ -31,8 +32,7 @@ use Rattle.decision.specs.declared.MaybeRange.{MaybeRange}
 use Rattle.decision.specs.declared.MaybeRange.the-variants.{Is, NoRange}
 use Rattle.decision.specs.declared.Decision.{Decision}
 use Rattle.numbers.specs.Refusal.{refusalNumber}
-use Rattle.ceiling.specs.Ceiling.{rungNumber, rungIndex}
-use Rattle.ceiling.specs.declared.Rung.{Rung}
+use Rattle.ceiling.specs.Ceiling.{rungNumber}
 use Rattle.ceiling.specs.declared.CeilingAnswer.{CeilingAnswer}
 use Rattle.dials.specs.List.{listRows, listTests, answerOf, bytesOf}
 use Rattle.dials.specs.declared.DialList.{DialList}
@@ -49,7 +49,7 @@ use Rattle.pamuklid.specs.declared.FlatGuidance.{FlatGuidance}
 use Rattle.pamuklid.specs.declared.FlatRule.{FlatRule}
 use Rattle.pamuklid.specs.declared.FlatBand.{FlatBand}
 use Rattle.pamuklid.specs.declared.FlatDecision.{FlatDecision}
-use Rattle.pamuklid.specs.declared.FlatRung.{FlatRung}
+use Rattle.pamuklid.specs.declared.FlatTidiness.{FlatTidiness}
 use Rattle.pamuklid.specs.declared.FlatCeiling.{FlatCeiling}
 use Rattle.pamuklid.specs.declared.FlatDials.{FlatDials}
 
@@ -113,10 +113,10 @@ beyondEdge NoOvershoot = 0
 abbrev pub overshootFlat : Overshoot → FlatOvershoot
 overshootFlat o = record { «beyond_hz» = beyondBy o; edge = beyondEdge o; number = overshootNumber o }
 
--- a plan record's index is below 256
+-- a plan record's index is below 256 (Guided)
 abbrev pub guidanceIndex : Guidance → ℕ
-guidanceIndex (Avoid i) = i % 65536
-guidanceIndex (Inside i) = i % 65536
+guidanceIndex (Avoid i) = i
+guidanceIndex (Inside i) = i
 guidanceIndex Outside = 0
 guidanceIndex NoGuidance = 0
 
@@ -139,11 +139,11 @@ widthFlat Absent = zeroHz
 abbrev pub markOf : Bool → ℕ
 markOf b = cond b 1 0
 
--- the tidy question's answer; an image's refusal is 1 to 14 (Laws)
-abbrev pub tidyNumber : Tidiness → ℕ
-tidyNumber Untidy = 0
-tidyNumber Tidy = 1
-tidyNumber (NotJudged n) = 100 + n
+-- the tidy question's answer: tidy is 1 only where the image is accepted too
+abbrev pub tidinessFlat : Tidiness → FlatTidiness
+tidinessFlat Untidy = record { tidy = 0; refusal = 0 }
+tidinessFlat Tidy = record { tidy = 1; refusal = 0 }
+tidinessFlat (NotJudged n) = record { tidy = 0; refusal = n }
 
 -- an answer
 unfoldable pub flatOf : Decision → FlatDecision
@@ -181,57 +181,12 @@ flatOf d =
       notes = d .advice .notes;
     }
 
--- every part absent, and no refusal
-unfoldable pub zeroAnswer : FlatDecision
-zeroAnswer =
-    record {
-      «segment_low» = zeroHz;
-      «segment_high» = zeroHz;
-      «automatic_low» = zeroHz;
-      «automatic_high» = zeroHz;
-      «audio_low» = zeroHz;
-      «audio_high» = zeroHz;
-      width = zeroHz;
-      «air_low» = zeroHz;
-      «air_high» = zeroHz;
-      «beyond_hz» = zeroHz;
-      rule = 0;
-      «segment_rule» = 0;
-      «guidance_index» = 0;
-      refusal = 0;
-      verdict = 0;
-      code = 0;
-      «rule_known» = 0;
-      «band_known» = 0;
-      band = 0;
-      «segment_known» = 0;
-      «automatic_known» = 0;
-      «audio_known» = 0;
-      «air_known» = 0;
-      overshoot = 0;
-      edge = 0;
-      guidance = 0;
-      «note_channel_power» = 0;
-      «note_shared» = 0;
-      «note_segment_power» = 0;
-      notes = noNotes;
-    }
-
--- the limit of a ceiling: all zero where there is none
-unfoldable pub limitFlat : Bool → Decision → FlatDecision
-limitFlat limited d = cond limited (flatOf d) zeroAnswer
-
--- a rung is below 256 (Fits)
-abbrev pub rungFlat : Rung → FlatRung
-rungFlat k = record { rung = rungIndex k; known = rungNumber k }
-
--- a ceiling
+-- a ceiling: a rung is below 256 (Fits); its limit is blocked where it is absent or refused too (Laws, limit-blocked of Rattle.ceiling)
 unfoldable pub ceilingFlat : CeilingAnswer → FlatCeiling
 ceilingFlat a =
     record {
-      limit = limitFlat (a .limited) (a .limit);
-      rung = rungFlat (a .rung) .rung;
-      «rung_known» = rungFlat (a .rung) .known;
+      limit = flatOf (a .limit);
+      rung = rungNumber (a .rung);
       «limit_known» = markOf (a .limited);
       refusal = refusalNumber (a .refusal);
     }
@@ -246,8 +201,16 @@ pub record FlatDialed (r : StationRecord) (direction : ℕ) (e : Edges) (l lent 
   pub answered : answer ≡ dialsFlat (answerOf (refusalOf (listTests r direction e l lent)) (listRows r direction e l))
   pub bytes : left ≡ bytesOf (refusalOf (listTests r direction e l lent)) (listRows r direction e l) lent
 
+-- how far a dial stands from no row: infinitely, so never nought
+abbrev pub infinityHz : Float
+infinityHz = ofBits binary64 0x7ff0_0000_0000_0000
+
 -- a distance: listed is 1 where there is one
 abbrev pub distanceFlat : Distance → FlatDistance
 distanceFlat (Hertz x) = record { «distance_hz» = x; listed = 1; refusal = 0 }
-distanceFlat NoneListed = record { «distance_hz» = zeroHz; listed = 0; refusal = 0 }
-distanceFlat (NoAnswer n) = record { «distance_hz» = zeroHz; listed = 0; refusal = n }
+distanceFlat NoneListed = record { «distance_hz» = infinityHz; listed = 0; refusal = 0 }
+distanceFlat (NoAnswer n) = record { «distance_hz» = infinityHz; listed = 0; refusal = n }
+
+-- the boundary's version, 0.2.0: 10,000 times the first number, 100 times the second, and the third
+abbrev pub versionNumber : ℕ
+versionNumber = 200

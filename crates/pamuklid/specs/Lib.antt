@@ -1,3 +1,4 @@
 pub mod Flat
-pub mod Laws
+pub mod Guided
 pub mod Fits
+pub mod Safe

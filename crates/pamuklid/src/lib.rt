@@ -19,16 +19,21 @@ use station::StationRecord;
 use tidy::Tidiness;
 ghost use mathlib.Core.Path.{_≡_};
 ghost use mathlib.Core.Bool.{cond};
+ghost use Prim.Native.Nat.{_<_};
 ghost use Rattle.image.specs.Check.{checkOf};
 ghost use Rattle.tidy.specs.Tidy.{tidyOf};
 ghost use Rattle.station.specs.Station.{freshOf};
 ghost use Rattle.verdict.specs.Verdict.{evaluateOf, unmeasuredOf};
-ghost use Rattle.ceiling.specs.Ceiling.{ceilingOf};
+ghost use Rattle.ceiling.specs.Ceiling.{ceilingOf, rungNumber};
 ghost use Rattle.distance.specs.Distance.{distanceOf};
 ghost use Rattle.numbers.specs.Refusal.{refusalNumber};
-ghost use Rattle.pamuklid.specs.Laws.{Numbered};
 ghost use Rattle.pamuklid.specs.Fits.{RungFits, Counted};
-ghost use Rattle.pamuklid.specs.Flat.{recordOf, stationOf, edgesOf, rangeFlat, segmentFlat, overshootFlat, guidanceFlat, ruleFlat, bandFlat, widthFlat, tidyNumber, flatOf, zeroAnswer, limitFlat, rungFlat, ceilingFlat, dialsFlat, FlatDialed, distanceFlat};
+ghost use Rattle.pamuklid.specs.Flat.{recordOf, stationOf, edgesOf, rangeFlat, segmentFlat, overshootFlat, guidanceIndex, guidanceFlat, ruleFlat, bandFlat, widthFlat};
+ghost use Rattle.pamuklid.specs.Flat.{tidinessFlat, flatOf, ceilingFlat, dialsFlat, FlatDialed, infinityHz, distanceFlat, versionNumber};
+ghost use Rattle.pamuklid.specs.Guided.{Indexed};
+
+// The version of this boundary: 0.2.0.
+pub const VERSION: u32 = 200;
 
 // The station record: codes and presence bytes as document 01 numbers them, figures whatever they are.
 #[repr(C)]
@@ -90,13 +95,20 @@ pub struct FlatDecision {
     pub notes: [u8; 256],
 }
 
-// A ceiling. Where limit_known is 0 every part of limit is zero; a refusal has its number and all else zero.
+// A ceiling. The limit's verdict is 2 in every one: where limit_known is 0 all else of it is zero, but for the number of a refusal.
+// rung is -1 where there is none.
 #[repr(C)]
 pub struct FlatCeiling {
     pub limit: FlatDecision,
-    pub rung: u16,
-    pub rung_known: u8,
+    pub rung: i32,
     pub limit_known: u8,
+    pub refusal: u8,
+}
+
+// The tidy question's answer: tidy is 1 only of an accepted image.
+#[repr(C)]
+pub struct FlatTidiness {
+    pub tidy: u8,
     pub refusal: u8,
 }
 
@@ -107,7 +119,7 @@ pub struct FlatDials {
     pub refusal: u8,
 }
 
-// The distance of a dial; listed is 0 where no row counts and on a refusal.
+// The distance of a dial; where no row counts and on a refusal listed is 0 and the distance infinite.
 #[repr(C)]
 pub struct FlatDistance {
     pub distance_hz: f64,
@@ -147,11 +159,6 @@ pub struct FlatRule {
 
 pub struct FlatBand {
     pub band: u8,
-    pub known: u8,
-}
-
-pub struct FlatRung {
-    pub rung: u16,
     pub known: u8,
 }
 
@@ -265,16 +272,17 @@ fn overshoot_flat(o: Overshoot) -> FlatOvershoot
 }
 
 fn guidance_flat(g: Guidance) -> FlatGuidance
+    requires { ⌜ guidanceIndex g < 256 ⌝ }
     ensures { λ r. ⌜ r ≡ guidanceFlat g ⌝ }
 {
     let number = numbers::guidance_number(g);
     match g {
         Guidance::Avoid(i) => FlatGuidance {
-            index: (i % 65536) as u16,
+            index: i as u16,
             number,
         },
         Guidance::Inside(i) => FlatGuidance {
-            index: (i % 65536) as u16,
+            index: i as u16,
             number,
         },
         Guidance::Outside => FlatGuidance { index: 0, number },
@@ -315,20 +323,29 @@ fn mark(b: bool) -> u8
     if b { 1 } else { 0 }
 }
 
-// 0 untidy, 1 tidy, 100 and the refusal's number.
-fn tidy_number(t: Tidiness) -> u8
-    requires { ⌜ Numbered t ⌝ }
-    ensures { λ r. ⌜ r ≡ tidyNumber t ⌝ }
+// The tidy question's answer, flat.
+fn tidiness_flat(t: Tidiness) -> FlatTidiness
+    ensures { λ r. ⌜ r ≡ tidinessFlat t ⌝ }
 {
     match t {
-        Tidiness::Untidy => 0,
-        Tidiness::Tidy => 1,
-        Tidiness::NotJudged(n) => 100 + n,
+        Tidiness::Untidy => FlatTidiness {
+            tidy: 0,
+            refusal: 0,
+        },
+        Tidiness::Tidy => FlatTidiness {
+            tidy: 1,
+            refusal: 0,
+        },
+        Tidiness::NotJudged(n) => FlatTidiness {
+            tidy: 0,
+            refusal: n,
+        },
     }
 }
 
 // An answer, flat.
 fn flat(d: Decision) -> FlatDecision
+    requires { ⌜ Indexed d ⌝ }
     ensures { λ r. ⌜ r ≡ flatOf d ⌝ }
 {
     let refusal = d.refusal;
@@ -388,79 +405,29 @@ fn flat(d: Decision) -> FlatDecision
     }
 }
 
-// Every part absent, and no refusal.
-fn zero_answer() -> FlatDecision
-    ensures { λ r. ⌜ r ≡ zeroAnswer ⌝ }
-{
-    FlatDecision {
-        segment_low: 0.0,
-        segment_high: 0.0,
-        automatic_low: 0.0,
-        automatic_high: 0.0,
-        audio_low: 0.0,
-        audio_high: 0.0,
-        width: 0.0,
-        air_low: 0.0,
-        air_high: 0.0,
-        beyond_hz: 0.0,
-        rule: 0,
-        segment_rule: 0,
-        guidance_index: 0,
-        refusal: 0,
-        verdict: 0,
-        code: 0,
-        rule_known: 0,
-        band_known: 0,
-        band: 0,
-        segment_known: 0,
-        automatic_known: 0,
-        audio_known: 0,
-        air_known: 0,
-        overshoot: 0,
-        edge: 0,
-        guidance: 0,
-        note_channel_power: 0,
-        note_shared: 0,
-        note_segment_power: 0,
-        notes: [0; 256],
-    }
-}
-
-// The limit of a ceiling, where there is one.
-fn limit_flat(limited: bool, d: Decision) -> FlatDecision
-    ensures { λ r. ⌜ r ≡ limitFlat limited d ⌝ }
-{
-    if limited { flat(d) } else { zero_answer() }
-}
-
-fn rung_flat(k: Rung) -> FlatRung
+fn rung_number(k: Rung) -> i32
     requires { ⌜ RungFits k ⌝ }
-    ensures { λ r. ⌜ r ≡ rungFlat k ⌝ }
+    ensures { λ r. ⌜ r ≡ rungNumber k ⌝ }
 {
     match k {
-        Rung::Fastest(i) => FlatRung {
-            rung: i as u16,
-            known: 1,
-        },
-        Rung::NoRung => FlatRung { rung: 0, known: 0 },
+        Rung::Fastest(i) => i as i32,
+        Rung::NoRung => -1,
     }
 }
 
 // A ceiling, flat.
 fn ceiling_flat(a: CeilingAnswer) -> FlatCeiling
-    requires { ⌜ RungFits (a .rung) ⌝ }
+    requires { ⌜ (RungFits (a .rung)) × (Indexed (a .limit)) ⌝ }
     ensures { λ r. ⌜ r ≡ ceilingFlat a ⌝ }
 {
     let refusal = a.refusal;
     let fastest = a.rung;
-    let limited = a.limited;
     let limit = a.limit;
-    let rung = rung_flat(fastest);
+    let rung = rung_number(fastest);
     FlatCeiling {
-        limit: limit_flat(limited, limit),
-        rung: rung.rung,
-        rung_known: rung.known,
-        limit_known: mark(limited),
+        limit: flat(limit),
+        rung,
+        limit_known: mark(a.limited),
         refusal: numbers::refusal_number(refusal),
     }
 }
@@ -482,10 +449,18 @@ fn dials_flat(a: DialList) -> FlatDials
     }
 }
 
+// No distance: nothing to be near to.
+fn infinity() -> f64
+    ensures { λ r. ⌜ r ≡ infinityHz ⌝ }
+{
+    f64::from_bits(0x7ff0_0000_0000_0000)
+}
+
 // A distance, flat.
 fn distance_flat(d: Distance) -> FlatDistance
     ensures { λ r. ⌜ r ≡ distanceFlat d ⌝ }
 {
+    let none = infinity();
     match d {
         Distance::Hertz(x) => FlatDistance {
             distance_hz: x,
@@ -493,16 +468,24 @@ fn distance_flat(d: Distance) -> FlatDistance
             refusal: 0,
         },
         Distance::NoneListed => FlatDistance {
-            distance_hz: 0.0,
+            distance_hz: none,
             listed: 0,
             refusal: 0,
         },
         Distance::Refused(n) => FlatDistance {
-            distance_hz: 0.0,
+            distance_hz: none,
             listed: 0,
             refusal: n,
         },
     }
+}
+
+// The version of this boundary, that of the header: 10,000 times the first number, 100 times the second, and the third.
+#[no_mangle]
+pub extern "C" fn pamuklid_version() -> u32
+    ensures { λ r. ⌜ r ≡ versionNumber ⌝ }
+{
+    VERSION
 }
 
 // Whether an image is accepted: 0, or the number of its first refusal, 1 to 14.
@@ -513,12 +496,12 @@ pub extern "C" fn pamuklid_check(image: &[u8]) -> u8
     numbers::refusal_number(image::check(image))
 }
 
-// Whether an image's table is tidy: 0 no, 1 yes, or 100 and the number of the image's refusal.
+// Whether an image's table is tidy, or the image's refusal.
 #[no_mangle]
-pub extern "C" fn pamuklid_tidy(image: &[u8]) -> u8
-    ensures { λ r. ⌜ r ≡ tidyNumber (tidyOf (now (image .entry))) ⌝ }
+pub extern "C" fn pamuklid_tidy(image: &[u8]) -> FlatTidiness
+    ensures { λ r. ⌜ r ≡ tidinessFlat (tidyOf (now (image .entry))) ⌝ }
 {
-    tidy_number(tidy::is_tidy(image))
+    tidiness_flat(tidy::is_tidy(image))
 }
 
 // A fresh station record.

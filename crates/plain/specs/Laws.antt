@@ -6,6 +6,7 @@ use mathlib.Core.List.{List}
 use native.Mathlib.Omega.{arith}
 use borrow.Author.Tests.{leb-true, ltb-true, ne-eqb, not-false}
 use Rattle.bit_order.specs.Order.{limitBits, bits-lt, bits-le-not, bits-sized}
+use Rattle.figures.specs.Figure.{negativeZeroBits}
 use Rattle.codes.specs.Code.{bitOf}
 use Rattle.layout.specs.Layout.{bands, segments, privileges, automatic, tables, startOf, countOf, recordOf}
 use Rattle.layout.specs.declared.Record.{Record}
@@ -20,7 +21,7 @@ use Rattle.plain.specs.Plain.{sizedOf, longer, longOf, limitedOf, plainO
 
 sound-plain : (b : ℕ) → b ≤ limitBits → soundBits b ≡ true
 unfolding soundBits
-sound-plain b h = rw (bits-sized b h) (rw (ne-eqb b 0x8000_0000_0000_0000 (λ e. omega arith)))
+sound-plain b h = rw (bits-sized b h) (rw (ne-eqb b negativeZeroBits (λ e. omega arith)))
 
 pub record Parts (t : ℕ) (r : Record) : Type 0 where
   pub low-le : r .low ≤ limitBits

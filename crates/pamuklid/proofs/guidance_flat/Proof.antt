@@ -1,4 +1,7 @@
--- By cases.
+-- By cases; an index is below 256.
+use mathlib.Core.Path.{ap}
+use native.Mathlib.Omega.{arith}
+use Rattle.pamuklid.specs.Flat.{guidanceIndex}
 use borrow.Author.Needs.{needs}
 use Rattle.pamuklid.proofs.guidance_flat.Statement.{statement}
 use Rattle.pamuklid.proofs.guidance_flat.Tie as tie
@@ -9,14 +12,14 @@ guidance-number-requires c κs = search needs
 enum-known-g : tie.Need-enum-known-g
 enum-known-g c = search needs
 
-cast-t7 : tie.Need-cast-t7
-cast-t7 c = search needs
+cast-t6 : tie.Need-cast-t6
+cast-t6 c = record { fits = omega (arith, c .before .before .before .before .pre, ap guidanceIndex (c .before .g .given .1)) }
 
 enum-known-g-2 : tie.Need-enum-known-g-2
 enum-known-g-2 c = search needs
 
-cast-t9 : tie.Need-cast-t9
-cast-t9 c = search needs
+cast-t7 : tie.Need-cast-t7
+cast-t7 c = record { fits = omega (arith, c .before .before .before .before .pre, ap guidanceIndex (c .before .g2 .given .1)) }
 
 enum-told : tie.Need-enum-told
 enum-told c = search needs
@@ -50,9 +53,9 @@ guidance-flat-spec =
     (tie.spec
     guidance-number-requires
     enum-known-g
-    cast-t7
+    cast-t6
     enum-known-g-2
-    cast-t9
+    cast-t7
     enum-told
     enum-told-2
     returns

@@ -1,5 +1,6 @@
 -- By the calls.
 use Rattle.pamuklid.specs.Fits.{ceiling-fits}
+use Rattle.pamuklid.specs.Guided.{limit-indexed}
 use borrow.Author.Needs.{needs}
 use Rattle.pamuklid.proofs.pamuklid_ceiling_of.Statement.{statement}
 use Rattle.pamuklid.proofs.pamuklid_ceiling_of.Tie as tie
@@ -18,8 +19,14 @@ ceiling-requires c κs = search needs
 
 ceiling-flat-requires : tie.Need-ceiling-flat-requires
 ceiling-flat-requires c κs =
-    rw (c .ceiling .ensures)
-    (ceiling-fits (c .before .before .before .station-in .result) (c .before .before .before .before .before .before .before .args .direction) (c .before .before .edges-in .result) (c .before .edges-in2 .result) (c .before .before .before .before .before .before .before .args .image .now) (c .before .before .before .before .before .before .before .args .rungs .now) (c .before .before .before .before .before .before .before .args .floors .now))
+    let a = c .before .before .before .before .before .before .before .args in
+    let r = c .before .before .before .station-in .result in
+    let o = c .before .before .edges-in .result in
+    let f = c .before .edges-in2 .result in
+    rw (c .ceiling .ensures) (
+      ceiling-fits r (a .direction) o f (a .image .now) (a .rungs .now) (a .floors .now),
+      limit-indexed r (a .direction) o f (a .image .now) (a .rungs .now) (a .floors .now),
+    )
 
 returns : tie.Need-returns
 returns c =

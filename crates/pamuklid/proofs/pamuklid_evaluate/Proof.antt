@@ -1,4 +1,5 @@
 -- By the calls.
+use Rattle.pamuklid.specs.Guided.{evaluate-indexed}
 use borrow.Author.Needs.{needs}
 use Rattle.pamuklid.proofs.pamuklid_evaluate.Statement.{statement}
 use Rattle.pamuklid.proofs.pamuklid_evaluate.Tie as tie
@@ -13,7 +14,10 @@ evaluate-requires : tie.Need-evaluate-requires
 evaluate-requires c κs = search needs
 
 flat-requires : tie.Need-flat-requires
-flat-requires c κs = search needs
+flat-requires c κs =
+    rw (c .evaluate .ensures)
+    (evaluate-indexed (c .before .before .station-in .result) (c .before .before .before .before .args .kind)
+    (c .before .before .before .before .args .direction) (c .before .edges-in .result) (c .before .before .before .before .args .image .now))
 
 returns : tie.Need-returns
 returns c =

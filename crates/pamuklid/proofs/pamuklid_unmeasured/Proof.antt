@@ -1,4 +1,5 @@
 -- By the calls.
+use Rattle.pamuklid.specs.Guided.{unmeasured-indexed}
 use borrow.Author.Needs.{needs}
 use Rattle.pamuklid.proofs.pamuklid_unmeasured.Statement.{statement}
 use Rattle.pamuklid.proofs.pamuklid_unmeasured.Tie as tie
@@ -10,7 +11,8 @@ unmeasured-requires : tie.Need-unmeasured-requires
 unmeasured-requires c κs = search needs
 
 flat-requires : tie.Need-flat-requires
-flat-requires c κs = search needs
+flat-requires c κs =
+    rw (c .unmeasured .ensures) (unmeasured-indexed (c .before .station-in .result) (c .before .before .before .args .image .now))
 
 returns : tie.Need-returns
 returns c =
