@@ -1,5 +1,7 @@
 /* Pamuklid, a transmit gate: the calls of libpamuklid.a.
  *
+ * Before each keying ask pamuklid_evaluate, and send nothing where its verdict is PAMUKLID_BLOCKED.
+ *
  * Every call accepts every byte, every number and every figure, NaN and infinities too; what is
  * outside its values is refused by a number. No call keeps a pointer, allocates, or has a state of
  * its own: equal arguments give equal answers, and calls may run at once on several threads.
@@ -9,20 +11,12 @@
  * pamuklid_safe_dials. With a count of 0 a pointer is not followed, but pass one that is not null.
  * Lent rows may not overlap what else is lent to the same call.
  *
- * Structs go by value. Nothing checks these declarations against the library: keep names, order and
- * types. Frequencies are in hertz, power in watts.
+ * Structs go by value. Their sizes and offsets are checked below when this header is compiled (C11 or
+ * C++11 on); whether the library is of the header's version is asked once, as the program starts:
  *
- * Refusals, in the order in which they are looked for:
- *   20  a station code, a presence byte, the plan mark, the kind or the direction outside its values
- *   21  a station figure, or a dial asked, that is not finite or above 2^40 in size (only where it is known)
- *   22  policy 2 and an image of no bytes
- *   1 to 14  the image (only with policy 2; pamuklid_check and pamuklid_tidy always):
- *       1 to 4 its form, 5 a coded byte outside its values or an unused one that is not zero,
- *       6 a figure, 7 to 10 a band, segment, automatic segment or privilege of no length,
- *       11 no band or no segment, 12 a segment in no band, 13 a segment's own limit, 14 the data limit
- *   15  an edge that is not finite or above 2^40 in size
- *   16  rungs not in fours, more than 256 of them, or floor bytes that are not one for each rung, 0 or 1
- *   23  a dial list longer than the whole rows lent
+ *     if (pamuklid_version() != PAMUKLID_VERSION) ... stop
+ *
+ * Frequencies are in hertz, power in watts.
  */
 #ifndef PAMUKLID_H
 #define PAMUKLID_H
@@ -34,15 +28,85 @@
 extern "C" {
 #endif
 
+/* The version of this header, 0.2.0: major * 10000 + minor * 100 + patch. */
+#define PAMUKLID_VERSION 200
+
+/* Refusals, by number. A call that is refused has answered nothing: send nothing. */
+#define PAMUKLID_ACCEPTED 0                 /* none: the image is accepted, the call was answered */
+#define PAMUKLID_REFUSAL_IMAGE_LENGTH 1     /* an image under 92 or over 65,536 bytes */
+#define PAMUKLID_REFUSAL_LETTERS 2          /* an image that does not end with the letters EDGE */
+#define PAMUKLID_REFUSAL_EDITION 3          /* an image of another edition than 1 */
+#define PAMUKLID_REFUSAL_COUNTS 4           /* a count over 256, or a length or distance that disagrees */
+#define PAMUKLID_REFUSAL_CODED_BYTE 5       /* a coded byte of the image outside its values, an unused one
+                                               that is not zero, or a table of an absent part not empty */
+#define PAMUKLID_REFUSAL_IMAGE_FIGURE 6     /* a figure of the image not finite, above 2^40 in size, or
+                                               negative zero */
+#define PAMUKLID_REFUSAL_BAND_RANGE 7       /* a band whose low end is not below its high end */
+#define PAMUKLID_REFUSAL_SEGMENT_RANGE 8    /* such a data segment */
+#define PAMUKLID_REFUSAL_AUTOMATIC_RANGE 9  /* such an automatic segment */
+#define PAMUKLID_REFUSAL_PRIVILEGE_RANGE 10 /* such a privilege */
+#define PAMUKLID_REFUSAL_EMPTY_TABLE 11     /* no band or no data segment */
+#define PAMUKLID_REFUSAL_SEGMENT_OUTSIDE 12 /* a data segment in no band */
+#define PAMUKLID_REFUSAL_OWN_LIMIT 13       /* a data segment's own width limit not above 0 */
+#define PAMUKLID_REFUSAL_GENERAL_LIMIT 14   /* the general width limit not above 0 */
+#define PAMUKLID_REFUSAL_SIGNAL_EDGE 15     /* an edge not finite or above 2^40 in size */
+#define PAMUKLID_REFUSAL_RUNGS 16           /* rungs not in fours, more than 256 of them, or floor bytes
+                                               that are not one for each rung, 0 or 1 */
+#define PAMUKLID_REFUSAL_STATION_CODE 20    /* a station code, a presence byte, the plan mark, the kind or
+                                               the direction outside its values */
+#define PAMUKLID_REFUSAL_STATION_FIGURE 21  /* a station figure, or a dial asked, not finite or above 2^40
+                                               in size (only where it is known) */
+#define PAMUKLID_REFUSAL_NO_IMAGE 22        /* PAMUKLID_POLICY_RULES and an image of no bytes */
+#define PAMUKLID_REFUSAL_ROWS 23            /* a dial list longer than the whole rows lent */
+/* They are looked for in the order 20, 21, 22, 1 to 14, 15, 16, 23, each over the whole input before the
+ * next; 22 and 1 to 14 with PAMUKLID_POLICY_RULES only, except by the calls that are about the image
+ * alone (pamuklid_check, pamuklid_tidy, pamuklid_fault_of), which have 1 to 14 always. */
+
+/* pamuklid_station: policy */
+#define PAMUKLID_POLICY_UNSET 0    /* none was chosen: everything is blocked */
+#define PAMUKLID_POLICY_NO_RULES 1 /* no rules apply: everything is legal */
+#define PAMUKLID_POLICY_RULES 2    /* the rules of the image */
+#define PAMUKLID_POLICY_BROKEN 3   /* the rules could not be loaded: everything is blocked */
+
+/* pamuklid_station: control, license, sideband where they are not known */
+#define PAMUKLID_ABSENT 255
+
+/* pamuklid_station: control (97.109) */
+#define PAMUKLID_CONTROL_LOCAL 0
+#define PAMUKLID_CONTROL_REMOTE 1
+#define PAMUKLID_CONTROL_AUTOMATIC 2
+
+/* pamuklid_station: license, the operator's class */
+#define PAMUKLID_LICENSE_NOVICE 0
+#define PAMUKLID_LICENSE_TECHNICIAN 1
+#define PAMUKLID_LICENSE_GENERAL 2
+#define PAMUKLID_LICENSE_ADVANCED 3
+#define PAMUKLID_LICENSE_EXTRA 4
+
+/* pamuklid_station: sideband */
+#define PAMUKLID_SIDEBAND_UPPER 0
+#define PAMUKLID_SIDEBAND_LOWER 1
+
+/* kind: what is sent */
+#define PAMUKLID_KIND_DATA 0
+#define PAMUKLID_KIND_CW 1
+#define PAMUKLID_KIND_TEST 2
+#define PAMUKLID_KIND_NOTHING 3
+
+/* direction: who begins. Automatic control (97.221) is judged for the first two only. */
+#define PAMUKLID_DIRECTION_ORIGINATE 0 /* this station calls */
+#define PAMUKLID_DIRECTION_RESPOND 1   /* it answers */
+#define PAMUKLID_DIRECTION_OPERATOR 2  /* an operator acts */
+
 /* The station. Negative zero in a figure reads as zero. */
 typedef struct {
     double margin_hz;     /* kept free on each side of the signal; may be negative */
     double dial_hz;       /* the radio's dial; not looked at where dial_known is 0 */
     double power_w;       /* the transmit power; not looked at where power_known is 0 */
-    uint8_t policy;       /* 0 unset, 1 no rules apply, 2 rules (the image), 3 broken */
-    uint8_t control;      /* 0 local, 1 remote, 2 automatic, 255 absent */
-    uint8_t license;      /* 0 Novice, 1 Technician, 2 General, 3 Advanced, 4 Extra, 255 absent */
-    uint8_t sideband;     /* 0 upper, 1 lower, 255 absent */
+    uint8_t policy;       /* PAMUKLID_POLICY_... */
+    uint8_t control;      /* PAMUKLID_CONTROL_..., or PAMUKLID_ABSENT */
+    uint8_t license;      /* PAMUKLID_LICENSE_..., or PAMUKLID_ABSENT */
+    uint8_t sideband;     /* PAMUKLID_SIDEBAND_..., or PAMUKLID_ABSENT */
     uint8_t itu_region;   /* any number; compared with the image's */
     uint8_t band_plan;    /* 1 to hear the voluntary band plan, 0 not */
     uint8_t dial_known;   /* 1 or 0 */
@@ -58,7 +122,75 @@ typedef struct {
     double spectral_high;
 } pamuklid_edges;
 
-/* An answer. A part that is absent is all zero. A refusal has refusal, verdict 2 and all else zero. */
+/* verdict */
+#define PAMUKLID_LEGAL 0   /* may be sent */
+#define PAMUKLID_WARNING 1 /* may be sent; the operator should know of the notes or the band plan */
+#define PAMUKLID_BLOCKED 2 /* may not be sent: send nothing */
+
+/* code: the reason of a verdict, and the verdicts that it can have */
+#define PAMUKLID_CODE_NONE 0                  /* no code: a refusal, or an absent limit */
+#define PAMUKLID_CODE_NO_PROFILE 1            /* blocked: no policy was chosen */
+#define PAMUKLID_CODE_PROFILE_BROKEN 2        /* blocked: the policy could not be loaded */
+#define PAMUKLID_CODE_NO_RULES 3              /* legal: no rules apply */
+#define PAMUKLID_CODE_UNMEASURED 4            /* blocked: the spectrum is not known */
+#define PAMUKLID_CODE_REGION 5                /* blocked: another ITU region than the table's */
+#define PAMUKLID_CODE_NO_CONTROL 6            /* blocked: control is not known */
+#define PAMUKLID_CODE_NO_LICENSE 7            /* blocked: the license is not known */
+#define PAMUKLID_CODE_NO_SIDEBAND 8           /* blocked: the sideband is not known */
+#define PAMUKLID_CODE_NO_DIAL 9               /* blocked: the dial is not known */
+#define PAMUKLID_CODE_OUT_OF_BAND 10          /* blocked: no band holds the signal with its margin */
+#define PAMUKLID_CODE_AUTOMATIC_EXCLUDED 11   /* blocked: no automatic control on this band */
+#define PAMUKLID_CODE_TOO_WIDE 12             /* blocked: wider than the limit here */
+#define PAMUKLID_CODE_OUTSIDE_DATA_SEGMENT 13 /* blocked: see overshoot */
+#define PAMUKLID_CODE_NO_DATA_HERE 14         /* blocked: no data segment is near */
+#define PAMUKLID_CODE_PRIVILEGE 15            /* blocked: the license does not allow it here */
+#define PAMUKLID_CODE_PERMITTED 16            /* legal or a warning */
+#define PAMUKLID_CODE_AUTOMATIC_SEGMENT 17    /* legal or a warning: inside an automatic segment */
+#define PAMUKLID_CODE_AUTOMATIC_OUTSIDE 18    /* blocked: outside them, and no rule for elsewhere */
+#define PAMUKLID_CODE_AUTOMATIC_BANDWIDTH 19  /* blocked: outside them, too wide for elsewhere */
+#define PAMUKLID_CODE_AUTOMATIC_ORIGINATE 20  /* blocked: outside them, and not in answer */
+#define PAMUKLID_CODE_AUTOMATIC_RESPONSE 21   /* legal or a warning: outside them, by the rule for elsewhere */
+#define PAMUKLID_CODE_SIXTY_EMISSION 22       /* blocked: not an emission for 60 m */
+#define PAMUKLID_CODE_SIXTY_OFF_CHANNEL 23    /* blocked: on no channel of 60 m, and not in its segment */
+#define PAMUKLID_CODE_SIXTY_CHANNEL 24        /* legal or a warning on a channel of 60 m; blocked where the
+                                                 signal touches one and does not fit it */
+#define PAMUKLID_CODE_SIXTY_SEGMENT 25        /* legal or a warning: in the segment of 60 m */
+
+/* rule, segment_rule: numbers that mean the same in every table */
+#define PAMUKLID_RULE_EMPTY 0        /* no rule is named */
+#define PAMUKLID_RULE_97_301 1       /* bands and privileges */
+#define PAMUKLID_RULE_97_109 2       /* control */
+#define PAMUKLID_RULE_97_305_A 3     /* CW */
+#define PAMUKLID_RULE_97_305_B 4     /* test emissions */
+#define PAMUKLID_RULE_97_305_C 5     /* data segments */
+#define PAMUKLID_RULE_97_307_F_9 6   /* emissions of a license */
+#define PAMUKLID_RULE_FIRST_OWN 7    /* from here on: numbers of the trustee's text list */
+
+/* overshoot: how a signal lies outside a data segment */
+#define PAMUKLID_OVERSHOOT_NONE 0
+#define PAMUKLID_OVERSHOOT_BEYOND 1    /* beyond an edge, by beyond_hz */
+#define PAMUKLID_OVERSHOOT_TOO_CLOSE 2 /* inside, but closer to an edge than the margin */
+
+/* edge: of a segment. Where overshoot is PAMUKLID_OVERSHOOT_TOO_CLOSE it is always the upper, whichever
+ * of the two is too close. */
+#define PAMUKLID_EDGE_LOWER 0
+#define PAMUKLID_EDGE_UPPER 1
+
+/* guidance: what the voluntary band plan says, where the station asks for it */
+#define PAMUKLID_GUIDANCE_NONE 0
+#define PAMUKLID_GUIDANCE_AVOID 1   /* keep clear of the area guidance_index of PAMUKLID_TABLE_PLAN_AVOID */
+#define PAMUKLID_GUIDANCE_INSIDE 2  /* inside the area guidance_index of PAMUKLID_TABLE_PLAN_DATA */
+#define PAMUKLID_GUIDANCE_OUTSIDE 3 /* the plan puts data elsewhere */
+
+/* The marks in notes: one for each power record that a table can have at most. */
+#define PAMUKLID_MOST_NOTES 256
+
+/* An answer. A part that is absent is all zero. A refusal has refusal, verdict PAMUKLID_BLOCKED and all
+ * else zero.
+ *
+ * Send nothing where verdict is PAMUKLID_BLOCKED. A struct of zero bytes has verdict PAMUKLID_LEGAL: fill
+ * it from a call; an answer that was never asked for is not an answer. (Its code is PAMUKLID_CODE_NONE,
+ * which no call answers beside PAMUKLID_LEGAL or PAMUKLID_WARNING.) */
 typedef struct {
     double segment_low;      /* the segment, or the channel, that the signal was judged against */
     double segment_high;
@@ -69,101 +201,166 @@ typedef struct {
     double width;            /* audio_high - audio_low; may be negative */
     double air_low;          /* the edges on the air, where dial and sideband are known */
     double air_high;
-    double beyond_hz;        /* how far outside the segment; overshoot 1 only */
-    uint16_t rule;           /* 0 empty, 1 97.301, 2 97.109, 3 97.305(a), 4 97.305(b), 5 97.305(c),
-                                6 97.307(f)(9), others the image's own numbers */
+    double beyond_hz;        /* how far outside the segment; PAMUKLID_OVERSHOOT_BEYOND only */
+    uint16_t rule;           /* the rule of the reason: PAMUKLID_RULE_..., others the image's own numbers */
     uint16_t segment_rule;   /* the segment's rule, as rule */
-    uint16_t guidance_index; /* the plan record, 0 to 255; guidance 1 and 2 only */
-    uint8_t refusal;         /* 0 judged; else the number of the refusal, see above */
-    uint8_t verdict;         /* 0 legal, 1 legal with a warning, 2 blocked: send nothing */
-    uint8_t code;            /* the reason: 1 no_profile, 2 profile_broken, 3 no_rules, 4 unmeasured,
-                                5 region, 6 no_control, 7 no_license, 8 no_sideband, 9 no_dial,
-                                10 out_of_band, 11 automatic_excluded, 12 too_wide,
-                                13 outside_data_segment, 14 no_data_here, 15 privilege,
-                                16 permitted, 17 automatic_segment, 18 automatic_outside,
-                                19 automatic_bandwidth, 20 automatic_originate,
-                                21 automatic_response, 22 sixty_emission, 23 sixty_off_channel,
-                                24 sixty_channel, 25 sixty_segment; 0 on a refusal */
-    uint8_t rule_known;      /* 1, or 0 on a refusal: rule 0 is not "absent" */
+    uint16_t guidance_index; /* the plan record, 0 to 255; PAMUKLID_GUIDANCE_AVOID and _INSIDE only */
+    uint8_t refusal;         /* PAMUKLID_ACCEPTED: judged; else PAMUKLID_REFUSAL_... */
+    uint8_t verdict;         /* PAMUKLID_LEGAL, PAMUKLID_WARNING or PAMUKLID_BLOCKED: send nothing */
+    uint8_t code;            /* the reason: PAMUKLID_CODE_...; PAMUKLID_CODE_NONE on a refusal */
+    uint8_t rule_known;      /* 1, or 0 on a refusal: PAMUKLID_RULE_EMPTY is not "absent" */
     uint8_t band_known;      /* 1 where band is known, else 0 */
-    uint8_t band;            /* the number of the band, as in the image */
+    uint8_t band;            /* the number of the band, as in the image; with PAMUKLID_CODE_OUT_OF_BAND
+                                that of one which the signal touches */
     uint8_t segment_known;   /* 1 where segment_low, segment_high and segment_rule are known, else 0 */
     uint8_t automatic_known; /* 1 where automatic_low and automatic_high are known, else 0 */
     uint8_t audio_known;     /* 1 where audio_low, audio_high and width are known, 0 on a refusal */
     uint8_t air_known;       /* 1 where air_low and air_high are known, else 0 */
-    uint8_t overshoot;       /* code 13: 1 beyond an edge by beyond_hz, 2 too close to an edge; else 0 */
-    uint8_t edge;            /* overshoot 1 and 2: 0 the lower edge, 1 the upper; else 0 */
-    uint8_t guidance;        /* the band plan: 0 says nothing, 1 avoid, 2 inside, 3 outside */
+    uint8_t overshoot;       /* PAMUKLID_OVERSHOOT_...; PAMUKLID_CODE_OUTSIDE_DATA_SEGMENT only, else 0 */
+    uint8_t edge;            /* PAMUKLID_EDGE_... of the overshoot; else 0 */
+    uint8_t guidance;        /* PAMUKLID_GUIDANCE_... */
     uint8_t note_channel_power;  /* 1: above the watts of a 60 m channel; else 0 */
     uint8_t note_shared;         /* 1: shared with government stations; else 0 */
     uint8_t note_segment_power;  /* 1: above the watts of the 60 m segment; else 0 */
-    uint8_t notes[256];      /* 1 for each power record of the image that is exceeded, by its index; else 0 */
+    uint8_t notes[PAMUKLID_MOST_NOTES]; /* 1 for each power record of the image that is exceeded, by its index;
+                                      else 0 */
 } pamuklid_decision;
 
-/* How fast a rung may be sent. A part that is absent is all zero. A refusal has refusal and all else
- * zero. */
+/* The most rungs that a climb can have, the figures of each, and "no rung". */
+#define PAMUKLID_MOST_RUNGS 256
+#define PAMUKLID_RUNG_FIGURES 4
+#define PAMUKLID_RUNG_NONE (-1)
+
+/* How fast a rung may be sent. */
 typedef struct {
-    pamuklid_decision limit; /* the whole answer on the first rung that is blocked, for a data signal of
-                                the edges of that rung, of every slower one and of their control frames:
-                                verdict 2, refusal 0. limit_known 0: every field and every note is 0 */
-    uint16_t rung;           /* the fastest rung that may be sent, 0 to 255, every slower one too */
-    uint8_t rung_known;      /* 1, or 0 where not even rung 0 may be sent, there is none, or on a refusal */
+    pamuklid_decision limit; /* limit_known 1: the whole answer on the first rung that is blocked, for a data
+                                signal of the edges of that rung, of every slower one and of their control
+                                frames (verdict PAMUKLID_BLOCKED, refusal PAMUKLID_ACCEPTED). limit_known 0:
+                                verdict PAMUKLID_BLOCKED, refusal as below, all else zero */
+    int32_t rung;            /* the fastest rung that may be sent, 0 to 255, every slower one too; or
+                                PAMUKLID_RUNG_NONE where not even rung 0 may be sent, there are no rungs, or
+                                on a refusal */
     uint8_t limit_known;     /* 1 where a rung is blocked; 0 where none is, there is none, or on a refusal */
-    uint8_t refusal;         /* 0 judged; else the number of the refusal, see above; limit.refusal is 0 */
+    uint8_t refusal;         /* PAMUKLID_ACCEPTED: judged; else PAMUKLID_REFUSAL_... */
 } pamuklid_ceiling;
+
+/* The most rows that a list can have. */
+#define PAMUKLID_MOST_ROWS 16777472
 
 /* A dial list's answer. */
 typedef struct {
-    uint32_t count;          /* the rows that were written, at most 16,777,472; 0 on a refusal */
-    uint8_t refusal;         /* 0 listed; else the number of the refusal, see above */
+    uint32_t count;          /* the rows that were written, at most PAMUKLID_MOST_ROWS; 0 on a refusal */
+    uint8_t refusal;         /* PAMUKLID_ACCEPTED: listed; else PAMUKLID_REFUSAL_... */
 } pamuklid_dials;
 
-/* A dial row is PAMUKLID_ROW bytes, little-endian; an f64 is its 64 bits:
- *    0  f64  segment_low   the segment, or the part of it, that the row keeps the signal in
- *    8  f64  segment_high
- *   16  f64  dial_low      the dials of the row: from dial_low to dial_high, both included
- *   24  f64  dial_high
- *   32  u8   band          the number of the band, as in the image
- *   33  u8                 0
- *   34  u16  rule          the rule that the row goes by, as in pamuklid_decision */
+/* A dial row is PAMUKLID_ROW bytes, little-endian; an f64 is its 64 bits. By offset: */
 #define PAMUKLID_ROW 36
+#define PAMUKLID_ROW_SEGMENT_LOW 0  /* f64, the segment, or the part of it, that the row keeps the signal in */
+#define PAMUKLID_ROW_SEGMENT_HIGH 8 /* f64 */
+#define PAMUKLID_ROW_DIAL_LOW 16    /* f64, the dials of the row: from here to the next, both included */
+#define PAMUKLID_ROW_DIAL_HIGH 24   /* f64 */
+#define PAMUKLID_ROW_BAND 32        /* u8, the number of the band, as in the image */
+#define PAMUKLID_ROW_ZERO 33        /* u8, 0 */
+#define PAMUKLID_ROW_RULE 34        /* u16, the rule that the row goes by, as in pamuklid_decision */
 
 /* The distance of a dial from a list. */
 typedef struct {
-    double distance_hz;   /* 0 on a row or between its dials; never negative; 0 where listed is 0 */
-    uint8_t listed;       /* 1 where a row outside the channel band is listed, else 0 ("none listed") */
-    uint8_t refusal;      /* 0; or 21, 23: then distance_hz and listed are 0 */
+    double distance_hz;   /* 0 on a row or between its dials, never negative; +infinity where listed is 0 */
+    uint8_t listed;       /* 1 where a row outside the channel band is listed; 0 where none is ("none
+                             listed") and on a refusal */
+    uint8_t refusal;      /* PAMUKLID_ACCEPTED; PAMUKLID_REFUSAL_STATION_FIGURE (the dial) or
+                             PAMUKLID_REFUSAL_ROWS */
 } pamuklid_distance;
 
-/* Whether an image is accepted: 0, or its first refusal, 1 to 14. Reads image[0] to image[n - 1]. */
+/* Whether a table is tidy. */
+typedef struct {
+    uint8_t tidy;         /* 1 where the image is accepted and its table tidy; else 0 */
+    uint8_t refusal;      /* PAMUKLID_ACCEPTED; else the image's refusal, 1 to 14 */
+} pamuklid_tidiness;
+
+/* An image: its least and its most bytes, those of its general block, of each record and of its trailer, the
+ * most records of a table, and the offsets of the two bytes that pamuklid_distance_of asks for. */
+#define PAMUKLID_IMAGE_LEAST 92
+#define PAMUKLID_IMAGE_MOST 65536
+#define PAMUKLID_IMAGE_GENERAL 64
+#define PAMUKLID_IMAGE_RECORD 32
+#define PAMUKLID_IMAGE_TRAILER 28
+#define PAMUKLID_MOST_RECORDS 256
+#define PAMUKLID_IMAGE_FLAGS 42
+#define PAMUKLID_IMAGE_CHANNEL_BAND 43
+
+/* The tables of an image, in its order */
+#define PAMUKLID_TABLE_BANDS 0
+#define PAMUKLID_TABLE_SEGMENTS 1   /* data segments */
+#define PAMUKLID_TABLE_CHANNELS 2   /* of 60 m */
+#define PAMUKLID_TABLE_PRIVILEGES 3
+#define PAMUKLID_TABLE_AUTOMATIC 4  /* automatic segments */
+#define PAMUKLID_TABLE_EXCLUDED 5   /* bands without automatic control */
+#define PAMUKLID_TABLE_POWER 6      /* power limits */
+#define PAMUKLID_TABLE_PLAN_DATA 7  /* the band plan's areas for data */
+#define PAMUKLID_TABLE_PLAN_AVOID 8 /* the band plan's areas to avoid */
+#define PAMUKLID_TABLE_NONE 255     /* no table is named */
+
+/* place: where a table is wrong */
+#define PAMUKLID_PLACE_NONE 0    /* no place is named */
+#define PAMUKLID_PLACE_GENERAL 1 /* the general block */
+#define PAMUKLID_PLACE_RECORD 2  /* a record of a table */
+
+/* record where none is named */
+#define PAMUKLID_RECORD_NONE 65535
+
+/* Where a table is wrong. */
+typedef struct {
+    uint16_t record;      /* the record's index in its table, from 0; PAMUKLID_RECORD_NONE where place is not
+                             PAMUKLID_PLACE_RECORD */
+    uint8_t table;        /* PAMUKLID_TABLE_...; PAMUKLID_TABLE_NONE where place is not PAMUKLID_PLACE_RECORD */
+    uint8_t place;        /* PAMUKLID_PLACE_... */
+    uint8_t refusal;      /* as pamuklid_check: PAMUKLID_ACCEPTED, or the image's refusal, 1 to 14 */
+} pamuklid_fault;
+
+/* The version of the library that is linked. It belongs to this header where it is PAMUKLID_VERSION; of
+ * another version no other call may be made. */
+uint32_t pamuklid_version(void);
+
+/* Whether an image is accepted: PAMUKLID_ACCEPTED (0), or its first refusal, 1 to 14. Reads image[0] to
+ * image[n - 1]. */
 uint8_t pamuklid_check(const uint8_t *image, size_t n);
 
-/* Whether an image's table is tidy: 1 yes, 0 no; or 100 + its first refusal, 101 to 114. Reads
- * image[0] to image[n - 1]. */
-uint8_t pamuklid_tidy(const uint8_t *image, size_t n);
+/* Where a table is wrong. Of an image that is refused with 5 to 10, 12 or 13, place names the first part that
+ * the number's own test meets: the general block, or else a record, by its table and its index, tables in the
+ * image's order. Each record of a table whose part is absent meets 5. The numbers 1 to 4 are about the
+ * image's form, 11 is about records that are missing, 14 about the general limit: they name no place, nor
+ * does an accepted image. Reads image[0] to image[n - 1]. */
+pamuklid_fault pamuklid_fault_of(const uint8_t *image, size_t n);
 
-/* A fresh station: policy unset, region 0, margin 0, plan off, all else absent. It permits nothing. A
+/* Whether an image's table is tidy: each data segment lies in a band of its number, and no two bands, no two
+ * data segments and no two privileges of one class share a stretch. A table that is not tidy is judged all
+ * the same; list and verdict may then differ. Reads image[0] to image[n - 1]. */
+pamuklid_tidiness pamuklid_tidy(const uint8_t *image, size_t n);
+
+/* A fresh station: PAMUKLID_POLICY_UNSET, region 0, margin 0, plan off, all else absent. It permits nothing. A
  * station of zero bytes is not fresh: control, license and sideband 0 are local, Novice and upper. */
 pamuklid_station pamuklid_fresh(void);
 
-/* Judge a transmission. kind: 0 data, 1 CW, 2 test, 3 nothing. direction: 0 this station originates,
- * 1 it responds, 2 an operator acts. Reads the image with policy 2 only. */
+/* Judge a transmission. kind: PAMUKLID_KIND_... direction: PAMUKLID_DIRECTION_... Reads the image with
+ * PAMUKLID_POLICY_RULES only. Refusals 20 to 22, 1 to 14, 15. */
 pamuklid_decision pamuklid_evaluate(pamuklid_station s, uint8_t kind, uint8_t direction,
                                     pamuklid_edges e, const uint8_t *image, size_t n);
 
-/* The answer for a transmission whose spectrum is not known: blocked, code 4, audio 0 to 0; or the
- * refusal of the station or the image. Reads the image with policy 2 only. */
+/* The answer for a transmission whose spectrum is not known: PAMUKLID_BLOCKED, PAMUKLID_CODE_UNMEASURED,
+ * audio 0 to 0; or the refusal of the station or the image. Reads the image with PAMUKLID_POLICY_RULES only.
+ * Refusals 20 to 22, 1 to 14. */
 pamuklid_decision pamuklid_unmeasured(pamuklid_station s, const uint8_t *image, size_t n);
 
 /* The fastest rung that may be sent, and the answer on the first that may not.
- * direction: as in pamuklid_evaluate. ordinary, floor: the edges of the two control frames.
+ * direction: PAMUKLID_DIRECTION_... ordinary, floor: the edges of the two control frames.
  * rungs: figures in fours, power_low, power_high, spectral_low, spectral_high of each rung, the slowest
- * first; figures counts the doubles, four times the rungs (0 to 1024). floors: a byte for each rung,
- * 1 where it goes with the floor control frame, 0 with the ordinary one; floor_count counts them.
+ * first; figures counts the doubles, PAMUKLID_RUNG_FIGURES times the rungs (0 to 1024). floors: a byte for
+ * each rung, 1 where it goes with the floor control frame, 0 with the ordinary one; floor_count counts them.
  * Rungs are climbed from the slowest on; each is judged with what the slower ones occupy, and the climb
  * ends at the first that is blocked. No rungs: neither rung nor limit, under every policy.
- * Reads every figure and every floor byte, the image with policy 2 only. Refusals 20 to 22, 1 to 14,
- * 15 (any figure of the rungs or of the two control frames), 16. */
+ * Reads every figure and every floor byte, the image with PAMUKLID_POLICY_RULES only. Refusals 20 to 22,
+ * 1 to 14, 15 (any figure of the rungs or of the two control frames), 16. */
 pamuklid_ceiling pamuklid_ceiling_of(pamuklid_station s, uint8_t direction, pamuklid_edges ordinary,
                                      pamuklid_edges floor, const uint8_t *image, size_t n,
                                      const double *rungs, size_t figures, const uint8_t *floors,
@@ -171,29 +368,127 @@ pamuklid_ceiling pamuklid_ceiling_of(pamuklid_station s, uint8_t direction, pamu
 
 /* The dials at which a data signal of these edges stays inside the rules, with the margin to spare, as
  * rows in the bytes lent, by their lower dial (rows of equal lower dial as the image has them).
- * The station's dial is not asked for. With a policy other than 2, or where control, license or sideband
- * is absent, the list is empty (count 0, refusal 0).
- * rows[0] to rows[36 * count - 1] are written, every byte of them; rows past them stay as lent. On a
- * refusal no byte of rows changes. rows_len / 36 whole rows have room; a longer list meets 23 (the rows
- * are counted first). Reads the image with policy 2 only. Refusals 20 to 22, 1 to 14, 15, 23. */
+ * The station's dial is not asked for. With another policy than PAMUKLID_POLICY_RULES, or where control,
+ * license or sideband is absent, the list is empty (count 0, PAMUKLID_ACCEPTED).
+ * rows[0] to rows[PAMUKLID_ROW * count - 1] are written, every byte of them; rows past them stay as lent. On
+ * a refusal no byte of rows changes. rows_len / PAMUKLID_ROW whole rows have room; a longer list meets 23
+ * (the rows are counted first). Reads the image with PAMUKLID_POLICY_RULES only. Refusals 20 to 22, 1 to 14,
+ * 15, 23. */
 pamuklid_dials pamuklid_safe_dials(pamuklid_station s, uint8_t direction, pamuklid_edges e,
                                    const uint8_t *image, size_t n, uint8_t *rows, size_t rows_len);
 
 /* How far a dial stands from the nearest of the first count rows of a finished list: below the row's
- * dial_low, above its dial_high, 0 on or between them. Rows of the channel band (60 m) do not count.
- * flags and channel_band are image[42] and image[43] of the list's image; count is the list's. A dial of
- * negative zero reads as zero. Where no row counts, listed is 0.
- * For a tidy table whose figures, like edges, margin and dial, are whole eighths of a hertz, distance 0 with
- * listed 1 says that pamuklid_evaluate allows data at that dial, and anything else that it does not (see
- * README, demand 3, for all that this asks). Rows that no list call wrote: one whose dial_low is not at most
- * its dial_high, or is no number, does not count.
- * Reads rows[0] to rows[36 * count - 1] and changes no byte. Refusals: 21 the dial, 23 fewer than count
- * whole rows in rows_len bytes. */
+ * lower dial, above its upper, 0 on or between them. Rows of the channel band (60 m) do not count.
+ * flags and channel_band are image[PAMUKLID_IMAGE_FLAGS] and image[PAMUKLID_IMAGE_CHANNEL_BAND] of the list's
+ * image; count is the list's. A dial of negative zero reads as zero. Where no row counts, listed is 0 and
+ * distance_hz +infinity.
+ * For a tidy table whose figures, like edges, margin and dial, are whole eighths of a hertz, distance 0
+ * says that pamuklid_evaluate allows data at that dial, and anything else that it does not (see README,
+ * demand 3, for all that this asks). Rows that no list call wrote: one whose lower dial is not at most its
+ * upper, or is no number, does not count.
+ * Reads rows[0] to rows[PAMUKLID_ROW * count - 1] and changes no byte. Refusals: 21 the dial, 23 fewer than
+ * count whole rows in rows_len bytes. */
 pamuklid_distance pamuklid_distance_of(double dial_hz, uint8_t flags, uint8_t channel_band, uint32_t count,
                                        const uint8_t *rows, size_t rows_len);
 
 #ifdef __cplusplus
 }
+#endif
+
+/* Where a compiler lays the structs out otherwise than the library, it stops here. */
+#if defined(__cplusplus)
+#if __cplusplus >= 201103L
+#define PAMUKLID_ASSERT(test, text) static_assert(test, text)
+#endif
+#elif defined(__STDC_VERSION__)
+#if __STDC_VERSION__ >= 201112L
+#define PAMUKLID_ASSERT(test, text) _Static_assert(test, text)
+#endif
+#endif
+
+#ifdef PAMUKLID_ASSERT
+#define PAMUKLID_SIZE(type, bytes) PAMUKLID_ASSERT(sizeof(type) == (bytes), "size of " #type)
+#define PAMUKLID_AT(type, field, at) PAMUKLID_ASSERT(offsetof(type, field) == (at), "offset of " #type "." #field)
+
+PAMUKLID_SIZE(pamuklid_station, 32);
+PAMUKLID_AT(pamuklid_station, margin_hz, 0);
+PAMUKLID_AT(pamuklid_station, dial_hz, 8);
+PAMUKLID_AT(pamuklid_station, power_w, 16);
+PAMUKLID_AT(pamuklid_station, policy, 24);
+PAMUKLID_AT(pamuklid_station, control, 25);
+PAMUKLID_AT(pamuklid_station, license, 26);
+PAMUKLID_AT(pamuklid_station, sideband, 27);
+PAMUKLID_AT(pamuklid_station, itu_region, 28);
+PAMUKLID_AT(pamuklid_station, band_plan, 29);
+PAMUKLID_AT(pamuklid_station, dial_known, 30);
+PAMUKLID_AT(pamuklid_station, power_known, 31);
+
+PAMUKLID_SIZE(pamuklid_edges, 32);
+PAMUKLID_AT(pamuklid_edges, power_low, 0);
+PAMUKLID_AT(pamuklid_edges, power_high, 8);
+PAMUKLID_AT(pamuklid_edges, spectral_low, 16);
+PAMUKLID_AT(pamuklid_edges, spectral_high, 24);
+
+PAMUKLID_SIZE(pamuklid_decision, 360);
+PAMUKLID_AT(pamuklid_decision, segment_low, 0);
+PAMUKLID_AT(pamuklid_decision, segment_high, 8);
+PAMUKLID_AT(pamuklid_decision, automatic_low, 16);
+PAMUKLID_AT(pamuklid_decision, automatic_high, 24);
+PAMUKLID_AT(pamuklid_decision, audio_low, 32);
+PAMUKLID_AT(pamuklid_decision, audio_high, 40);
+PAMUKLID_AT(pamuklid_decision, width, 48);
+PAMUKLID_AT(pamuklid_decision, air_low, 56);
+PAMUKLID_AT(pamuklid_decision, air_high, 64);
+PAMUKLID_AT(pamuklid_decision, beyond_hz, 72);
+PAMUKLID_AT(pamuklid_decision, rule, 80);
+PAMUKLID_AT(pamuklid_decision, segment_rule, 82);
+PAMUKLID_AT(pamuklid_decision, guidance_index, 84);
+PAMUKLID_AT(pamuklid_decision, refusal, 86);
+PAMUKLID_AT(pamuklid_decision, verdict, 87);
+PAMUKLID_AT(pamuklid_decision, code, 88);
+PAMUKLID_AT(pamuklid_decision, rule_known, 89);
+PAMUKLID_AT(pamuklid_decision, band_known, 90);
+PAMUKLID_AT(pamuklid_decision, band, 91);
+PAMUKLID_AT(pamuklid_decision, segment_known, 92);
+PAMUKLID_AT(pamuklid_decision, automatic_known, 93);
+PAMUKLID_AT(pamuklid_decision, audio_known, 94);
+PAMUKLID_AT(pamuklid_decision, air_known, 95);
+PAMUKLID_AT(pamuklid_decision, overshoot, 96);
+PAMUKLID_AT(pamuklid_decision, edge, 97);
+PAMUKLID_AT(pamuklid_decision, guidance, 98);
+PAMUKLID_AT(pamuklid_decision, note_channel_power, 99);
+PAMUKLID_AT(pamuklid_decision, note_shared, 100);
+PAMUKLID_AT(pamuklid_decision, note_segment_power, 101);
+PAMUKLID_AT(pamuklid_decision, notes, 102);
+
+PAMUKLID_SIZE(pamuklid_ceiling, 368);
+PAMUKLID_AT(pamuklid_ceiling, limit, 0);
+PAMUKLID_AT(pamuklid_ceiling, rung, 360);
+PAMUKLID_AT(pamuklid_ceiling, limit_known, 364);
+PAMUKLID_AT(pamuklid_ceiling, refusal, 365);
+
+PAMUKLID_SIZE(pamuklid_dials, 8);
+PAMUKLID_AT(pamuklid_dials, count, 0);
+PAMUKLID_AT(pamuklid_dials, refusal, 4);
+
+PAMUKLID_SIZE(pamuklid_distance, 16);
+PAMUKLID_AT(pamuklid_distance, distance_hz, 0);
+PAMUKLID_AT(pamuklid_distance, listed, 8);
+PAMUKLID_AT(pamuklid_distance, refusal, 9);
+
+PAMUKLID_SIZE(pamuklid_tidiness, 2);
+PAMUKLID_AT(pamuklid_tidiness, tidy, 0);
+PAMUKLID_AT(pamuklid_tidiness, refusal, 1);
+
+PAMUKLID_SIZE(pamuklid_fault, 6);
+PAMUKLID_AT(pamuklid_fault, record, 0);
+PAMUKLID_AT(pamuklid_fault, table, 2);
+PAMUKLID_AT(pamuklid_fault, place, 3);
+PAMUKLID_AT(pamuklid_fault, refusal, 4);
+
+#undef PAMUKLID_AT
+#undef PAMUKLID_SIZE
+#undef PAMUKLID_ASSERT
 #endif
 
 #endif

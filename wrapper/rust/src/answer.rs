@@ -1,6 +1,8 @@
 //! What the gate answers.
 
-use crate::codes::{known, refused, Code, Guidance, Overshoot, Refusal, Rule, Verdict};
+use std::fmt;
+
+use crate::codes::{known, marked, refused, Code, Guidance, Overshoot, Refusal, Rule, Verdict};
 use crate::raw;
 
 /// From a low to a high figure, in hertz. Low may stand above high where the edges given did.
@@ -32,7 +34,52 @@ pub struct SixtyNotes {
     pub segment_power: bool,
 }
 
-/// A verdict with all that it rests on.
+/// The power records of the image that the power is above, by their index.
+#[derive(Clone, Copy, PartialEq, Eq)]
+pub struct PowerNotes {
+    marks: [bool; raw::MOST_NOTES],
+}
+
+impl PowerNotes {
+    /// No record.
+    pub const NONE: Self = Self { marks: [false; raw::MOST_NOTES] };
+
+    /// Whether there is none.
+    pub fn is_empty(&self) -> bool {
+        !self.marks.contains(&true)
+    }
+
+    /// Whether the power is above the record of an index.
+    pub fn contains(&self, record: usize) -> bool {
+        self.marks.get(record) == Some(&true)
+    }
+
+    /// The indices of the records that it is above.
+    pub fn iter(&self) -> impl Iterator<Item = usize> + '_ {
+        (0..self.marks.len()).filter(|&i| self.marks[i])
+    }
+}
+
+/// Of the records of these indices, each below 256.
+impl FromIterator<usize> for PowerNotes {
+    fn from_iter<I: IntoIterator<Item = usize>>(records: I) -> Self {
+        let mut out = Self::NONE;
+        for record in records {
+            out.marks[record] = true;
+        }
+        out
+    }
+}
+
+/// The indices alone.
+impl fmt::Debug for PowerNotes {
+    fn fmt(&self, f: &mut fmt::Formatter<'_>) -> fmt::Result {
+        f.debug_set().entries(self.iter()).finish()
+    }
+}
+
+/// A verdict with all that it rests on. Its text is what an operator needs to know, in sentences: on one
+/// line with `{}`, a line for each with `{:#}`.
 #[derive(Clone, Copy, Debug, PartialEq)]
 pub struct Decision {
     /// Whether it may be sent: see [`Decision::allowed`].
@@ -59,8 +106,8 @@ pub struct Decision {
     pub guidance: Guidance,
     /// Notes on 60 m.
     pub sixty: SixtyNotes,
-    /// For each power record of the image, by its index, whether the power is above it.
-    pub power: [bool; 256],
+    /// The power records of the image that the power is above.
+    pub power: PowerNotes,
 }
 
 impl Decision {
@@ -68,19 +115,14 @@ impl Decision {
     pub fn allowed(&self) -> bool {
         self.verdict != Verdict::Blocked
     }
-
-    /// The indices of the image's power records that the power is above.
-    pub fn power_records(&self) -> impl Iterator<Item = usize> + '_ {
-        (0..self.power.len()).filter(|&i| self.power[i])
-    }
 }
 
-/// How fast a rung may be sent.
+/// How fast a rung may be sent. Its text is sentences, as a [`Decision`]'s.
 #[derive(Clone, Copy, Debug, PartialEq)]
 pub struct Ceiling {
     /// The fastest rung that may be sent, every slower one too; `None`: not even the slowest, or
     /// there are no rungs.
-    pub rung: Option<usize>,
+    pub rung: Option<u16>,
     /// The answer on the first rung that may not be sent; `None`: all may, or there are no rungs.
     pub limit: Option<Decision>,
 }
@@ -111,15 +153,84 @@ pub(crate) fn decision(d: &raw::Decision) -> Result<Decision, Refusal> {
             shared: d.note_shared != 0,
             segment_power: d.note_segment_power != 0,
         },
-        power: d.notes.map(|note| note != 0),
+        power: PowerNotes { marks: d.notes.map(|note| note != 0) },
     })
 }
 
 pub(crate) fn ceiling(c: &raw::Ceiling) -> Result<Ceiling, Refusal> {
     refused(c.refusal)?;
-    let limit = match c.limit_known {
-        0 => None,
-        _ => Some(decision(&c.limit)?),
+    let rung = match c.rung {
+        raw::RUNG_NONE => None,
+        rung => Some(known("rung", rung, u16::try_from(rung).ok())),
     };
-    Ok(Ceiling { rung: (c.rung_known != 0).then_some(c.rung.into()), limit })
+    let limit = match marked("limit mark", c.limit_known) {
+        false => None,
+        true => Some(decision(&c.limit)?),
+    };
+    Ok(Ceiling { rung, limit })
+}
+
+#[cfg(test)]
+mod tests {
+    use super::*;
+
+    const ABSENT: raw::Decision = raw::Decision::ABSENT;
+
+    /// A refusal as the library gives it.
+    fn refusal(number: u8) -> raw::Decision {
+        raw::Decision { refusal: number, ..ABSENT }
+    }
+
+    #[test]
+    fn refusals() {
+        for &r in Refusal::ALL {
+            let limit = refusal(r.number());
+            assert_eq!(decision(&limit), Err(r));
+            let c = raw::Ceiling { limit, rung: -1, limit_known: 0, refusal: r.number() };
+            assert_eq!(ceiling(&c), Err(r));
+        }
+    }
+
+    /// A struct that no call filled is not taken for an answer.
+    #[test]
+    #[should_panic(expected = "libpamuklid.a answers code 0, which the crate pamuklid has no name")]
+    fn never_asked() {
+        let _ = decision(&raw::Decision { verdict: 0, ..ABSENT });
+    }
+
+    #[test]
+    fn ceilings() {
+        let of = |rung, limit_known| {
+            let limit = match limit_known {
+                0 => refusal(0),
+                _ => raw::Decision { code: 12, rule: 7, rule_known: 1, ..ABSENT },
+            };
+            ceiling(&raw::Ceiling { limit, rung, limit_known, refusal: 0 }).unwrap()
+        };
+        assert_eq!((of(-1, 0).rung, of(-1, 0).limit), (None, None));
+        assert_eq!((of(255, 0).rung, of(255, 0).limit), (Some(255), None));
+        let c = of(0, 1);
+        assert_eq!((c.rung, c.limit.map(|d| d.code)), (Some(0), Some(Code::TooWide)));
+        let c = of(-1, 1);
+        assert_eq!((c.rung, c.limit.map(|d| d.code)), (None, Some(Code::TooWide)));
+    }
+
+    #[test]
+    #[should_panic(expected = "libpamuklid.a answers rung -2")]
+    fn no_such_rung() {
+        let _ = ceiling(&raw::Ceiling { limit: refusal(0), rung: -2, limit_known: 0, refusal: 0 });
+    }
+
+    /// 256 marks, of which those that are set are printed.
+    #[test]
+    fn debug_without_marks() {
+        let mut d = raw::Decision { verdict: 1, code: 16, rule_known: 1, ..ABSENT };
+        let text = |d: &raw::Decision| format!("{:?}", decision(d).unwrap());
+        assert!(text(&d).ends_with("power: {} }"), "{}", text(&d));
+        (d.notes[0], d.notes[7], d.notes[255]) = (1, 1, 1);
+        assert!(text(&d).ends_with("power: {0, 7, 255} }"), "{}", text(&d));
+        let power = decision(&d).unwrap().power;
+        assert!(power.contains(7) && !power.contains(8) && !power.contains(256));
+        assert!(!power.is_empty() && PowerNotes::NONE.is_empty());
+    }
 }

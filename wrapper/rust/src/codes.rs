@@ -1,11 +1,14 @@
-//! The numbers of the boundary as enums.
+//! The numbers of the boundary as enums, each value with its number and its name.
 
 use std::error::Error;
 use std::fmt;
+use std::str::FromStr;
 
-/// An enum whose values have numbers.
+/// An enum whose values have numbers and names.
 macro_rules! numbered {
-    ($(#[$about:meta])* $name:ident { $($(#[$says:meta])* $value:ident = $number:literal,)* }) => {
+    ($(#[$about:meta])* $name:ident: $what:literal {
+        $($(#[$says:meta])* $value:ident = $number:literal $word:literal,)*
+    }) => {
         $(#[$about])*
         #[derive(Clone, Copy, Debug, PartialEq, Eq, Hash)]
         #[repr(u8)]
@@ -16,6 +19,9 @@ macro_rules! numbered {
         impl $name {
             /// Every value, by its number.
             pub const ALL: &'static [Self] = &[$(Self::$value),*];
+
+            /// Every value's name, by its number.
+            pub const NAMES: &'static [&'static str] = &[$($word),*];
 
             /// The value of a number; `None` for a number that stands for none.
             pub const fn from_number(number: u8) -> Option<Self> {
@@ -29,280 +35,264 @@ macro_rules! numbered {
             pub const fn number(self) -> u8 {
                 self as u8
             }
+
+            /// The value of a name; `None` for a name that stands for none.
+            pub fn from_name(name: &str) -> Option<Self> {
+                match name {
+                    $($word => Some(Self::$value),)*
+                    _ => None,
+                }
+            }
+
+            /// The short name, in lower case, as logs and settings have it; the C header has it in
+            /// capitals.
+            pub const fn name(self) -> &'static str {
+                match self {
+                    $(Self::$value => $word,)*
+                }
+            }
+        }
+
+        impl FromStr for $name {
+            type Err = UnknownName;
+
+            fn from_str(name: &str) -> Result<Self, UnknownName> {
+                Self::from_name(name).ok_or(UnknownName { what: $what, names: Self::NAMES })
+            }
         }
     };
 }
+pub(crate) use numbered;
+
+/// A name that stands for no value, where a text was to be one (`"general".parse::<License>()`).
+#[derive(Clone, Copy, Debug, PartialEq, Eq)]
+pub struct UnknownName {
+    /// What was to be named.
+    pub what: &'static str,
+    /// The names that there are.
+    pub names: &'static [&'static str],
+}
+
+impl fmt::Display for UnknownName {
+    fn fmt(&self, f: &mut fmt::Formatter<'_>) -> fmt::Result {
+        write!(f, "no such {}: the names are ", self.what)?;
+        for (i, name) in self.names.iter().enumerate() {
+            let before = match i {
+                0 => "",
+                _ if i + 1 == self.names.len() => " and ",
+                _ => ", ",
+            };
+            write!(f, "{before}{name}")?;
+        }
+        Ok(())
+    }
+}
+
+impl Error for UnknownName {}
 
 numbered! {
     /// What governs a station.
-    Policy {
+    Policy: "policy" {
         /// Nothing was chosen: blocked ([`Code::NoProfile`]).
-        Unset = 0,
+        Unset = 0 "unset",
         /// No rules apply: everything is legal ([`Code::NoRules`]).
-        NoRules = 1,
+        NoRules = 1 "no_rules",
         /// The rules of the image.
-        Rules = 2,
+        Rules = 2 "rules",
         /// The rules could not be loaded: blocked ([`Code::ProfileBroken`]).
-        Broken = 3,
+        Broken = 3 "broken",
     }
 }
 
 numbered! {
     /// How a station is controlled (§97.109).
-    Control {
+    Control: "control" {
         /// An operator at the station.
-        Local = 0,
+        Local = 0 "local",
         /// An operator at a distance.
-        Remote = 1,
+        Remote = 1 "remote",
         /// None: the station acts by itself (§97.221).
-        Automatic = 2,
+        Automatic = 2 "automatic",
     }
 }
 
 numbered! {
     /// The class of the operator's license.
-    License {
+    License: "license" {
         /// Novice.
-        Novice = 0,
+        Novice = 0 "novice",
         /// Technician.
-        Technician = 1,
+        Technician = 1 "technician",
         /// General.
-        General = 2,
+        General = 2 "general",
         /// Advanced.
-        Advanced = 3,
+        Advanced = 3 "advanced",
         /// Amateur Extra.
-        Extra = 4,
+        Extra = 4 "extra",
     }
 }
 
 numbered! {
     /// The sideband that the radio puts the audio on.
-    Sideband {
+    Sideband: "sideband" {
         /// Air edges are the dial plus the audio edges.
-        Upper = 0,
+        Upper = 0 "upper",
         /// Air edges are the dial less the audio edges.
-        Lower = 1,
+        Lower = 1 "lower",
     }
 }
 
 numbered! {
     /// Who begins. Automatic control (§97.221) is judged for the first two only.
-    Direction {
+    Direction: "direction" {
         /// This station calls.
-        Originate = 0,
+        Originate = 0 "originate",
         /// It answers a station that called it.
-        Respond = 1,
+        Respond = 1 "respond",
         /// An operator acts.
-        Operator = 2,
+        Operator = 2 "operator",
     }
 }
 
 numbered! {
     /// What is sent.
-    Kind {
+    Kind: "kind" {
         /// Data.
-        Data = 0,
+        Data = 0 "data",
         /// Morse, as an identification.
-        Cw = 1,
+        Cw = 1 "cw",
         /// A test emission.
-        Test = 2,
+        Test = 2 "test",
         /// Nothing: only the dial is judged off 60 m.
-        Nothing = 3,
+        Nothing = 3 "nothing",
     }
 }
 
 numbered! {
     /// The verdict.
-    Verdict {
+    Verdict: "verdict" {
         /// May be sent.
-        Legal = 0,
+        Legal = 0 "legal",
         /// May be sent; the operator should know of the guidance or the notes.
-        Warning = 1,
+        Warning = 1 "warning",
         /// May not be sent.
-        Blocked = 2,
+        Blocked = 2 "blocked",
     }
 }
 
 numbered! {
     /// An edge of a segment.
-    Edge {
+    Edge: "edge" {
         /// The lower.
-        Lower = 0,
+        Lower = 0 "lower",
         /// The upper.
-        Upper = 1,
+        Upper = 1 "upper",
     }
 }
 
 numbered! {
     /// The reason of a verdict.
-    Code {
+    Code: "code" {
         /// No policy was chosen.
-        NoProfile = 1,
+        NoProfile = 1 "no_profile",
         /// The policy could not be loaded.
-        ProfileBroken = 2,
+        ProfileBroken = 2 "profile_broken",
         /// No rules apply: legal.
-        NoRules = 3,
+        NoRules = 3 "no_rules",
         /// The spectrum is not known.
-        Unmeasured = 4,
+        Unmeasured = 4 "unmeasured",
         /// The station is in another region than the table.
-        Region = 5,
+        Region = 5 "region",
         /// The station's control is not known.
-        NoControl = 6,
+        NoControl = 6 "no_control",
         /// The operator's license is not known.
-        NoLicense = 7,
+        NoLicense = 7 "no_license",
         /// The sideband is not known.
-        NoSideband = 8,
+        NoSideband = 8 "no_sideband",
         /// The dial is not known.
-        NoDial = 9,
+        NoDial = 9 "no_dial",
         /// No band holds the signal with its margin.
-        OutOfBand = 10,
+        OutOfBand = 10 "out_of_band",
         /// Automatic control is not allowed in this band.
-        AutomaticExcluded = 11,
+        AutomaticExcluded = 11 "automatic_excluded",
         /// Wider than the limit here.
-        TooWide = 12,
+        TooWide = 12 "too_wide",
         /// Beyond an edge of a data segment, or too close to it: see [`Overshoot`].
-        OutsideDataSegment = 13,
+        OutsideDataSegment = 13 "outside_data_segment",
         /// No data segment is near.
-        NoDataHere = 14,
+        NoDataHere = 14 "no_data_here",
         /// The license does not allow it here.
-        Privilege = 15,
+        Privilege = 15 "privilege",
         /// Permitted: legal or a warning.
-        Permitted = 16,
+        Permitted = 16 "permitted",
         /// Automatic, inside an automatic segment: legal or a warning.
-        AutomaticSegment = 17,
+        AutomaticSegment = 17 "automatic_segment",
         /// Automatic, outside the automatic segments, where the table has no rule for elsewhere.
-        AutomaticOutside = 18,
+        AutomaticOutside = 18 "automatic_outside",
         /// Automatic, outside the automatic segments, and too wide for elsewhere.
-        AutomaticBandwidth = 19,
+        AutomaticBandwidth = 19 "automatic_bandwidth",
         /// Automatic, outside the automatic segments, and not in answer to another station.
-        AutomaticOriginate = 20,
-        /// Automatic, outside the automatic segments, narrow and in answer: legal or a warning.
-        AutomaticResponse = 21,
+        AutomaticOriginate = 20 "automatic_originate",
+        /// Automatic, outside the automatic segments, by the rule for elsewhere: legal or a warning.
+        AutomaticResponse = 21 "automatic_response",
         /// 60 m: an emission that is not allowed there.
-        SixtyEmission = 22,
+        SixtyEmission = 22 "sixty_emission",
         /// 60 m: on no channel and not in the segment.
-        SixtyOffChannel = 23,
+        SixtyOffChannel = 23 "sixty_off_channel",
         /// 60 m: on a channel: legal, a warning, or blocked where the signal doesn't fit it.
-        SixtyChannel = 24,
+        SixtyChannel = 24 "sixty_channel",
         /// 60 m: in the segment: legal or a warning.
-        SixtySegment = 25,
-    }
-}
-
-impl Code {
-    /// The code's short name, as logs have it.
-    pub const fn name(self) -> &'static str {
-        match self {
-            Self::NoProfile => "no_profile",
-            Self::ProfileBroken => "profile_broken",
-            Self::NoRules => "no_rules",
-            Self::Unmeasured => "unmeasured",
-            Self::Region => "region",
-            Self::NoControl => "no_control",
-            Self::NoLicense => "no_license",
-            Self::NoSideband => "no_sideband",
-            Self::NoDial => "no_dial",
-            Self::OutOfBand => "out_of_band",
-            Self::AutomaticExcluded => "automatic_excluded",
-            Self::TooWide => "too_wide",
-            Self::OutsideDataSegment => "outside_data_segment",
-            Self::NoDataHere => "no_data_here",
-            Self::Privilege => "privilege",
-            Self::Permitted => "permitted",
-            Self::AutomaticSegment => "automatic_segment",
-            Self::AutomaticOutside => "automatic_outside",
-            Self::AutomaticBandwidth => "automatic_bandwidth",
-            Self::AutomaticOriginate => "automatic_originate",
-            Self::AutomaticResponse => "automatic_response",
-            Self::SixtyEmission => "sixty_emission",
-            Self::SixtyOffChannel => "sixty_off_channel",
-            Self::SixtyChannel => "sixty_channel",
-            Self::SixtySegment => "sixty_segment",
-        }
-    }
-}
-
-impl fmt::Display for Code {
-    fn fmt(&self, f: &mut fmt::Formatter<'_>) -> fmt::Result {
-        f.write_str(self.name())
+        SixtySegment = 25 "sixty_segment",
     }
 }
 
 numbered! {
     /// Why a call was not answered. The order of looking: 20, 21, 22, 1 to 14, 15, 16, 23.
-    Refusal {
+    Refusal: "refusal" {
         /// The image has under 92 or over 65,536 bytes.
-        ImageLength = 1,
+        ImageLength = 1 "image_length",
         /// The image does not end with its letters.
-        Letters = 2,
+        Letters = 2 "letters",
         /// The image is of another edition.
-        Edition = 3,
+        Edition = 3 "edition",
         /// A count of the image is over 256, or its length or distance disagrees with the counts.
-        Counts = 4,
+        Counts = 4 "counts",
         /// A coded byte of the image is outside its values, an unused one is not zero, or a table of
         /// an absent part is not empty.
-        CodedByte = 5,
+        CodedByte = 5 "coded_byte",
         /// A figure of the image is not finite, above 2^40 in size, or negative zero.
-        ImageFigure = 6,
+        ImageFigure = 6 "image_figure",
         /// A band has no length.
-        BandRange = 7,
+        BandRange = 7 "band_range",
         /// A data segment has no length.
-        SegmentRange = 8,
+        SegmentRange = 8 "segment_range",
         /// An automatic segment has no length.
-        AutomaticRange = 9,
+        AutomaticRange = 9 "automatic_range",
         /// A privilege has no length.
-        PrivilegeRange = 10,
+        PrivilegeRange = 10 "privilege_range",
         /// The table has no band or no data segment.
-        Empty = 11,
+        EmptyTable = 11 "empty_table",
         /// A data segment lies in no band.
-        SegmentOutside = 12,
+        SegmentOutside = 12 "segment_outside",
         /// A data segment's own limit is not above 0.
-        OwnLimit = 13,
+        OwnLimit = 13 "own_limit",
         /// The general limit is not above 0.
-        GeneralLimit = 14,
+        GeneralLimit = 14 "general_limit",
         /// An edge is not finite or above 2^40 in size.
-        SignalEdge = 15,
+        SignalEdge = 15 "signal_edge",
         /// The rungs are more than 256, or their floor marks are not one each.
-        Rungs = 16,
+        Rungs = 16 "rungs",
         /// A code of the station, the direction or the kind is outside its values; this crate's enums
         /// have no such code.
-        StationCode = 20,
+        StationCode = 20 "station_code",
         /// A figure of the station, or a dial whose distance is asked, is not finite or above 2^40 in
         /// size.
-        StationFigure = 21,
+        StationFigure = 21 "station_figure",
         /// [`Policy::Rules`] and an image of no bytes.
-        NoImage = 22,
+        NoImage = 22 "no_image",
         /// The dial list is longer than the whole rows lent: those to write, or those to ask a
         /// distance of.
-        Rows = 23,
-    }
-}
-
-impl fmt::Display for Refusal {
-    fn fmt(&self, f: &mut fmt::Formatter<'_>) -> fmt::Result {
-        let why = match self {
-            Self::ImageLength => "the image has under 92 or over 65,536 bytes",
-            Self::Letters => "the image does not end with its letters",
-            Self::Edition => "the image is of another edition",
-            Self::Counts => "the image's counts, length and distance disagree",
-            Self::CodedByte => "a coded or unused byte of the image is outside its values",
-            Self::ImageFigure => "a figure of the image is not finite, too large or negative zero",
-            Self::BandRange => "a band of the image has no length",
-            Self::SegmentRange => "a data segment of the image has no length",
-            Self::AutomaticRange => "an automatic segment of the image has no length",
-            Self::PrivilegeRange => "a privilege of the image has no length",
-            Self::Empty => "the image has no band or no data segment",
-            Self::SegmentOutside => "a data segment of the image lies in no band",
-            Self::OwnLimit => "a data segment's own limit is not above 0",
-            Self::GeneralLimit => "the image's general limit is not above 0",
-            Self::SignalEdge => "an edge is not finite or too large",
-            Self::Rungs => "more than 256 rungs, or floor marks that are not one each",
-            Self::StationCode => "a station code is outside its values",
-            Self::StationFigure => "a station figure or a dial asked is not finite or too large",
-            Self::NoImage => "rules are in force and there is no image",
-            Self::Rows => "the dial list is longer than the rows lent",
-        };
-        write!(f, "refusal {}: {why}", self.number())
+        Rows = 23 "rows",
     }
 }
 
@@ -359,21 +349,6 @@ impl Rule {
     }
 }
 
-impl fmt::Display for Rule {
-    fn fmt(&self, f: &mut fmt::Formatter<'_>) -> fmt::Result {
-        match self {
-            Self::Empty => f.write_str("no rule"),
-            Self::Part97_301 => f.write_str("§97.301"),
-            Self::Part97_109 => f.write_str("§97.109"),
-            Self::Part97_305A => f.write_str("§97.305(a)"),
-            Self::Part97_305B => f.write_str("§97.305(b)"),
-            Self::Part97_305C => f.write_str("§97.305(c)"),
-            Self::Part97_307F9 => f.write_str("§97.307(f)(9)"),
-            Self::Table(number) => write!(f, "rule {number} of the table"),
-        }
-    }
-}
-
 /// How a signal lies outside a data segment ([`Code::OutsideDataSegment`]).
 #[derive(Clone, Copy, Debug, PartialEq)]
 pub enum Overshoot {
@@ -388,7 +363,7 @@ pub enum Overshoot {
     },
     /// Inside, but closer to an edge than the margin.
     TooClose {
-        /// The edge.
+        /// The edge that the gate names: always the upper, whichever of the two is too close.
         edge: Edge,
     },
 }
@@ -453,10 +428,12 @@ impl Guidance {
 }
 
 /// A value that the library's number has in this crate.
-pub(crate) fn known<T>(what: &str, number: u8, value: Option<T>) -> T {
+pub(crate) fn known<N: fmt::Display, T>(what: &str, number: N, value: Option<T>) -> T {
     match value {
         Some(value) => value,
-        None => panic!("the library's {what} {number} has no name in this crate"),
+        None => panic!(
+            "libpamuklid.a answers {what} {number}, which the crate pamuklid has no name for"
+        ),
     }
 }
 
@@ -466,4 +443,14 @@ pub(crate) fn refused(number: u8) -> Result<(), Refusal> {
         0 => Ok(()),
         _ => Err(known("refusal", number, Refusal::from_number(number))),
     }
+}
+
+/// Whether a mark is set; 1 is, 0 is not.
+pub(crate) fn marked(what: &str, number: u8) -> bool {
+    let value = match number {
+        0 => Some(false),
+        1 => Some(true),
+        _ => None,
+    };
+    known(what, number, value)
 }

@@ -2,9 +2,10 @@
 
 use crate::answer::Range;
 use crate::codes::{Refusal, Rule};
+use crate::raw;
 
 /// The bytes of a dial row.
-pub const ROW: usize = 36;
+pub const ROW: usize = raw::ROW;
 
 /// A row of a dial list: a stretch of dials, and the piece of the band that they keep the signal in.
 #[derive(Clone, Copy, Debug, PartialEq)]
@@ -87,7 +88,8 @@ impl<'a> DialList<'a> {
     /// rows, so that none is asked whether it counts.
     pub(crate) fn new(bytes: &'a [u8], image: &[u8]) -> Self {
         let byte = |at: usize| image.get(at).copied().unwrap_or(0);
-        Self { bytes, flags: byte(42), channel_band: byte(43) }
+        let (flags, channel_band) = (byte(raw::IMAGE_FLAGS), byte(raw::IMAGE_CHANNEL_BAND));
+        Self { bytes, flags, channel_band }
     }
 
     /// The rows, by their lower dial.

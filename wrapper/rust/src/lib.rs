@@ -1,11 +1,14 @@
 //! Pamuklid is a transmit gate: before each keying it says whether a transmission is lawful under
 //! 47 CFR Part 97, by a trustee's rules table (the *image*, bytes), the station's record and the
 //! measured edges of the signal. The gate itself is `libpamuklid.a`, proved; this crate wraps its
-//! calls in safe functions with enums. It has no dependencies and allocates nothing.
+//! calls in safe functions with enums, and has every answer in words. It has no dependencies and
+//! allocates nothing.
 //!
 //! | call | answer |
 //! |---|---|
+//! | [`version`] | the version of the library |
 //! | [`check`] | whether an image is accepted |
+//! | [`fault_of`] | where a table is wrong |
 //! | [`tidy`] | whether an image's table is tidy |
 //! | [`Station::fresh`] | a station of which nothing is known: it permits nothing |
 //! | [`evaluate`] | the verdict on a transmission |
@@ -21,6 +24,11 @@
 //!
 //! **Send only what was judged and not blocked**: a refusal is not a verdict, and nothing may be
 //! sent on it.
+//!
+//! Each enum has its numbers (`number`, `from_number`) and short names (`name`, `from_name`, `parse`)
+//! and, by `Display`, a clause in words; [`Code`] and [`Refusal`] have `reason` and `what_to_do`. A whole
+//! [`Decision`] or [`Ceiling`] is sentences that an operator understands: on one line with `{}`, a line
+//! for each with `{:#}`. [`raw`] is the bare boundary, in numbers.
 //!
 //! ```
 //! use pamuklid::{evaluate, Code, Direction, Edges, Kind, Policy, Refusal, Station, Verdict};
@@ -41,6 +49,11 @@
 //! let answer = evaluate(&station, Kind::Data, Direction::Originate, &edges, &[])?;
 //! assert_eq!((answer.verdict, answer.code), (Verdict::Legal, Code::NoRules));
 //! assert!(answer.allowed());
+//! assert_eq!(
+//!     answer.to_string(),
+//!     "May be sent: the station is set to send without rules (code 3, no_rules). \
+//!      The signal is 500 Hz wide."
+//! );
 //! // Under rules an image is needed.
 //! station.policy = Policy::Rules;
 //! let answer = evaluate(&station, Kind::Data, Direction::Originate, &edges, &[]);
@@ -50,8 +63,8 @@
 //!
 //! # Panics
 //!
-//! A call panics if the library answers with a number that this crate has no name for, which is so
-//! only if the two are of different editions.
+//! A call panics if the library that is linked is not of the version that this crate was written for
+//! ([`VERSION`]): each asks before it goes to the library, the first time. [`version`] alone does not.
 
 #![deny(missing_docs)]
 #![deny(unsafe_op_in_unsafe_fn)]
@@ -59,16 +72,23 @@
 mod answer;
 mod codes;
 mod dials;
-mod raw;
+mod fault;
+pub mod raw;
 mod station;
+mod version;
+mod words;
 
-pub use answer::{Ceiling, Decision, Range, Segment, SixtyNotes};
+pub use answer::{Ceiling, Decision, PowerNotes, Range, Segment, SixtyNotes};
 pub use codes::{
     Code, Control, Direction, Edge, Guidance, Kind, License, Overshoot, Policy, Refusal, Rule,
-    Sideband, Verdict,
+    Sideband, UnknownName, Verdict,
 };
 pub use dials::{DialList, DialRow, DialRows, Distance, ROW};
-pub use station::{Edges, Station};
+pub use fault::{Fault, Place, Table};
+pub use raw::Edges;
+pub use station::Station;
+pub use version::{version, Version, VERSION};
+pub use words::Hertz;
 
 /// Whether an image is accepted; else the first of the refusals 1 to 14 that it meets.
 ///
@@ -76,8 +96,21 @@ pub use station::{Edges, Station};
 /// assert_eq!(pamuklid::check(&[]), Err(pamuklid::Refusal::ImageLength));
 /// ```
 pub fn check(image: &[u8]) -> Result<(), Refusal> {
-    let number = raw::check(image);
-    codes::refused(number)
+    version::checked();
+    codes::refused(raw::check(image))
+}
+
+/// Where a table is wrong: the refusal that [`check`] has for its image, with the part of the image that
+/// it is about, where it is about one. `Ok(())` where the image is accepted.
+///
+/// ```
+/// use pamuklid::{fault_of, Fault, Refusal};
+///
+/// assert_eq!(fault_of(&[]), Err(Fault { refusal: Refusal::ImageLength, place: None }));
+/// ```
+pub fn fault_of(image: &[u8]) -> Result<(), Fault> {
+    version::checked();
+    fault::fault(&raw::fault_of(image))
 }
 
 /// Whether the table of an image is tidy: each data segment lies in a band of its number, and no two
@@ -85,13 +118,10 @@ pub fn check(image: &[u8]) -> Result<(), Refusal> {
 ///
 /// A table that is not tidy is judged all the same; the dial list and the verdict may then differ.
 pub fn tidy(image: &[u8]) -> Result<bool, Refusal> {
-    match raw::tidy(image) {
-        0 => Ok(false),
-        1 => Ok(true),
-        number => {
-            Err(codes::known("tidy answer", number, Refusal::from_number(number.wrapping_sub(100))))
-        }
-    }
+    version::checked();
+    let flat = raw::tidy(image);
+    codes::refused(flat.refusal)?;
+    Ok(codes::marked("tidy mark", flat.tidy))
 }
 
 /// Judges a transmission: one that a station would send in a direction, of a kind, with these audio
@@ -103,6 +133,7 @@ pub fn evaluate(
     edges: &Edges,
     image: &[u8],
 ) -> Result<Decision, Refusal> {
+    version::checked();
     let flat = raw::evaluate(station.flat(), kind.number(), direction.number(), *edges, image);
     answer::decision(&flat)
 }
@@ -110,6 +141,7 @@ pub fn evaluate(
 /// The answer for a transmission whose spectrum is not known: blocked, [`Code::Unmeasured`], under
 /// every policy. Refusals 20 to 22, 1 to 14.
 pub fn unmeasured(station: &Station, image: &[u8]) -> Result<Decision, Refusal> {
+    version::checked();
     answer::decision(&raw::unmeasured(station.flat(), image))
 }
 
@@ -129,8 +161,10 @@ pub fn ceiling(
     rungs: &[Edges],
     floors: &[bool],
 ) -> Result<Ceiling, Refusal> {
-    let s = station.flat();
-    answer::ceiling(&raw::ceiling(s, direction.number(), *ordinary, *floor, image, rungs, floors))
+    version::checked();
+    let (rungs, floors) = (raw::figures(rungs), raw::bytes(floors));
+    let (s, direction) = (station.flat(), direction.number());
+    answer::ceiling(&raw::ceiling(s, direction, *ordinary, *floor, image, rungs, floors))
 }
 
 /// The dials at which a data signal of these edges stays inside the rules, the margin to spare, as
@@ -150,6 +184,7 @@ pub fn safe_dials<'a>(
     image: &[u8],
     rows: &'a mut [u8],
 ) -> Result<DialList<'a>, Refusal> {
+    version::checked();
     let flat = raw::safe_dials(station.flat(), direction.number(), *edges, image, rows);
     codes::refused(flat.refusal)?;
     let bytes: &'a [u8] = rows;
@@ -160,7 +195,8 @@ pub fn safe_dials<'a>(
 /// [`DialList`] is still at hand, [`DialList::distance`] has them right; this is for rows that were
 /// kept as bytes.
 ///
-/// `flags` and `channel_band` are `image[42]` and `image[43]` of the image that the list was made by:
+/// `flags` and `channel_band` are the bytes [`raw::IMAGE_FLAGS`] (42) and [`raw::IMAGE_CHANNEL_BAND`] (43) of
+/// the image that the list was made by:
 /// under flag bit 2, rows of the band `channel_band` do not count. Rows are only read; past `count`
 /// they are not looked at. Refusals 21 ([`Refusal::StationFigure`]: the dial is not finite or above
 /// 2^40 in size), then 23 ([`Refusal::Rows`]: fewer than `count` whole rows are lent).
@@ -178,6 +214,7 @@ pub fn distance(
     count: u32,
     rows: &[u8],
 ) -> Result<Distance, Refusal> {
+    version::checked();
     let flat = raw::distance(dial_hz, flags, channel_band, count, rows);
     codes::refused(flat.refusal)?;
     let value = Distance::from_numbers(flat.listed, flat.distance_hz);

@@ -1,97 +1,274 @@
-//! The library's boundary, as `include/pamuklid.h` declares it. The only file with unsafe code: each
-//! call lends slices as pointer and count, and the library promises to follow them no further, to
-//! keep none, and to write the dial rows alone.
+//! The bare boundary: the library's structs and calls, as `include/pamuklid.h` has them for C, with
+//! slices in place of pointer and count. All is numbers here; the rest of the crate gives them names.
+//! For drivers and tests that want the answers bit by bit. Nothing is checked: ask once whether
+//! [`version`] is [`VERSION`].
+//!
+//! The only file with unsafe code: each call lends slices as pointer and count, and the library
+//! promises to follow them no further, to keep none, and to write the dial rows alone.
 
-use crate::station::Edges;
+use std::mem::size_of;
 
+/// The version of the library that this crate was written for: major * 10000 + minor * 100 + patch.
+pub const VERSION: u32 = 200;
+/// A control, license or sideband that is not known.
+pub const ABSENT: u8 = 255;
+/// The rung of a ceiling that has none.
+pub const RUNG_NONE: i32 = -1;
+/// The table of a fault that names no record.
+pub const TABLE_NONE: u8 = 255;
+/// The record of a fault that names none.
+pub const RECORD_NONE: u16 = 65_535;
+/// The marks in the notes of an answer: one for each power record that a table can have at most.
+pub const MOST_NOTES: usize = 256;
+/// The most rungs that a climb can have.
+pub const MOST_RUNGS: usize = 256;
+/// The figures of a rung.
+pub const RUNG_FIGURES: usize = 4;
+/// The bytes of a dial row.
+pub const ROW: usize = 36;
+/// The most rows that a dial list can have.
+pub const MOST_ROWS: usize = 16_777_472;
+/// The least bytes of an image.
+pub const IMAGE_LEAST: usize = 92;
+/// The most bytes of an image.
+pub const IMAGE_MOST: usize = 65_536;
+/// The bytes of an image's general block.
+pub const IMAGE_GENERAL: usize = 64;
+/// The bytes of each record of an image.
+pub const IMAGE_RECORD: usize = 32;
+/// The bytes of an image's trailer.
+pub const IMAGE_TRAILER: usize = 28;
+/// The most records that a table of an image can have.
+pub const MOST_RECORDS: usize = 256;
+/// The offset of an image's flags, which the distance of a dial asks for.
+pub const IMAGE_FLAGS: usize = 42;
+/// The offset of the number of an image's channel band, which the distance of a dial asks for.
+pub const IMAGE_CHANNEL_BAND: usize = 43;
+
+/// The station's record. Negative zero in a figure reads as zero.
 #[repr(C)]
-#[derive(Clone, Copy)]
+#[derive(Clone, Copy, Debug)]
 pub struct Station {
+    /// Hertz that are kept free on each side of the signal; may be negative.
     pub margin_hz: f64,
+    /// The radio's dial; not looked at where `dial_known` is 0.
     pub dial_hz: f64,
+    /// The transmit power; not looked at where `power_known` is 0.
     pub power_w: f64,
+    /// [`Policy`](crate::Policy), by its number.
     pub policy: u8,
+    /// [`Control`](crate::Control), by its number; or [`ABSENT`].
     pub control: u8,
+    /// [`License`](crate::License), by its number; or [`ABSENT`].
     pub license: u8,
+    /// [`Sideband`](crate::Sideband), by its number; or [`ABSENT`].
     pub sideband: u8,
+    /// Any number; compared with the image's.
     pub itu_region: u8,
+    /// 1 to hear the voluntary band plan, 0 not.
     pub band_plan: u8,
+    /// 1 or 0.
     pub dial_known: u8,
+    /// 1 or 0.
     pub power_known: u8,
 }
 
+/// The audio edges of a signal, in hertz, under the two readings of §97.3(a)(8): where the power
+/// outside falls below a share of the whole, and where the spectrum falls below a level. The image
+/// says which is judged. A low edge above the high one is accepted. Negative zero reads as zero.
+#[repr(C)]
+#[derive(Clone, Copy, Debug, PartialEq)]
+pub struct Edges {
+    /// The lower edge by power.
+    pub power_low: f64,
+    /// The upper edge by power.
+    pub power_high: f64,
+    /// The lower edge by spectrum.
+    pub spectral_low: f64,
+    /// The upper edge by spectrum.
+    pub spectral_high: f64,
+}
+
+/// An answer. A part that is absent is all zero. A refusal has `refusal`, verdict 2 and all else zero.
+/// A zeroed answer has verdict 0, legal: take it from a call.
 #[repr(C)]
 #[derive(Clone, Copy)]
 pub struct Decision {
+    /// The segment, or the channel, that the signal was judged against.
     pub segment_low: f64,
+    /// Its upper end.
     pub segment_high: f64,
+    /// The automatic segment (§97.221) that it was judged against.
     pub automatic_low: f64,
+    /// Its upper end.
     pub automatic_high: f64,
+    /// The audio edges that were judged: the lower.
     pub audio_low: f64,
+    /// The upper.
     pub audio_high: f64,
+    /// `audio_high` less `audio_low`; may be negative.
     pub width: f64,
+    /// The edges on the air, where dial and sideband are known: the lower.
     pub air_low: f64,
+    /// The upper.
     pub air_high: f64,
+    /// How far outside the segment; overshoot 1 only.
     pub beyond_hz: f64,
+    /// The reason's [`Rule`](crate::Rule), by its number.
     pub rule: u16,
+    /// The segment's.
     pub segment_rule: u16,
+    /// The plan record; guidance 1 and 2 only.
     pub guidance_index: u16,
+    /// 0 judged; else the [`Refusal`](crate::Refusal)'s number.
     pub refusal: u8,
+    /// [`Verdict`](crate::Verdict), by its number: 2 is blocked.
     pub verdict: u8,
+    /// [`Code`](crate::Code), by its number; 0 on a refusal.
     pub code: u8,
+    /// 1, or 0 on a refusal: rule 0 is not "absent".
     pub rule_known: u8,
+    /// 1 where `band` is known, else 0.
     pub band_known: u8,
+    /// The number of the band, as in the image.
     pub band: u8,
+    /// 1 where the segment and its rule are known, else 0.
     pub segment_known: u8,
+    /// 1 where the automatic segment is known, else 0.
     pub automatic_known: u8,
+    /// 1 where audio edges and width are known, 0 on a refusal.
     pub audio_known: u8,
+    /// 1 where the edges on the air are known, else 0.
     pub air_known: u8,
+    /// [`Overshoot`](crate::Overshoot)'s first number.
     pub overshoot: u8,
+    /// [`Edge`](crate::Edge) of the overshoot, by its number; else 0.
     pub edge: u8,
+    /// [`Guidance`](crate::Guidance)'s first number.
     pub guidance: u8,
+    /// 1: above the watts of a 60 m channel; else 0.
     pub note_channel_power: u8,
+    /// 1: shared with government stations; else 0.
     pub note_shared: u8,
+    /// 1: above the watts of the 60 m segment; else 0.
     pub note_segment_power: u8,
-    pub notes: [u8; 256],
+    /// 1 for each power record of the image that is exceeded, by its index; else 0.
+    pub notes: [u8; MOST_NOTES],
 }
 
+impl Decision {
+    /// The limit of a ceiling that has none: verdict 2, all else zero. A refusal is this with its number.
+    pub const ABSENT: Self = Self {
+        segment_low: 0.0,
+        segment_high: 0.0,
+        automatic_low: 0.0,
+        automatic_high: 0.0,
+        audio_low: 0.0,
+        audio_high: 0.0,
+        width: 0.0,
+        air_low: 0.0,
+        air_high: 0.0,
+        beyond_hz: 0.0,
+        rule: 0,
+        segment_rule: 0,
+        guidance_index: 0,
+        refusal: 0,
+        verdict: 2,
+        code: 0,
+        rule_known: 0,
+        band_known: 0,
+        band: 0,
+        segment_known: 0,
+        automatic_known: 0,
+        audio_known: 0,
+        air_known: 0,
+        overshoot: 0,
+        edge: 0,
+        guidance: 0,
+        note_channel_power: 0,
+        note_shared: 0,
+        note_segment_power: 0,
+        notes: [0; MOST_NOTES],
+    };
+}
+
+/// How fast a rung may be sent.
 #[repr(C)]
 #[derive(Clone, Copy)]
 pub struct Ceiling {
+    /// The answer on the first rung that is blocked. Where `limit_known` is 0: verdict 2, `refusal` as
+    /// the ceiling's, all else zero.
     pub limit: Decision,
-    pub rung: u16,
-    pub rung_known: u8,
+    /// The fastest rung that may be sent; [`RUNG_NONE`] where there is none, and on a refusal.
+    pub rung: i32,
+    /// 1 where a rung is blocked; 0 where none is, there are no rungs, or on a refusal.
     pub limit_known: u8,
+    /// 0 judged; else the [`Refusal`](crate::Refusal)'s number.
     pub refusal: u8,
 }
 
+/// A dial list's answer.
 #[repr(C)]
-#[derive(Clone, Copy)]
+#[derive(Clone, Copy, Debug)]
 pub struct Dials {
+    /// The rows that were written; 0 on a refusal.
     pub count: u32,
+    /// 0 listed; else the [`Refusal`](crate::Refusal)'s number.
     pub refusal: u8,
 }
 
+/// The distance of a dial.
 #[repr(C)]
-#[derive(Clone, Copy)]
+#[derive(Clone, Copy, Debug)]
 pub struct Distance {
+    /// 0 on a row or between its dials, never negative; +infinity where `listed` is 0.
     pub distance_hz: f64,
+    /// 1 where a row counts; 0 where none does ("none listed") and on a refusal.
     pub listed: u8,
+    /// 0; or 21, 23.
+    pub refusal: u8,
+}
+
+/// Whether a table is tidy.
+#[repr(C)]
+#[derive(Clone, Copy, Debug)]
+pub struct Tidiness {
+    /// 1 where the image is accepted and its table tidy; else 0.
+    pub tidy: u8,
+    /// 0; else the image's refusal, 1 to 14.
+    pub refusal: u8,
+}
+
+/// Where a table is wrong.
+#[repr(C)]
+#[derive(Clone, Copy, Debug)]
+pub struct Fault {
+    /// The record's index in its table; [`RECORD_NONE`] where `place` is not 2.
+    pub record: u16,
+    /// [`Table`](crate::Table), by its number; [`TABLE_NONE`] where `place` is not 2.
+    pub table: u8,
+    /// 0 none is named, 1 the general block, 2 a record.
+    pub place: u8,
+    /// 0 accepted; else the image's refusal, 1 to 14.
     pub refusal: u8,
 }
 
 const _: () = {
-    assert!(std::mem::size_of::<Station>() == 32);
-    assert!(std::mem::size_of::<Edges>() == 32);
-    assert!(std::mem::size_of::<Decision>() == 360);
-    assert!(std::mem::size_of::<Ceiling>() == 368);
-    assert!(std::mem::size_of::<Dials>() == 8);
-    assert!(std::mem::size_of::<Distance>() == 16);
+    assert!(size_of::<Station>() == 32);
+    assert!(size_of::<Edges>() == 32);
+    assert!(size_of::<Decision>() == 360);
+    assert!(size_of::<Ceiling>() == 368);
+    assert!(size_of::<Dials>() == 8);
+    assert!(size_of::<Distance>() == 16);
+    assert!(size_of::<Tidiness>() == 2);
+    assert!(size_of::<Fault>() == 6);
 };
 
 extern "C" {
+    fn pamuklid_version() -> u32;
     fn pamuklid_check(image: *const u8, n: usize) -> u8;
-    fn pamuklid_tidy(image: *const u8, n: usize) -> u8;
+    fn pamuklid_fault_of(image: *const u8, n: usize) -> Fault;
+    fn pamuklid_tidy(image: *const u8, n: usize) -> Tidiness;
     fn pamuklid_fresh() -> Station;
     fn pamuklid_evaluate(
         s: Station,
@@ -133,36 +310,58 @@ extern "C" {
     ) -> Distance;
 }
 
+/// `pamuklid_version`: the version of the library that is linked.
+#[inline]
+pub fn version() -> u32 {
+    unsafe { pamuklid_version() }
+}
+
+/// `pamuklid_check`: 0, or the image's first refusal, 1 to 14.
+#[inline]
 pub fn check(image: &[u8]) -> u8 {
     unsafe { pamuklid_check(image.as_ptr(), image.len()) }
 }
 
-pub fn tidy(image: &[u8]) -> u8 {
+/// `pamuklid_fault_of`.
+#[inline]
+pub fn fault_of(image: &[u8]) -> Fault {
+    unsafe { pamuklid_fault_of(image.as_ptr(), image.len()) }
+}
+
+/// `pamuklid_tidy`.
+#[inline]
+pub fn tidy(image: &[u8]) -> Tidiness {
     unsafe { pamuklid_tidy(image.as_ptr(), image.len()) }
 }
 
+/// `pamuklid_fresh`.
+#[inline]
 pub fn fresh() -> Station {
     unsafe { pamuklid_fresh() }
 }
 
+/// `pamuklid_evaluate`.
+#[inline]
 pub fn evaluate(s: Station, kind: u8, direction: u8, e: Edges, image: &[u8]) -> Decision {
     unsafe { pamuklid_evaluate(s, kind, direction, e, image.as_ptr(), image.len()) }
 }
 
+/// `pamuklid_unmeasured`.
+#[inline]
 pub fn unmeasured(s: Station, image: &[u8]) -> Decision {
     unsafe { pamuklid_unmeasured(s, image.as_ptr(), image.len()) }
 }
 
-/// Edges are four figures in the order of a rung, and a bool is a byte, 0 or 1: both are lent as they
-/// lie.
+/// `pamuklid_ceiling_of`: rungs as figures, [`RUNG_FIGURES`] each, and a floor byte for each rung.
+#[inline]
 pub fn ceiling(
     s: Station,
     direction: u8,
     ordinary: Edges,
     floor: Edges,
     image: &[u8],
-    rungs: &[Edges],
-    floors: &[bool],
+    rungs: &[f64],
+    floors: &[u8],
 ) -> Ceiling {
     unsafe {
         pamuklid_ceiling_of(
@@ -172,20 +371,34 @@ pub fn ceiling(
             floor,
             image.as_ptr(),
             image.len(),
-            rungs.as_ptr().cast(),
-            4 * rungs.len(),
-            floors.as_ptr().cast(),
+            rungs.as_ptr(),
+            rungs.len(),
+            floors.as_ptr(),
             floors.len(),
         )
     }
 }
 
+/// `pamuklid_safe_dials`.
+#[inline]
 pub fn safe_dials(s: Station, direction: u8, e: Edges, image: &[u8], rows: &mut [u8]) -> Dials {
     let (at, len) = (rows.as_mut_ptr(), rows.len());
     unsafe { pamuklid_safe_dials(s, direction, e, image.as_ptr(), image.len(), at, len) }
 }
 
+/// `pamuklid_distance_of`.
+#[inline]
 pub fn distance(dial_hz: f64, flags: u8, channel_band: u8, count: u32, rows: &[u8]) -> Distance {
     let (at, len) = (rows.as_ptr(), rows.len());
     unsafe { pamuklid_distance_of(dial_hz, flags, channel_band, count, at, len) }
+}
+
+/// The figures of rungs, one rung after the other: edges are four figures in the order of a rung.
+pub fn figures(rungs: &[Edges]) -> &[f64] {
+    unsafe { std::slice::from_raw_parts(rungs.as_ptr().cast(), RUNG_FIGURES * rungs.len()) }
+}
+
+/// The bytes of marks: a bool is a byte, 0 or 1.
+pub fn bytes(marks: &[bool]) -> &[u8] {
+    unsafe { std::slice::from_raw_parts(marks.as_ptr().cast(), marks.len()) }
 }

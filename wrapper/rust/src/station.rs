@@ -1,23 +1,8 @@
 //! What a caller knows: the station and the signal.
 
-use crate::codes::{known, Control, License, Policy, Sideband};
-use crate::raw;
-
-/// The audio edges of a signal, in hertz, under the two readings of §97.3(a)(8): where the power
-/// outside falls below a share of the whole, and where the spectrum falls below a level. The image
-/// says which is judged. A low edge above the high one is accepted.
-#[repr(C)]
-#[derive(Clone, Copy, Debug, PartialEq)]
-pub struct Edges {
-    /// The lower edge by power.
-    pub power_low: f64,
-    /// The upper edge by power.
-    pub power_high: f64,
-    /// The lower edge by spectrum.
-    pub spectral_low: f64,
-    /// The upper edge by spectrum.
-    pub spectral_high: f64,
-}
+use crate::codes::{known, marked, Control, License, Policy, Sideband};
+use crate::raw::{self, Edges, ABSENT};
+use crate::version;
 
 impl Edges {
     /// The same edges under both readings.
@@ -49,12 +34,10 @@ pub struct Station {
     pub band_plan: bool,
 }
 
-/// The number of a part that is absent.
-const ABSENT: u8 = 255;
-
 impl Station {
     /// A station of which nothing is known. It permits nothing.
     pub fn fresh() -> Self {
+        version::checked();
         Self::of(&raw::fresh())
     }
 
@@ -66,9 +49,9 @@ impl Station {
             sideband: part("sideband", s.sideband, Sideband::from_number),
             itu_region: s.itu_region,
             margin_hz: s.margin_hz,
-            dial_hz: (s.dial_known != 0).then_some(s.dial_hz),
-            power_w: (s.power_known != 0).then_some(s.power_w),
-            band_plan: s.band_plan != 0,
+            dial_hz: marked("dial mark", s.dial_known).then_some(s.dial_hz),
+            power_w: marked("power mark", s.power_known).then_some(s.power_w),
+            band_plan: marked("plan mark", s.band_plan),
         }
     }
 

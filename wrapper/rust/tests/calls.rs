@@ -2,9 +2,10 @@
 //! library's.
 
 use pamuklid::{
-    ceiling, check, distance, evaluate, safe_dials, tidy, unmeasured, Code, Control, DialRow,
-    DialRows, Direction, Distance, Edge, Edges, Guidance, Kind, License, Overshoot, Policy, Range,
-    Refusal, Rule, Segment, Sideband, SixtyNotes, Station, Verdict, ROW,
+    ceiling, check, distance, evaluate, fault_of, raw, safe_dials, tidy, unmeasured, version, Code,
+    Control, DialRow, DialRows, Direction, Distance, Edge, Edges, Fault, Guidance, Kind, License,
+    Overshoot, Place, Policy, Range, Refusal, Rule, Segment, Sideband, SixtyNotes, Station, Table,
+    Verdict, ROW, VERSION,
 };
 
 static IMAGE: &[u8] = include_bytes!("../../../tools/reference/practice.bin");
@@ -33,6 +34,19 @@ fn range(low_hz: f64, high_hz: f64) -> Range {
     Range { low_hz, high_hz }
 }
 
+/// The image with other bytes from a place on.
+fn with(at: usize, bytes: &[u8]) -> Vec<u8> {
+    let mut image = IMAGE.to_vec();
+    image[at..at + bytes.len()].copy_from_slice(bytes);
+    image
+}
+
+#[test]
+fn library() {
+    assert_eq!(version(), VERSION);
+    assert_eq!(raw::version(), raw::VERSION);
+}
+
 #[test]
 fn image_calls() {
     assert_eq!(check(IMAGE), Ok(()));
@@ -43,11 +57,79 @@ fn image_calls() {
     *damaged.last_mut().unwrap() = b'F';
     assert_eq!(check(&damaged), Err(Refusal::Letters));
     assert_eq!(tidy(&damaged), Err(Refusal::Letters));
-    // band 60 from 1 to 15,000,000: it shares a stretch with band 20
-    let mut untidy = IMAGE.to_vec();
-    untidy[96..104].copy_from_slice(&1.0f64.to_bits().to_le_bytes());
-    untidy[104..112].copy_from_slice(&15_000_000.0f64.to_bits().to_le_bytes());
+    // band 60 up to 15,000,000: it shares a stretch with band 20
+    let untidy = with(104, &15_000_000.0f64.to_bits().to_le_bytes());
+    assert_eq!(check(&untidy), Ok(()));
     assert_eq!(tidy(&untidy), Ok(false));
+    assert_eq!((raw::tidy(&untidy).tidy, raw::tidy(&untidy).refusal), (0, 0));
+    assert_eq!((raw::tidy(IMAGE).tidy, raw::tidy(IMAGE).refusal), (1, 0));
+    assert_eq!((raw::tidy(&damaged).tidy, raw::tidy(&damaged).refusal), (0, 2));
+}
+
+/// tools/reference/practice.txt has the offsets.
+#[test]
+fn places() {
+    let at = |table, index| Place::Record { table, index }.bytes(IMAGE);
+    assert_eq!(Place::General.bytes(IMAGE), Some(0..64));
+    assert_eq!(at(Table::Bands, 0), Some(64..96));
+    assert_eq!(at(Table::Segments, 1), Some(160..192));
+    assert_eq!(at(Table::Channels, 0), Some(192..224));
+    assert_eq!(at(Table::Automatic, 1), Some(320..352));
+    assert_eq!(at(Table::Bands, 65_535), None);
+    assert_eq!(Place::General.bytes(&IMAGE[..63]), None);
+    assert_eq!(Place::Record { table: Table::Bands, index: 0 }.bytes(&[0; 27]), None);
+}
+
+/// Places of the practice table that were spoilt (tools/reference/practice.txt has its bytes): the first
+/// that the refusal's own test meets, or none.
+#[test]
+fn faults() {
+    let at = |refusal, place| Err(Fault { refusal, place });
+    let record = |table, index| Some(Place::Record { table, index });
+    let figure = |x: f64| x.to_bits().to_le_bytes();
+    assert_eq!(fault_of(IMAGE), Ok(()));
+    // the form: no place
+    assert_eq!(fault_of(&[]), at(Refusal::ImageLength, None));
+    assert_eq!(fault_of(&with(376, b"F")), at(Refusal::Letters, None));
+    assert_eq!(fault_of(&with(374, &[2])), at(Refusal::Edition, None));
+    assert_eq!(fault_of(&with(352, &[3])), at(Refusal::Counts, None));
+    // 5: the reading; a band's class; a privilege's class; of both the general block
+    assert_eq!(fault_of(&with(41, &[3])), at(Refusal::CodedByte, Some(Place::General)));
+    assert_eq!(fault_of(&with(64 + 25, &[1])), at(Refusal::CodedByte, record(Table::Bands, 0)));
+    let privilege = with(256 + 25, &[5]);
+    assert_eq!(fault_of(&privilege), at(Refusal::CodedByte, record(Table::Privileges, 1)));
+    let mut both = privilege;
+    both[41] = 3;
+    assert_eq!(fault_of(&both), at(Refusal::CodedByte, Some(Place::General)));
+    // 5: without channels their band, width and the like are zero, and their table is empty
+    let mut part = with(42, &[11]);
+    part[16..40].fill(0);
+    part[43] = 0;
+    part[52..54].fill(0);
+    assert_eq!(fault_of(&part), at(Refusal::CodedByte, record(Table::Channels, 0)));
+    // 6: the general limit; an automatic segment's end
+    let nan = figure(f64::NAN);
+    assert_eq!(fault_of(&with(0, &nan)), at(Refusal::ImageFigure, Some(Place::General)));
+    let end = with(320 + 8, &figure(-0.0));
+    assert_eq!(fault_of(&end), at(Refusal::ImageFigure, record(Table::Automatic, 1)));
+    // 7 to 10, 12, 13: the second of two
+    let low = |start: usize, low: f64| fault_of(&with(start, &figure(low)));
+    assert_eq!(low(96, 5_407_000.0), at(Refusal::BandRange, record(Table::Bands, 1)));
+    assert_eq!(low(160, 5_366_500.0), at(Refusal::SegmentRange, record(Table::Segments, 1)));
+    assert_eq!(low(320, 14_112_000.0), at(Refusal::AutomaticRange, record(Table::Automatic, 1)));
+    assert_eq!(low(256, 5_407_000.0), at(Refusal::PrivilegeRange, record(Table::Privileges, 1)));
+    assert_eq!(low(160, 5_329_999.0), at(Refusal::SegmentOutside, record(Table::Segments, 1)));
+    assert_eq!(
+        fault_of(&with(160 + 27, &[1])),
+        at(Refusal::OwnLimit, record(Table::Segments, 1)),
+        "an own limit of 0"
+    );
+    // 14: no place
+    assert_eq!(fault_of(&with(0, &figure(0.0))), at(Refusal::GeneralLimit, None));
+    let f = raw::fault_of(&with(0, &figure(0.0)));
+    assert_eq!((f.refusal, f.place, f.table, f.record), (14, 0, 255, 65_535));
+    let f = raw::fault_of(IMAGE);
+    assert_eq!((f.refusal, f.place, f.table, f.record), (0, 0, 255, 65_535));
 }
 
 #[test]
@@ -80,7 +162,7 @@ fn a_whole_decision() {
     assert_eq!(d.band, Some(20));
     assert_eq!(d.automatic_segment, None);
     assert_eq!(d.guidance, Guidance::NoGuidance);
-    assert_eq!(d.power_records().count(), 0);
+    assert!(d.power.is_empty());
 }
 
 #[test]
@@ -148,6 +230,40 @@ fn climbs() {
     assert_eq!(climb(&[EDGES; 257], &[false; 257]), Err(Refusal::Rungs));
     let bad = Edges { spectral_high: f64::INFINITY, ..EDGES };
     assert_eq!(climb(&[EDGES, bad], &[false; 2]), Err(Refusal::SignalEdge));
+}
+
+/// What whoever forgets the marks of the bare boundary meets: blocked, no rung, and infinity.
+#[test]
+fn absent_parts_are_safe() {
+    let s = raw::Station {
+        margin_hz: 50.0,
+        dial_hz: 14_100_000.0,
+        power_w: 0.0,
+        policy: 2,
+        control: 0,
+        license: 2,
+        sideband: 0,
+        itu_region: 2,
+        band_plan: 0,
+        dial_known: 1,
+        power_known: 0,
+    };
+    let climb = |rungs: &[f64], floors: &[u8]| {
+        let c = raw::ceiling(s, 0, EDGES, EDGES, IMAGE, rungs, floors);
+        (c.refusal, c.rung, c.limit_known, c.limit.refusal, c.limit.verdict, c.limit.code)
+    };
+    let rung = [1_250.0, 1_750.0, 1_250.0, 1_750.0];
+    assert_eq!(climb(&rung, &[0]), (0, 0, 0, 0, 2, 0));
+    assert_eq!(climb(&[], &[]), (0, -1, 0, 0, 2, 0));
+    assert_eq!(climb(&rung, &[2]), (16, -1, 0, 16, 2, 0));
+    assert_eq!(climb(&[0.0, 2_900.0, 0.0, 2_900.0], &[0]), (0, -1, 1, 0, 2, 12));
+    let far = |dial_hz, count| {
+        let d = raw::distance(dial_hz, IMAGE[42], IMAGE[43], count, &[]);
+        (d.refusal, d.listed, d.distance_hz)
+    };
+    assert_eq!(far(14_100_000.0, 0), (0, 0, f64::INFINITY));
+    assert_eq!(far(14_100_000.0, 1), (23, 0, f64::INFINITY));
+    assert_eq!(far(f64::NAN, 0), (21, 0, f64::INFINITY));
 }
 
 /// The floor control frame counts where a rung's mark says so.

@@ -1,31 +1,47 @@
 //! Every number that an enum knows goes to a value and back; every other stands for none.
 
+use std::fmt::Debug;
+use std::str::FromStr;
+
 use pamuklid::{
     Code, Control, Direction, Distance, Edge, Guidance, Kind, License, Overshoot, Policy, Refusal,
-    Rule, Sideband, Verdict,
+    Rule, Sideband, Table, UnknownName, Verdict,
 };
 
-/// All 256 bytes: those of `numbers` are values, each its own, and no other byte is.
-fn round_trip<T: Copy + std::fmt::Debug + PartialEq>(
-    numbers: &[u8],
-    all: &[T],
-    of: fn(u8) -> Option<T>,
-    back: fn(T) -> u8,
-) {
-    for byte in 0..=255 {
-        match of(byte) {
-            Some(value) => {
-                assert!(numbers.contains(&byte), "{byte} is {value:?}");
-                assert_eq!(back(value), byte);
-                assert!(all.contains(&value));
+/// All 256 bytes: those of `numbers` are values, each its own, and no other byte is. Each value has a
+/// name of its own, and the names are those of `NAMES`.
+macro_rules! round_trip {
+    ($type:ident, $numbers:expr) => {{
+        let numbers: Vec<u8> = $numbers;
+        for byte in 0..=255 {
+            match $type::from_number(byte) {
+                Some(value) => {
+                    assert!(numbers.contains(&byte), "{byte} is {value:?}");
+                    assert_eq!(value.number(), byte);
+                    assert!($type::ALL.contains(&value));
+                }
+                None => assert!(!numbers.contains(&byte), "{byte} is nothing"),
             }
-            None => assert!(!numbers.contains(&byte), "{byte} is nothing"),
         }
+        let all: Vec<_> = numbers.iter().map(|&n| $type::from_number(n).unwrap()).collect();
+        assert_eq!(all, $type::ALL);
+        named($type::ALL, $type::NAMES, $type::name, $type::from_name);
+    }};
+}
+
+fn named<T>(all: &[T], names: &[&str], name: fn(T) -> &'static str, of: fn(&str) -> Option<T>)
+where
+    T: Copy + Debug + PartialEq + FromStr<Err = UnknownName>,
+{
+    assert_eq!(all.iter().map(|&value| name(value)).collect::<Vec<_>>(), names);
+    for (&value, text) in all.iter().zip(names) {
+        assert_eq!(of(text), Some(value));
+        assert_eq!(text.parse(), Ok(value));
+        assert_eq!(names.iter().filter(|n| *n == text).count(), 1, "{text}");
     }
-    assert_eq!(all.len(), numbers.len());
-    for (value, &byte) in all.iter().zip(numbers) {
-        assert_eq!(of(byte), Some(*value));
-    }
+    assert_eq!(of("no such name"), None);
+    let unknown = "".parse::<T>().unwrap_err();
+    assert_eq!(unknown.names, names);
 }
 
 fn numbers(from: u8, to: u8) -> Vec<u8> {
@@ -34,17 +50,24 @@ fn numbers(from: u8, to: u8) -> Vec<u8> {
 
 #[test]
 fn every_byte() {
-    round_trip(&numbers(0, 3), Policy::ALL, Policy::from_number, Policy::number);
-    round_trip(&numbers(0, 2), Control::ALL, Control::from_number, Control::number);
-    round_trip(&numbers(0, 4), License::ALL, License::from_number, License::number);
-    round_trip(&numbers(0, 1), Sideband::ALL, Sideband::from_number, Sideband::number);
-    round_trip(&numbers(0, 2), Direction::ALL, Direction::from_number, Direction::number);
-    round_trip(&numbers(0, 3), Kind::ALL, Kind::from_number, Kind::number);
-    round_trip(&numbers(0, 2), Verdict::ALL, Verdict::from_number, Verdict::number);
-    round_trip(&numbers(0, 1), Edge::ALL, Edge::from_number, Edge::number);
-    round_trip(&numbers(1, 25), Code::ALL, Code::from_number, Code::number);
-    let refusals = [numbers(1, 16), numbers(20, 23)].concat();
-    round_trip(&refusals, Refusal::ALL, Refusal::from_number, Refusal::number);
+    round_trip!(Policy, numbers(0, 3));
+    round_trip!(Control, numbers(0, 2));
+    round_trip!(License, numbers(0, 4));
+    round_trip!(Sideband, numbers(0, 1));
+    round_trip!(Direction, numbers(0, 2));
+    round_trip!(Kind, numbers(0, 3));
+    round_trip!(Verdict, numbers(0, 2));
+    round_trip!(Edge, numbers(0, 1));
+    round_trip!(Table, numbers(0, 8));
+    round_trip!(Code, numbers(1, 25));
+    round_trip!(Refusal, [numbers(1, 16), numbers(20, 23)].concat());
+}
+
+#[test]
+fn unknown_names() {
+    let unknown = "robot".parse::<Control>().unwrap_err();
+    assert_eq!(unknown.to_string(), "no such control: the names are local, remote and automatic");
+    assert_eq!("USB".parse::<Sideband>().unwrap_err().what, "sideband");
 }
 
 /// The numbers' meanings, as the papers give them.
@@ -69,22 +92,28 @@ fn meanings() {
     assert_eq!([Kind::Data, Kind::Cw, Kind::Test, Kind::Nothing], *Kind::ALL);
     assert_eq!([Verdict::Legal, Verdict::Warning, Verdict::Blocked], *Verdict::ALL);
     assert_eq!([Edge::Lower, Edge::Upper], *Edge::ALL);
+    let tables = [
+        Table::Bands,
+        Table::Segments,
+        Table::Channels,
+        Table::Privileges,
+        Table::Automatic,
+        Table::Excluded,
+        Table::Power,
+        Table::PlanData,
+        Table::PlanAvoid,
+    ];
+    assert_eq!(tables, *Table::ALL);
 }
 
 /// Every rule number is a rule; the first seven have names of their own.
 #[test]
 fn rules() {
-    let names = ["no rule", "§97.301", "§97.109", "§97.305(a)", "§97.305(b)", "§97.305(c)"];
     for number in 0..=u16::MAX {
         let rule = Rule::from_number(number);
         assert_eq!(rule.number(), number);
         assert_eq!(matches!(rule, Rule::Table(_)), number > 6);
-        if let Some(name) = names.get(usize::from(number)) {
-            assert_eq!(rule.to_string(), *name);
-        }
     }
-    assert_eq!(Rule::from_number(6).to_string(), "§97.307(f)(9)");
-    assert_eq!(Rule::from_number(7).to_string(), "rule 7 of the table");
 }
 
 /// An overshoot, a guidance and a distance by all bytes of their numbers.
@@ -130,15 +159,5 @@ fn numbers_with_parts() {
                 assert_eq!(value.number(), byte);
             }
         }
-    }
-}
-
-/// Each refusal has a text of its own, with its number.
-#[test]
-fn refusal_texts() {
-    let texts: Vec<String> = Refusal::ALL.iter().map(Refusal::to_string).collect();
-    for (refusal, text) in Refusal::ALL.iter().zip(&texts) {
-        assert!(text.starts_with(&format!("refusal {}: ", refusal.number())), "{text}");
-        assert_eq!(texts.iter().filter(|t| *t == text).count(), 1, "{text}");
     }
 }

@@ -1,0 +1,424 @@
+//! Every answer in words: the text of each case, written by hand.
+
+use std::collections::HashSet;
+use std::fmt::Display;
+
+use pamuklid::{
+    Ceiling, Code, Control, Decision, DialRow, Direction, Distance, Edge, Fault, Guidance, Hertz,
+    Kind, License, Overshoot, Place, Policy, PowerNotes, Range, Refusal, Rule, Segment, Sideband,
+    SixtyNotes, Table, Verdict, Version,
+};
+
+fn range(low_hz: f64, high_hz: f64) -> Range {
+    Range { low_hz, high_hz }
+}
+
+fn reads<T: Display>(value: T, text: &str) {
+    assert_eq!(value.to_string(), text);
+}
+
+/// Each value's text is its own, and none is empty.
+fn all_differ<T: Display>(all: &[T]) {
+    let texts: HashSet<String> = all.iter().map(T::to_string).collect();
+    assert_eq!(texts.len(), all.len(), "{texts:?}");
+    assert!(!texts.contains(""));
+}
+
+#[test]
+fn figures() {
+    reads(Hertz(0.0), "0 Hz");
+    reads(Hertz(0.125), "0.125 Hz");
+    reads(Hertz(999.0), "999 Hz");
+    reads(Hertz(1_000.0), "1,000 Hz");
+    reads(Hertz(-1_000.0), "-1,000 Hz");
+    reads(Hertz(-999.5), "-999.5 Hz");
+    reads(Hertz(14_100_000.125), "14,100,000.125 Hz");
+    reads(Hertz(1_099_511_627_776.0), "1,099,511,627,776 Hz");
+    reads(Hertz(f64::INFINITY), "inf Hz");
+    reads(Hertz(f64::NEG_INFINITY), "-inf Hz");
+    reads(Hertz(f64::NAN), "NaN Hz");
+    // too long to be put in threes
+    let most = f64::MAX.to_string();
+    reads(Hertz(f64::MAX), &format!("{most} Hz"));
+    assert_eq!(format!("[{:>10}]", Hertz(1_000.0)), "[  1,000 Hz]");
+    reads(range(14_000_000.0, 14_150_000.0), "14,000,000 to 14,150,000 Hz");
+    let segment = Segment { range: range(20.0, 80.5), rule: Rule::Table(13) };
+    reads(segment, "20 to 80.5 Hz (rule 13 of the table)");
+    reads(Version { major: 0, minor: 2, patch: 0 }, "0.2.0");
+    reads(Version::from_number(123_456), "12.34.56");
+}
+
+#[test]
+fn settings() {
+    reads(Policy::Unset, "no rules chosen");
+    reads(Policy::NoRules, "no rules apply");
+    reads(Policy::Rules, "the rules of a table");
+    reads(Policy::Broken, "rules that could not be loaded");
+    reads(Control::Local, "local control");
+    reads(Control::Remote, "remote control");
+    reads(Control::Automatic, "automatic control");
+    reads(License::Novice, "Novice");
+    reads(License::Technician, "Technician");
+    reads(License::General, "General");
+    reads(License::Advanced, "Advanced");
+    reads(License::Extra, "Amateur Extra");
+    reads(Sideband::Upper, "upper sideband");
+    reads(Sideband::Lower, "lower sideband");
+    reads(Direction::Originate, "this station calls");
+    reads(Direction::Respond, "this station answers");
+    reads(Direction::Operator, "an operator acts");
+    reads(Kind::Data, "data");
+    reads(Kind::Cw, "CW");
+    reads(Kind::Test, "a test emission");
+    reads(Kind::Nothing, "nothing");
+    reads(Edge::Lower, "lower");
+    reads(Edge::Upper, "upper");
+}
+
+#[test]
+fn verdicts() {
+    reads(Verdict::Legal, "may be sent");
+    reads(Verdict::Warning, "may be sent, with a warning");
+    reads(Verdict::Blocked, "blocked, may not be sent");
+}
+
+#[test]
+fn codes() {
+    let texts = [
+        "no rules are chosen for the station",
+        "the rules chosen for the station could not be loaded",
+        "the station is set to send without rules",
+        "the signal's spectrum is not known",
+        "the table is not for the station's ITU region",
+        "it is not known how the station is controlled",
+        "the operator's license is not known",
+        "the radio's sideband is not known",
+        "the radio's dial is not known",
+        "no band of the table holds the signal with its margin",
+        "automatic control is not allowed on this band",
+        "the signal is wider than data may be here",
+        "no data segment holds the signal with its margin",
+        "data is not allowed here, and no data segment is near",
+        "the operator's license does not allow this here",
+        "the rules permit it",
+        "it lies in a segment for automatic control",
+        "automatic control is not allowed outside its segments",
+        "it is too wide for automatic control outside its segments",
+        "outside its segments an automatic station may only answer",
+        "it keeps to the rule for automatic control outside its segments",
+        "this kind of emission is not allowed on 60 m",
+        "on 60 m it lies neither on a channel nor in the segment",
+        "it is judged by a 60 m channel",
+        "it lies in the 60 m segment",
+    ];
+    assert_eq!(texts.len(), Code::ALL.len());
+    for (&code, text) in Code::ALL.iter().zip(texts) {
+        reads(code, text);
+        if code != Code::SixtyChannel {
+            assert!(Verdict::ALL.iter().all(|&verdict| code.reason(verdict) == text));
+        }
+    }
+    let channel = |verdict| Code::SixtyChannel.reason(verdict);
+    assert_eq!(channel(Verdict::Legal), "it is set up for a 60 m channel");
+    assert_eq!(channel(Verdict::Warning), "it is set up for a 60 m channel");
+    assert_eq!(channel(Verdict::Blocked), "it touches a 60 m channel and is not set up for it");
+    // 3, 16, 17, 21 and 25 are never blocked
+    let never: Vec<u8> =
+        Code::ALL.iter().filter(|c| c.what_to_do().is_none()).map(|c| c.number()).collect();
+    assert_eq!(never, [3, 16, 17, 21, 25]);
+    assert_eq!(Code::TooWide.what_to_do(), Some("send a narrower signal"));
+}
+
+#[test]
+fn refusals() {
+    let texts = [
+        (1, "the image has under 92 or over 65,536 bytes"),
+        (2, "the image does not end with the letters EDGE"),
+        (3, "the image is of another edition than 1"),
+        (4, "the image's counts, length and distance disagree"),
+        (
+            5,
+            "a coded byte of the image is outside its values, an unused one is not zero, or the \
+             table of an absent part is not empty",
+        ),
+        (6, "a figure of the image is not finite, above 2^40 in size, or negative zero"),
+        (7, "a band's low end is not below its high end"),
+        (8, "a data segment's low end is not below its high end"),
+        (9, "an automatic segment's low end is not below its high end"),
+        (10, "a privilege's low end is not below its high end"),
+        (11, "the table has no bands or no data segments"),
+        (12, "a data segment lies in no band"),
+        (13, "a data segment's own width limit is not above 0"),
+        (14, "the table's general width limit is not above 0"),
+        (15, "an edge of the signal is not finite or above 2^40 in size"),
+        (16, "there are more than 256 rungs, or their floor marks are not one each"),
+        (20, "a code of the station is outside its values"),
+        (
+            21,
+            "the station's margin, dial or power, or a dial asked, is not finite or above 2^40 in \
+             size",
+        ),
+        (22, "rules are in force and there is no image"),
+        (23, "the dial list is longer than the rows lent"),
+    ];
+    assert_eq!(texts.len(), Refusal::ALL.len());
+    for (&refusal, (number, text)) in Refusal::ALL.iter().zip(texts) {
+        assert_eq!(refusal.number(), number);
+        assert_eq!(refusal.reason(), text);
+        assert_eq!(refusal.is_about_image(), number < 15);
+        reads(refusal, &format!("refusal {number}: {text}"));
+    }
+    let hints: HashSet<&str> = Refusal::ALL.iter().map(|r| r.what_to_do()).collect();
+    assert_eq!(hints.len(), Refusal::ALL.len());
+    assert_eq!(Refusal::Rows.what_to_do(), "lend more rows");
+}
+
+#[test]
+fn rules() {
+    let texts = [
+        ("no rule", None),
+        ("§97.301", Some("bands and privileges")),
+        ("§97.109", Some("control of a station")),
+        ("§97.305(a)", Some("CW")),
+        ("§97.305(b)", Some("test emissions")),
+        ("§97.305(c)", Some("where data may be sent")),
+        ("§97.307(f)(9)", Some("the emissions that a license allows")),
+        ("rule 7 of the table", None),
+    ];
+    for (number, (text, subject)) in (0..).zip(texts) {
+        reads(Rule::from_number(number), text);
+        assert_eq!(Rule::from_number(number).subject(), subject);
+    }
+    reads(Rule::Table(65_535), "rule 65535 of the table");
+}
+
+#[test]
+fn parts_of_an_answer() {
+    reads(Overshoot::NoOvershoot, "it is not judged against the edges of a data segment");
+    let beyond = |by_hz, edge| Overshoot::Beyond { by_hz, edge };
+    reads(beyond(250.0, Edge::Upper), "it reaches 250 Hz beyond the upper edge of the segment");
+    reads(
+        beyond(1_000.125, Edge::Lower),
+        "it reaches 1,000.125 Hz beyond the lower edge of the segment",
+    );
+    for &edge in Edge::ALL {
+        let text = "it lies inside the segment, closer to an edge than the margin";
+        reads(Overshoot::TooClose { edge }, text);
+    }
+    reads(Guidance::NoGuidance, "the band plan says nothing");
+    reads(Guidance::Avoid(3), "the band plan asks to keep clear of its area 3 to avoid");
+    reads(Guidance::Inside(255), "it lies in the band plan's area 255 for data");
+    reads(Guidance::Outside, "the band plan puts data elsewhere");
+    reads(Distance::Hz(0.0), "the dial is listed");
+    reads(Distance::Hz(0.125), "the nearest listed dial is 0.125 Hz away");
+    reads(Distance::Hz(8_693_300.0), "the nearest listed dial is 8,693,300 Hz away");
+    reads(Distance::NoneListed, "no dial is listed outside the channel band");
+    let power = |records: &[usize]| records.iter().copied().collect::<PowerNotes>();
+    reads(PowerNotes::NONE, "the power is above no power limit of the table");
+    reads(power(&[3]), "the power is above the table's power limit 3");
+    reads(power(&[255, 0]), "the power is above the table's power limits 0 and 255");
+    reads(power(&[0, 7, 8]), "the power is above the table's power limits 0, 7 and 8");
+    let row = DialRow {
+        segment: range(14_095_000.0, 14_099_500.0),
+        dial: range(14_093_800.0, 14_097_700.0),
+        band: 20,
+        rule: Rule::Table(9),
+    };
+    reads(
+        row,
+        "dials 14,093,800 to 14,097,700 Hz keep it in 14,095,000 to 14,099,500 Hz (band 20, by rule 9 \
+         of the table)",
+    );
+}
+
+#[test]
+fn faults() {
+    all_differ(Table::ALL);
+    let names: HashSet<&str> = Table::ALL.iter().map(|t| t.record()).collect();
+    assert_eq!(names.len(), Table::ALL.len());
+    reads(Table::Segments, "data segments");
+    assert_eq!(Table::Segments.record(), "data segment");
+    reads(Place::General, "the general block");
+    let place = Place::Record { table: Table::Privileges, index: 1 };
+    reads(place, "record 1 of the privileges, counted from 0");
+    reads(
+        Fault { refusal: Refusal::PrivilegeRange, place: Some(place) },
+        "refusal 10: a privilege's low end is not below its high end (in record 1 of the privileges, \
+         counted from 0)",
+    );
+    reads(
+        Fault { refusal: Refusal::Letters, place: None },
+        "refusal 2: the image does not end with the letters EDGE",
+    );
+}
+
+const NO_NOTES: SixtyNotes =
+    SixtyNotes { channel_power: false, shared: false, segment_power: false };
+
+/// An answer that knows nothing but a signal of 500 Hz.
+fn decision(verdict: Verdict, code: Code, rule: Rule) -> Decision {
+    Decision {
+        verdict,
+        code,
+        rule,
+        band: None,
+        segment: None,
+        automatic_segment: None,
+        audio: range(1_250.0, 1_750.0),
+        width_hz: 500.0,
+        air: None,
+        overshoot: Overshoot::NoOvershoot,
+        guidance: Guidance::NoGuidance,
+        sixty: NO_NOTES,
+        power: PowerNotes::NONE,
+    }
+}
+
+/// In band 20 of the practice table, at a dial, against its segment.
+fn at(dial_hz: f64, verdict: Verdict, code: Code, rule: Rule) -> Decision {
+    Decision {
+        band: Some(20),
+        air: Some(range(dial_hz + 1_250.0, dial_hz + 1_750.0)),
+        segment: Some(Segment { range: range(14_000_000.0, 14_150_000.0), rule: Rule::Table(13) }),
+        ..decision(verdict, code, rule)
+    }
+}
+
+#[test]
+fn decisions() {
+    reads(
+        decision(Verdict::Blocked, Code::NoDial, Rule::Empty),
+        "Blocked: the radio's dial is not known (code 9, no_dial). The signal is 500 Hz wide.",
+    );
+    let d = decision(Verdict::Blocked, Code::Unmeasured, Rule::Empty);
+    reads(d, "Blocked: the signal's spectrum is not known (code 4, unmeasured).");
+    assert_eq!(d.reason(), "the signal's spectrum is not known");
+    assert_eq!(d.what_to_do(), Some("measure the signal's edges"));
+
+    let mut d = decision(Verdict::Blocked, Code::OutOfBand, Rule::Part97_301);
+    d.air = Some(range(13_999_000.0, 13_999_500.0));
+    let why =
+        "Blocked: no band of the table holds the signal with its margin (code 10, out_of_band, \
+               by §97.301). The signal is 500 Hz wide, at 13,999,000 to 13,999,500 Hz";
+    reads(d, &format!("{why}."));
+    d.band = Some(20);
+    reads(d, &format!("{why}, and touches band 20."));
+
+    let d = at(14_023_800.0, Verdict::Legal, Code::Permitted, Rule::Table(13));
+    reads(
+        d,
+        "May be sent: the rules permit it (code 16, permitted, by rule 13 of the table). The signal is \
+         500 Hz wide, at 14,025,050 to 14,025,550 Hz in band 20; the segment is 14,000,000 to \
+         14,150,000 Hz (rule 13 of the table).",
+    );
+    assert_eq!(d.what_to_do(), None);
+    assert!(d.allowed());
+}
+
+#[test]
+fn decisions_outside_a_segment() {
+    let place =
+        "The signal is 500 Hz wide, at 14,149,750 to 14,150,250 Hz in band 20; the segment is \
+                 14,000,000 to 14,150,000 Hz (rule 13 of the table).";
+    let mut d = at(14_148_500.0, Verdict::Blocked, Code::OutsideDataSegment, Rule::Table(13));
+    d.overshoot = Overshoot::Beyond { by_hz: 250.0, edge: Edge::Upper };
+    let why = "Blocked: no data segment holds the signal with its margin (code 13, \
+               outside_data_segment, by rule 13 of the table).";
+    let how = "It reaches 250 Hz beyond the upper edge of the segment.";
+    reads(d, &format!("{why} {how} {place}"));
+    assert_eq!(format!("{d:#}"), format!("{why}\n{how}\n{place}"));
+
+    // 1 Hz inside the lower edge: the edge that the gate names is the upper
+    let mut d = at(13_998_751.0, Verdict::Blocked, Code::OutsideDataSegment, Rule::Table(13));
+    d.overshoot = Overshoot::TooClose { edge: Edge::Upper };
+    let text = d.to_string();
+    let how =
+        "It lies inside the segment, 1 Hz from the lower edge and 149,499 Hz from the upper: \
+               closer than the margin.";
+    assert!(text.starts_with(&format!("{why} {how} The signal is 500 Hz wide, at ")), "{text}");
+    // without a segment, which no answer of the library is
+    d.segment = None;
+    let text = d.to_string();
+    let how = "It lies inside the segment, closer to an edge than the margin.";
+    assert!(text.starts_with(&format!("{why} {how} The signal is")), "{text}");
+}
+
+#[test]
+fn decisions_with_notes() {
+    let mut d = at(14_097_700.0, Verdict::Warning, Code::AutomaticSegment, Rule::Table(9));
+    d.automatic_segment = Some(range(14_095_000.0, 14_099_500.0));
+    d.power = [2, 5].into_iter().collect();
+    d.guidance = Guidance::Avoid(1);
+    assert_eq!(
+        format!("{d:#}"),
+        "May be sent, with a warning: it lies in a segment for automatic control (code 17, \
+         automatic_segment, by rule 9 of the table).\n\
+         The signal is 500 Hz wide, at 14,098,950 to 14,099,450 Hz in band 20; the segment is \
+         14,000,000 to 14,150,000 Hz (rule 13 of the table); the segment for automatic control is \
+         14,095,000 to 14,099,500 Hz.\n\
+         The power is above the table's power limits 2 and 5.\n\
+         The band plan asks to keep clear of its area 1 to avoid."
+    );
+    assert_eq!(d.what_to_do(), None);
+
+    let mut d = at(5_330_550.0, Verdict::Warning, Code::SixtyChannel, Rule::Table(10));
+    d.band = Some(60);
+    d.segment = Some(Segment { range: range(5_330_600.0, 5_333_400.0), rule: Rule::Table(10) });
+    d.sixty = SixtyNotes { channel_power: true, shared: true, segment_power: true };
+    assert_eq!(
+        format!("{d:#}"),
+        "May be sent, with a warning: it is set up for a 60 m channel (code 24, sixty_channel, by rule \
+         10 of the table).\n\
+         The signal is 500 Hz wide, at 5,331,800 to 5,332,300 Hz in band 60; the channel is 5,330,600 \
+         to 5,333,400 Hz (rule 10 of the table).\n\
+         The power is above the 100 W ERP of a 60 m channel.\n\
+         60 m is shared with government stations: keep transmissions short.\n\
+         The power is above the 9.15 W ERP of the 60 m segment."
+    );
+    assert_eq!(NO_NOTES.clauses().count(), 0);
+    (d.verdict, d.sixty) = (Verdict::Blocked, NO_NOTES);
+    assert!(d
+        .to_string()
+        .starts_with("Blocked: it touches a 60 m channel and is not set up for it"));
+    assert!(d.what_to_do().unwrap().starts_with("set the dial to the channel's carrier"));
+}
+
+/// Every code in words: the verdict, then the reason, then number and name.
+#[test]
+fn every_code() {
+    for &code in Code::ALL {
+        for &verdict in Verdict::ALL {
+            let text = decision(verdict, code, Rule::Empty).to_string();
+            let begins = match verdict {
+                Verdict::Legal => "May be sent: ",
+                Verdict::Warning => "May be sent, with a warning: ",
+                Verdict::Blocked => "Blocked: ",
+            };
+            let (reason, number, name) = (code.reason(verdict), code.number(), code.name());
+            assert!(text.starts_with(&format!("{begins}{reason} (code {number}, {name}).")));
+            assert!(text.ends_with('.'));
+        }
+    }
+}
+
+#[test]
+fn ceilings() {
+    let limit = decision(Verdict::Blocked, Code::TooWide, Rule::Table(7));
+    let why =
+        "Blocked: the signal is wider than data may be here (code 12, too_wide, by rule 7 of the \
+               table). The signal is 500 Hz wide.";
+    let of = |rung, limit| Ceiling { rung, limit };
+    reads(of(None, None), "There are no rungs.");
+    reads(of(Some(0), None), "Rung 0 may be sent. There is none above.");
+    reads(of(Some(255), None), "Rungs 0 to 255 may be sent. There is none above.");
+    reads(
+        of(None, Some(limit)),
+        &format!("No rung may be sent. Rung 0 with its control frame: {why}"),
+    );
+    let c = of(Some(1), Some(limit));
+    reads(c, &format!(
+            "Rungs 0 to 1 may be sent. Rung 2 with its control frame and what the slower ones occupy: \
+             {why}"
+        ));
+    assert!(format!("{c:#}").starts_with("Rungs 0 to 1 may be sent.\nRung 2 with"));
+}
