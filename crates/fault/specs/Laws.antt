@@ -1,6 +1,6 @@
 -- Laws of the place: a refusal by 5 to 10, 12 or 13 has one, in the general block or in a record that is there, and nothing else has.
 use Prim.Native.Nat.{ℕ, _<_, _≤_}
-use mathlib.Core.Path.{_≡_, refl, sym, ap, _∙_}
+use mathlib.Core.Path.{_≡_, refl, sym, ap, subst, _∙_}
 use mathlib.Core.Bool.{Bool, true, false, not, cond, _&&_, _||_, true≢false}
 use mathlib.Core.List.{List, [], _∷_}
 use native.Mathlib.Omega.{arith}
@@ -254,8 +254,12 @@ at-nowhere n l h =
     (rw (other n 8 h refl)
     (rw (other n 9 h refl) (rw (other n 10 h refl) (rw (other n 12 h refl) (rw (other n 13 h refl))))))))
 
+-- nor has the form
+form-none : (n : ℕ) → n < 5 → hasPlace n ≡ false
+form-none n h = rw (lt-leb 5 n h) (rw (ne-eqb n 12 (λ e. omega arith)) (rw (ne-eqb n 13 (λ e. omega arith))))
+
 pub form-nowhere : (n : ℕ) (l : List ℕ) → n < 5 → Nowhere ≡ faultAt n l
-form-nowhere n l h = at-nowhere n l (rw (lt-leb 5 n h) (rw (ne-eqb n 12 (λ e. omega arith)) (rw (ne-eqb n 13 (λ e. omega arith)))))
+form-nowhere n l h = at-nowhere n l (form-none n h)
 
 -- A refusal by another number has no place, nor has an accepted image.
 pub unlocated : (l : List ℕ) (n : ℕ) → checkOf l ≡ Refused n → hasPlace n ≡ false → faultOf l .fault ≡ Nowhere
@@ -263,3 +267,22 @@ unlocated l n e h = rw e (sym (at-nowhere n l h))
 
 pub accepted-nowhere : (l : List ℕ) → checkOf l ≡ Accepted → faultOf l .fault ≡ Nowhere
 accepted-nowhere l e = rw e
+
+-- So a record that is named is one of a whole image's, below its table's count.
+pub named : (l : List ℕ) (t i : ℕ) → faultOf l .fault ≡ InRecord t i → Whole l × (t < tables) × (i < countOf l t)
+named l t i e = by-check (checkOf l) refl
+  where
+    never : faultOf l .fault ≡ Nowhere → ⊥
+    never q = let z : _≡_ {A = ℕ} 0 1 = cc in omega arith
+
+    whole : (n : ℕ) → checkOf l ≡ Refused n → hasPlace n ≡ true → Dec (5 ≤ n) → Whole l
+    whole n c h (yes k) = refused-whole l n c k
+    whole n c h (no k) = absurd (true≢false (sym h ∙ form-none n (omega arith)))
+
+    by-place : (n : ℕ) → checkOf l ≡ Refused n → (b : Bool) → hasPlace n ≡ b → Whole l × (t < tables) × (i < countOf l t)
+    by-place n c true h = let p = subst (Located l) e (located l n c h) in (whole n c h (decLe 5 n), p .0, p .1)
+    by-place n c false h = absurd (never (unlocated l n c h))
+
+    by-check : (x : Checked) → checkOf l ≡ x → Whole l × (t < tables) × (i < countOf l t)
+    by-check Accepted c = absurd (never (accepted-nowhere l c))
+    by-check (Refused n) c = by-place n c (hasPlace n) refl
