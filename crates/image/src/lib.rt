@@ -4,8 +4,6 @@ use find::Question;
 use layout::General;
 ghost use mathlib.Core.Path.{_≡_};
 ghost use mathlib.Core.Bool.{false};
-ghost use Prim.Native.Nat.{_+_, _*_, _≤_, _<_};
-ghost use lib.ListN.{length};
 ghost use Rattle.codes.specs.Refusal.{refusalOf};
 ghost use Rattle.layout.specs.Form.{Whole};
 ghost use Rattle.table.specs.Table.{tableOf};
@@ -44,7 +42,8 @@ fn is_miscoded(s: &[u8]) -> bool
     false
 }
 
-fn sound_block(g: General) -> bool
+// The general block's figures.
+pub fn sound_block(g: General) -> bool
     ensures { λ r. ⌜ r ≡ soundBlock g ⌝ }
 {
     find::sound_bits(g.data_limit)
