@@ -1,20 +1,20 @@
 // Whether a transmission is blocked, without the answer: what the climb over the rungs asks of each. It uses codes, profile,
 // occupancy, station, layout, table, decision, part97, judge and verdict.
-use codes::Control;
 use codes::Direction;
 use codes::EmissionKind;
-use codes::License;
 use codes::Policy;
-use codes::SidebandSet;
 use decision::MaybeRange;
 use decision::Verdict;
+use layout::General;
 use occupancy::Edges;
 use part97::Finding;
 use profile::Range;
 use station::Figure;
 use station::Situation;
+use verdict::Ready;
 ghost use mathlib.Core.Path.{_≡_};
 ghost use Rattle.layout.specs.Form.{Whole};
+ghost use Rattle.layout.specs.Layout.{generalOf};
 ghost use Rattle.table.specs.Table.{tableOf};
 ghost use Rattle.decision.specs.Decision.{isBlocked};
 ghost use Rattle.verdict.specs.Verdict.{underRulesOf, decideOf};
@@ -45,36 +45,20 @@ fn blocks(f: Finding) -> bool
 // Under an accepted table, at a dial: a prerequisite that is missing blocks, and else Part 97 says.
 fn barred_by_rules(
     image: &[u8],
+    g: General,
     s: Situation,
     dial: Figure,
     kind: EmissionKind,
     direction: Direction,
     audio: Range,
 ) -> bool
-    requires { ⌜ Whole (now image) ⌝ }
+    requires { ⌜ (Whole (now image)) × (g ≡ generalOf (now image)) ⌝ }
     ensures { λ x. ⌜ x ≡ isBlocked (underRulesOf (tableOf (now (image .entry))) s dial kind direction audio .verdict) ⌝ }
 {
-    let g = layout::general_of(image);
-    if s.itu_region != g.region {
-        return true;
+    match verdict::prepare(g, s, dial, kind, direction, audio) {
+        Ready::Met(c) => blocks(judge::judge_case(image, c)),
+        Ready::Missing(_, _) => true,
     }
-    let control_set = s.control;
-    let license_set = s.license;
-    let sideband_set = s.sideband;
-    let Control::ControlIs(control) = control_set else {
-        return true;
-    };
-    let License::LicenseIs(class) = license_set else {
-        return true;
-    };
-    let SidebandSet::SidebandIs(sideband) = sideband_set else {
-        return true;
-    };
-    let Figure::Known(hz) = dial else {
-        return true;
-    };
-    let c = verdict::case_of(s, control, class, sideband, hz, kind, direction, audio);
-    blocks(judge::judge_case(image, c))
 }
 
 // By the policy, at a dial. Under Rules the image is an accepted one.
@@ -96,7 +80,7 @@ pub fn barred(
         Policy::Rules => {
             let g = layout::general_of(image);
             let audio = e.range(table::reading_of(g));
-            barred_by_rules(image, s, dial, kind, direction, audio)
+            barred_by_rules(image, g, s, dial, kind, direction, audio)
         }
         Policy::Broken => true,
     }

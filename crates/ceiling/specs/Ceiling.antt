@@ -22,6 +22,7 @@ use Rattle.station.specs.Station.{situationOf}
 use Rattle.station.specs.declared.StationRecord.{StationRecord}
 use Rattle.station.specs.declared.Situation.{Situation}
 use Rattle.layout.specs.Bytes.{byteAt}
+use Rattle.table.specs.Table.{Table, tableOf}
 use Rattle.entry.specs.Entry.{entryTests, edgesValid, edgesRead}
 use Rattle.decision.specs.Decision.{isBlocked, refusedOf}
 use Rattle.decision.specs.declared.Decision.{Decision}
@@ -132,7 +133,7 @@ unlessRefused (Refused n) c = record { refusal = Refused n; rung = NoRung; limit
 unfoldable pub ceilingOf : StationRecord → ℕ → Edges → Edges → List ℕ → List Float → List ℕ → CeilingAnswer
 ceilingOf r direction ordinary floor l rungs floors =
     unlessRefused (refusalOf (ceilingTests r direction ordinary floor l rungs floors))
-    (climbed (judgeBy l (situationOf r) (directionOf direction)) (burstOf (edgesRead ordinary) (edgesRead floor) rungs floors)
+    (climbed (judgeBy (tableOf l) (situationOf r) (directionOf direction)) (burstOf (edgesRead ordinary) (edgesRead floor) rungs floors)
     (length rungs / 4))
 
 -- a rung or none: the rung's number, and -1 where there is none, which is below every rung

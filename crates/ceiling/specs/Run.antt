@@ -18,6 +18,7 @@ use Rattle.scan.specs.declared.Found.{Found}
 use Rattle.scan.specs.declared.Found.the-variants.{At, Nothing}
 use Rattle.station.specs.Station.{situationOf}
 use Rattle.station.specs.declared.StationRecord.{StationRecord}
+use Rattle.table.specs.Table.{tableOf}
 use Rattle.entry.specs.Entry.{edgesRead}
 use Rattle.decision.specs.Decision.{isBlocked, refusedOf}
 use Rattle.decision.specs.declared.Decision.{Decision}
@@ -181,7 +182,7 @@ unless-blocked (Refused n) c e = refl
 
 module _ (r : StationRecord) (direction : ℕ) (ordinary floor : Edges) (l : List ℕ) (rungs : List Float) (floors : List ℕ) where
   abbrev pub judging : Edges → Decision
-  judging = judgeBy l (situationOf r) (directionOf direction)
+  judging = judgeBy (tableOf l) (situationOf r) (directionOf direction)
 
   abbrev pub bursts : ℕ → Edges
   bursts = burstOf (edgesRead ordinary) (edgesRead floor) rungs floors

@@ -14,6 +14,7 @@ ghost use lib.ListN.{length};
 ghost use Rattle.codes.specs.Refusal.{refusalOf};
 ghost use Rattle.codes.specs.declared.Policy.the-variants.{Rules};
 ghost use Rattle.layout.specs.Form.{Whole};
+ghost use Rattle.table.specs.Table.{tableOf};
 ghost use Rattle.ceiling.specs.Ceiling.{figureAt, rungOf, controlOf, burstOf, joinedOf, startOf, judgeBy, judgedOf, rungJudged, climbed, anyUnsized, anyUnmarked, badEdges, badRungs, ceilingTests, ceilingOf};
 
 // The fastest rung allowed.
@@ -191,7 +192,7 @@ fn climb_all(
     floors: &[u8],
 ) -> Climb
     requires { ⌜ (s .policy ≡ Rules → Whole (now image)) × (length (now floors) ≡ length (now rungs) / 4) ⌝ }
-    ensures { λ x. ⌜ x ≡ climbed (judgeBy (now (image .entry)) s direction) (burstOf ordinary floor (now (rungs .entry)) (now (floors .entry))) (length (now (rungs .entry)) / 4) ⌝ }
+    ensures { λ x. ⌜ x ≡ climbed (judgeBy (tableOf (now (image .entry))) s direction) (burstOf ordinary floor (now (rungs .entry)) (now (floors .entry))) (length (now (rungs .entry)) / 4) ⌝ }
 {
     let count = rungs.len() / 4;
     let policy = s.policy;

@@ -4,6 +4,7 @@ use mathlib.Core.Path.{_≡_, sym, _∙_}
 use native.Mathlib.Omega.{arith}
 use borrow.Author.Needs.{needs}
 use Rattle.decision.specs.Decision.{isBlocked}
+use Rattle.table.specs.Table.{tableOf}
 use Rattle.ceiling.specs.Ceiling.{burstOf, joinedOf, endedOf, judgeBy}
 use Rattle.ceiling.specs.Laws.{Free, free-start, free-again, free-over, climb-done}
 use Rattle.ceiling.proofs.climb_all.Statement.{statement}
@@ -11,7 +12,7 @@ use Rattle.ceiling.proofs.climb_all.Tie as tie
 
 abbrev Inv-loop : tie.InvT-loop
 Inv-loop image s direction ordinary floor rungs floors count policy dial envelope₀ rung₀ i₀ envelope rung i =
-    Free (judgeBy image s direction) (burstOf ordinary floor rungs floors) count i envelope rung
+    Free (judgeBy (tableOf image) s direction) (burstOf ordinary floor rungs floors) count i envelope rung
 
 abbrev μ-loop : tie.MeasureT-loop
 μ-loop image s direction ordinary floor rungs floors count policy dial envelope₀ rung₀ i₀ envelope rung i = count - i
@@ -21,7 +22,7 @@ envelope : (c : tie.After-joined Inv-loop μ-loop) → c .joined .result ≡ joi
 envelope c = rw (c .joined .ensures) (rw (c .before .burst .ensures))
 
 -- what it asks of it
-asked : (c : tie.After-barred Inv-loop μ-loop) → c .barred .result ≡ isBlocked (judgeBy (c .before .before .before .before .before .before .before .before .args .image .now) (c .before .before .before .before .before .before .before .before .args .s) (c .before .before .before .before .before .before .before .before .args .direction) (c .before .joined .result) .verdict)
+asked : (c : tie.After-barred Inv-loop μ-loop) → c .barred .result ≡ isBlocked (judgeBy (tableOf (c .before .before .before .before .before .before .before .before .args .image .now)) (c .before .before .before .before .before .before .before .before .args .s) (c .before .before .before .before .before .before .before .before .args .direction) (c .before .joined .result) .verdict)
 unfolding judgeBy
 asked c = c .barred .ensures
 
