@@ -36,7 +36,7 @@ impl Answer {
     pub fn new<T: Serialize>(status: Status, text: String, json: &T) -> Result<Self, Failure> {
         let json = serde_json::to_string(json)
             .map_err(|why| Failure::new(Kind::Internal, format!("the answer has no JSON: {why}")))?;
-        Ok(Self { status, text, json })
+        Ok(Self { status, text, json: json + "\n" })
     }
 }
 

@@ -310,8 +310,8 @@ impl RefusalJson {
         Self {
             number: refusal.number(),
             name: refusal.name(),
-            reason: refusal.reason(),
-            what_to_do: refusal.what_to_do(),
+            reason: words::refusal_reason(refusal),
+            what_to_do: words::what_to_do(refusal, false),
             place: None,
             fields: Vec::new(),
         }
@@ -320,6 +320,7 @@ impl RefusalJson {
     pub fn at(refusal: Refusal, image: &[u8], fault: Option<&(Fault, Vec<Field>)>) -> Self {
         let mut out = Self::of(refusal);
         let Some((fault, fields)) = fault else { return out };
+        out.what_to_do = words::what_to_do(refusal, !fields.is_empty());
         out.place = fault.place.map(|place| match place {
             Place::General => PlaceJson { part: "general", table: None, record: None, at: 0, bytes: 64 },
             Place::Record { table, index } => PlaceJson {

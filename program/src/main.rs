@@ -26,9 +26,8 @@ use commands::Command;
 
 /// Says before a transmission whether it is lawful under 47 CFR Part 97, by a table of the rules
 ///
-/// Says before a transmission whether it is lawful under 47 CFR Part 97, by a trustee's table of the rules, the
-/// station and the edges of the signal; how fast a rung may be sent; and at which dials data may be. Every answer
-/// is the proved library's.
+/// The table is a trustee's, the station and the edges of the signal are given as options. It also says how fast a
+/// rung may be sent and at which dials data may be, and checks a table. Every answer is the proved library's.
 #[derive(Parser, Debug)]
 #[command(name = "pamuklid", bin_name = "pamuklid", max_term_width = 100, after_help = AFTER)]
 pub struct Cli {
@@ -44,9 +43,8 @@ pub struct Cli {
     color: When,
 }
 
-const AFTER: &str = "\
-Exit status: 0 may be sent (or accepted, or listed), 1 blocked (or refused, or not listed), 2 not answered: a
-refusal, a bad argument, a read or a write that failed. Frequencies are in hertz, power in watts.";
+const AFTER: &str = "Exit status: 0 may be sent (or accepted, or listed), 1 blocked (or refused, or not listed), \
+2 not answered: a refusal, a bad argument, a read or a write that failed. Frequencies are in hertz, power in watts.";
 
 /// The program's version, and the library's.
 fn versions() -> (&'static str, String) {
@@ -116,7 +114,9 @@ fn not_taken(args: &[OsString], hints: &Hints, color: bool) -> Result<Status, Fa
         }
         ErrorKind::DisplayHelp | ErrorKind::DisplayVersion => out(Status::Yes, said),
         _ if hints.json => {
-            let message = said.trim_start_matches("error: ").split("\n\nUsage").next().unwrap_or_default();
+            let message = said.trim_start_matches("error: ");
+            let end = ["\n\nUsage", "\n\nFor more"].iter().filter_map(|part| message.find(part)).min();
+            let message = &message[..end.unwrap_or(message.len())];
             Err(Failure::arguments(message.trim_end(), "see pamuklid --help"))
         }
         _ => {

@@ -212,7 +212,7 @@ pub fn refusal(
     fault: Option<&(Fault, Vec<Field>)>,
     style: Style,
 ) -> String {
-    let mut out = format!("{}: refusal {}, {}.\n", style.bad(head), refusal.number(), refusal.reason());
+    let mut out = format!("{}: refusal {}, {}.\n", style.bad(head), refusal.number(), refusal_reason(refusal));
     if matches!(refusal, Refusal::ImageLength | Refusal::NoImage | Refusal::Letters | Refusal::Counts) {
         out.push_str(&format!("The image has {}.\n", table.length()));
     }
@@ -222,7 +222,7 @@ pub fn refusal(
         }
         for field in fields {
             out.push_str(&format!(
-                "  {}, at byte {}: {} ({}), {}\n",
+                "  {}, at byte {}: {} ({}); {}\n",
                 field.name,
                 field.at,
                 field.value,
@@ -238,16 +238,27 @@ pub fn refusal(
     out
 }
 
-fn what_to_do(refusal: Refusal, shown: bool) -> String {
+/// Why, by the program's own measure where it is that.
+pub fn refusal_reason(refusal: Refusal) -> &'static str {
     match refusal {
-        Refusal::NoImage => "give the table's image with --table, and see that the file is whole".to_owned(),
-        Refusal::Rows => "ask a narrower question: the list has more rows than the program has room for".to_owned(),
-        Refusal::StationFigure => "give --dial, --margin and --power again".to_owned(),
-        Refusal::SignalEdge => "give the edges again, in hertz of the audio".to_owned(),
+        Refusal::Rungs => "there are more than 256 rungs",
+        Refusal::Rows => "the dial list has more than the 10,000 rows that there is room for",
+        _ => refusal.reason(),
+    }
+}
+
+/// What to do about a refusal, by the program's own options where they are the way; whether its field is shown.
+pub fn what_to_do(refusal: Refusal, shown: bool) -> &'static str {
+    match refusal {
+        Refusal::NoImage => "give the table's image with --table, and see that the file is whole",
+        Refusal::Rungs => "give --rung at most 256 times",
+        Refusal::Rows => "have the table made again: its records overlap many times",
+        Refusal::StationFigure => "give --dial, --margin and --power again",
+        Refusal::SignalEdge => "give the edges again, in hertz of the audio",
         Refusal::CodedByte | Refusal::ImageFigure if shown => {
-            "have the table made again with the field as docs/IMAGE.md has it".to_owned()
+            "have the table made again with the field as docs/IMAGE.md has it"
         }
-        _ => refusal.what_to_do().to_owned(),
+        _ => refusal.what_to_do(),
     }
 }
 
@@ -256,7 +267,7 @@ fn place_words(place: Place, table: &Table) -> String {
         Place::General => "the general block, bytes 0 to 63".to_owned(),
         Place::Record { table: of, index } => {
             let at = crate::image::record_at(&table.image, of, index.into());
-            format!("{place}: a {}, bytes {at} to {}", of.record(), at + 31)
+            format!("{place}, bytes {at} to {}", at + 31)
         }
     }
 }

@@ -14,9 +14,10 @@ use crate::words;
 
 /// Checks a table: accepted or refused, where it is wrong, and whether it is tidy
 ///
-/// Checks a table's image: whether it is accepted, and tidy; or the number of its refusal, what it means, and where the
-/// table is wrong, by record, field and byte. docs/IMAGE.md describes the image. Exit status: 0 accepted, 1 refused, 2
-/// not read.
+/// Of a refused table it says the number of the refusal, what it means, and where the table is wrong, by record, field
+/// and byte. docs/IMAGE.md describes the image.
+///
+/// Exit status: 0 accepted, 1 refused, 2 not read.
 #[derive(clap::Args, Debug)]
 pub struct Args {
     /// The table's image, a file; - is standard input

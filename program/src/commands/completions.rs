@@ -7,8 +7,7 @@ use crate::json::Help;
 
 /// Writes the completions of a shell
 ///
-/// Writes the completions of a shell to standard output, to be put where the shell looks for them: for bash
-/// /etc/bash_completion.d/pamuklid.
+/// They go to standard output, to be put where the shell looks for them: for bash /etc/bash_completion.d/pamuklid.
 #[derive(clap::Args, Debug)]
 pub struct Args {
     #[arg(value_enum)]

@@ -11,8 +11,10 @@ use crate::words;
 
 /// Lists the dials at which data may be sent
 ///
-/// Lists the dials at which data of the given edges may be sent, with the segment that each keeps it in. What is not
-/// given is the practice station's. Exit status: 0 there are some, 1 there are none, 2 not listed.
+/// Each row has the dials from which data of the given edges stays in a segment, the margin to spare. What is not given
+/// is the practice station's.
+///
+/// Exit status: 0 there are some, 1 there are none, 2 not listed.
 #[derive(clap::Args, Debug)]
 pub struct Args {
     #[command(flatten)]

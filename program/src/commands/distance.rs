@@ -13,8 +13,9 @@ use crate::words;
 
 /// Says how far a dial stands from the nearest one that is listed
 ///
-/// Says how far a dial stands from the nearest at which data may be sent, 60 m left out, and the verdict on data there.
-/// What is not given is the practice station's. Exit status: 0 the dial is listed, 1 it is not, 2 not answered.
+/// 60 m is left out. The answer also has the verdict on data at that dial. What is not given is the practice station's.
+///
+/// Exit status: 0 the dial is listed, 1 it is not, 2 not answered.
 #[derive(clap::Args, Debug)]
 pub struct Args {
     /// The dial in hertz

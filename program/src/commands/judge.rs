@@ -14,9 +14,10 @@ use crate::words;
 
 /// Judges a transmission: whether it may be sent, why, and at which dials data may be
 ///
-/// Judges a transmission on the practice table, which is made up, or on a table of --table: whether it may be sent,
-/// why, by which rule and edges; with --rung, how fast a rung may be sent; and for data the dials at which it may be.
-/// What is not given is the practice station's. Exit status: 0 may be sent, 1 blocked, 2 not judged.
+/// It goes by the practice table, which is made up, or by that of --table. The answer has the rule and the edges;
+/// with --rung, how fast a rung may be sent; and for data the dials. What is not given is the practice station's.
+///
+/// Exit status: 0 may be sent, 1 blocked, 2 not judged.
 #[derive(clap::Args, Debug)]
 pub struct Args {
     #[command(flatten)]

@@ -7,7 +7,7 @@ use crate::json::Help;
 
 /// Writes the manual page
 ///
-/// Writes the manual page to standard output: `pamuklid man >pamuklid.1`, and `man ./pamuklid.1` shows it.
+/// It goes to standard output: `pamuklid man >pamuklid.1`, and `man ./pamuklid.1` shows it.
 #[derive(clap::Args, Debug)]
 pub struct Args {}
 
