@@ -1,10 +1,10 @@
-//! Puts the Rust, unchanged, where it can be built, and says where the library is.
+//! Puts the Rust, unchanged, where it can be built. The library is linked by the crate pamuklid
+//! (`wrapper/rust`): `PAMUKLID_LIB_DIR` is its folder, by default `target/staticlib` in the repository.
 //!
 //! - `PAMUKLID_RUST_SRC`: the folder that holds `core/aetherd/src/regulatory/{mod,profile,
 //!   occupancy}.rs`; by default `../shared/docs/src` from the repository's root. The three files
 //!   are copied into cargo's own output folder, beside stand-ins for the two data files that they
 //!   include.
-//! - `PAMUKLID_LIB_DIR`: the folder of `libpamuklid.a`; by default `target/staticlib`.
 
 use std::env;
 use std::fs;
@@ -37,8 +37,4 @@ fn main() {
         module.join("mod.rs")
     );
     fs::write(out.join("rust.rs"), text).unwrap();
-    let lib = folder("PAMUKLID_LIB_DIR", root.join("target/staticlib"));
-    println!("cargo::rerun-if-changed={}", lib.join("libpamuklid.a").display());
-    println!("cargo::rustc-link-search=native={}", lib.display());
-    println!("cargo::rustc-link-lib=static=pamuklid");
 }

@@ -1,16 +1,15 @@
-//! Puts the Rust, unchanged, where it can be built, and says where the library is.
+//! Puts the Rust, unchanged, where it can be built. The library is linked by the crate pamuklid
+//! (`wrapper/rust`): `PAMUKLID_LIB_DIR` is its folder, by default `target/staticlib` in the repository.
 //!
 //! - `PAMUKLID_RUST_SRC`: the folder that holds `core/aetherd/src/regulatory/{mod,profile,
 //!   occupancy}.rs`; by default `../shared/docs/src` from the repository's root. The three files
 //!   are copied into cargo's own output folder, beside stand-ins for the two data files that they
 //!   include and that aren't to be had. Nothing of the Rust is kept in the repository.
-//! - `PAMUKLID_LIB_DIR`: the folder of `libpamuklid.a`; by default `target/staticlib` in the
-//!   repository. Not used with the feature `stub`.
-//! - The distance of a dial is compared if the library has `pamuklid_distance_of` (cfg `distance`);
-//!   else the driver links without it and says "distance: not compared".
+//! - Where a table is wrong is compared if the library has `pamuklid_fault_of` (cfg `fault`); else the
+//!   driver links without it and says "fault: not compared".
 //! - `PAMUKLID_STUB_SRC`, `PAMUKLID_STUB_OWN` (feature `stub` only): the Rust, and the folder of the
-//!   `expect.rs` and `adapter.rs`, that the stub answers from, where they are to differ from the
-//!   driver's.
+//!   `expect.rs`, `adapter.rs` and `distance.rs`, that the stub answers from, where they are to differ
+//!   from the driver's.
 
 use std::env;
 use std::fs;
@@ -47,36 +46,25 @@ fn include(file: &Path, module: &str, into: &Path) {
     fs::write(into, text).unwrap();
 }
 
-/// Whether an archive names a symbol.
-fn names(archive: &Path, symbol: &str) -> bool {
-    let bytes = fs::read(archive).unwrap_or_default();
-    let name = format!("\0{symbol}\0");
-    bytes.windows(name.len()).any(|w| w == name.as_bytes())
-}
-
 fn main() {
     println!("cargo::rerun-if-changed=build.rs");
-    println!("cargo::rustc-check-cfg=cfg(distance)");
+    println!("cargo::rustc-check-cfg=cfg(fault)");
     let here = PathBuf::from(env::var_os("CARGO_MANIFEST_DIR").unwrap());
     let root = here.parent().unwrap().to_path_buf();
     let out = PathBuf::from(env::var_os("OUT_DIR").unwrap());
     let rust = folder("PAMUKLID_RUST_SRC", root.join("../shared/docs/src"));
     place(&rust, &out, "oracle");
-    if env::var_os("CARGO_FEATURE_STUB").is_some() {
+    let stub = env::var_os("CARGO_FEATURE_STUB").is_some();
+    if stub || env::var_os("DEP_PAMUKLID_FAULT").is_some_and(|has| has == "1") {
+        println!("cargo::rustc-cfg=fault");
+    }
+    if stub {
         place(&folder("PAMUKLID_STUB_SRC", rust), &out, "original");
         let own = folder("PAMUKLID_STUB_OWN", here.join("src"));
-        for name in ["expect", "adapter"] {
+        for name in ["expect", "adapter", "distance"] {
             let file = out.join(format!("stub_{name}.rs"));
             copy(&own.join(format!("{name}.rs")), &file);
             include(&file, name, &out.join(format!("include_{name}.rs")));
         }
-    } else {
-        let lib = folder("PAMUKLID_LIB_DIR", root.join("target/staticlib"));
-        println!("cargo::rerun-if-changed={}", lib.join("libpamuklid.a").display());
-        if names(&lib.join("libpamuklid.a"), "pamuklid_distance_of") {
-            println!("cargo::rustc-cfg=distance");
-        }
-        println!("cargo::rustc-link-search=native={}", lib.display());
-        println!("cargo::rustc-link-lib=static=pamuklid");
     }
 }

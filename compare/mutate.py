@@ -64,7 +64,11 @@ def plant_all(args, rust, work):
     copy = os.path.join(work, "rust")
     driver = os.path.join(work, "compare")
     os.makedirs(os.path.join(copy, MODULE), exist_ok=True)
-    shutil.copytree(HERE, driver, dirs_exist_ok=True, ignore=shutil.ignore_patterns("target"))
+    skip = shutil.ignore_patterns("target")
+    shutil.copytree(HERE, driver, dirs_exist_ok=True, ignore=skip)
+    # the driver's dependency, at the same place beside it
+    shutil.copytree(os.path.join(HERE, "../wrapper/rust"), os.path.join(work, "wrapper/rust"),
+                    dirs_exist_ok=True, ignore=skip)
     place, text = {}, {}
     for name in RUST:
         place[name] = os.path.join(copy, MODULE, name)
@@ -125,8 +129,6 @@ def plant_all(args, rust, work):
         if number < args.start or args.only not in name + " " + old + " " + new:
             continue
         if name == "stub.rs" and not args.stub or args.rust and name not in RUST:
-            continue
-        if name == "distance.rs" and args.stub:
             continue
         put(place[name], text[name].replace(old, new))
         built, code, what = attempt()

@@ -3,8 +3,9 @@ file), new text. `same` says why a mistake changes no answer inside document 01'
 must survive, every other must be noticed.
 
 Files: profile.rs, occupancy.rs and mod.rs are the Rust; expect.rs, adapter.rs and distance.rs are the
-driver's own part, written from document 01 (refusals 1 to 6, 15, 16, 20 to 23 and their order, tidy,
-the distance of a dial, and what the Rust says only in words); stub.rs, with --stub, stands for a wrong library.
+driver's own part, written from document 01 (refusals 1 to 6, 15, 16, 20 to 23 and their order, where a
+table is wrong, tidy, the distance of a dial, and what the Rust says only in words); stub.rs, with --stub,
+stands for a wrong library.
 """
 
 MUTATIONS = []
@@ -844,7 +845,7 @@ at(E, LADDER, "edges_refused(ordinary) || edges_refused(floor) || rungs.chunks_e
 at(E, LADDER, "edges_refused(ordinary) || edges_refused(floor) || rungs.iter().take(1024).any(|&x| out_of_size(x))")
 
 # ------------------------------------------------------------------------------ distance.rs
-# The distance of a dial: a library that has the call is needed.
+# The distance of a dial.
 D = "distance.rs"
 
 at(D, "if expect::out_of_size(self.dial) {", "if false {")
@@ -875,7 +876,10 @@ S = "stub.rs"
 
 WRITE = "if n > 0 { unsafe { *image.cast_mut().add(n - 1) ^= 1 } }\n"
 at(S, "    prepared(unsafe { slice(image, n) }).refusal\n", "    let told = prepared(unsafe { slice(image, n) }).refusal;\n    " + WRITE + "    told\n")
-at(S, "    adapter::tidy(&prepared(unsafe { slice(image, n) }))\n", "    let told = adapter::tidy(&prepared(unsafe { slice(image, n) }));\n    " + WRITE + "    told\n")
+TIDY = "    Tidiness { tidy, refusal }\n"
+at(S, TIDY, "    " + WRITE + TIDY)
+at(S, TIDY, "    Tidiness { tidy: tidy | u8::from(refusal != 0), refusal }\n")
+at(S, TIDY, "    Tidiness { tidy, refusal: 0 }\n")
 for call in ["adapter::evaluate(&p, &s, kind, direction, &e)", "adapter::unmeasured(&p, &s)"]:
     old = "    %s.expect(\"the Rust's words\")\n" % call
     at(S, old, "    " + WRITE + old)
@@ -885,9 +889,11 @@ at(S, "    let c = adapter::ceiling(", "    if figures > 0 { unsafe { *rungs.as_
 at(S, "    let c = adapter::ceiling(", "    if figures > 0 { unsafe { *rungs.as_ptr().cast_mut() = -*rungs.as_ptr() } }\n    let c = adapter::ceiling(")
 at(S, "    let c = adapter::ceiling(", "    if floor_count > 0 { unsafe { *floors.as_ptr().cast_mut().add(floor_count - 1) ^= 1 } }\n    let c = adapter::ceiling(")
 at(S, "    let (refusal, bytes) =", "    " + WRITE + "    let (refusal, bytes) =")
-at(S, "        limit: c.limit.unwrap_or(NOTHING),", "        limit: c.limit.unwrap_or(Decision { code: 16, ..NOTHING }),")
-at(S, "        limit: c.limit.unwrap_or(NOTHING),", "        limit: c.limit.unwrap_or(Decision { width: -0.0, ..NOTHING }),")
-at(S, "        rung: c.rung.unwrap_or(0),", "        rung: c.rung.unwrap_or(1),")
+LIMIT = "        limit: c.limit_or_none(),"
+for part in ["verdict: 0", "code: 16", "width: -0.0", "refusal: 0"]:
+    at(S, LIMIT, "        limit: if c.limit.is_some() { c.limit_or_none() } else { Decision { %s, ..c.limit_or_none() } }," % part)
+at(S, "        rung: c.rung_number(),", "        rung: c.rung_number().max(0),")
+at(S, "        rung: c.rung_number(),", "        rung: if c.refusal == 0 { c.rung_number() } else { 0 },")
 at(S, "        limit_known: u8::from(c.limit.is_some()),", "        limit_known: 2 * u8::from(c.limit.is_some()),")
 at(S, "    expect::FRESH\n", "    Station { policy: 2, ..expect::FRESH }\n")
 at(S, "    expect::FRESH\n", "    Station { sideband: 0, ..expect::FRESH }\n")
@@ -905,3 +911,45 @@ at(S, COPY, COPY + "    rows[..bytes.len()].chunks_mut(36).for_each(|r| r[33] = 
 at(S, COPY, COPY + "    if bytes.len() > 36 { rows[bytes.len() - 1] ^= 1; }\n")
 at(S, "count: (bytes.len() / 36) as u32, refusal: 0 }", "count: u32::from((bytes.len() / 36) as u16), refusal: 0 }")
 at(S, "count: (bytes.len() / 36) as u32, refusal: 0 }", "count: (rows.len() / 36) as u32, refusal: 0 }")
+FAR = "    distance::flat(asked.answer(unsafe { slice(rows, rows_len) }))\n"
+for part in ["distance_hz: 0.0", "distance_hz: f64::MAX", "listed: 1"]:
+    at(S, FAR, FAR.replace("    distance", "    let far = distance").replace("))\n", "));\n") + "    if far.listed == 0 { Distance { %s, ..far } } else { far }\n" % part)
+at(S, FAR, "    if rows_len > 0 { unsafe { *rows.cast_mut().add(rows_len - 1) ^= 1 } }\n" + FAR)
+at(S, "    VERSION\n", "    VERSION + 1\n")
+FAULT = "    expect::fault(image, prepared(image).refusal)\n"
+at(S, FAULT, "    let told = expect::fault(image, prepared(image).refusal);\n    if n > 0 { unsafe { *image.as_ptr().cast_mut().add(n - 1) ^= 1 } }\n    told\n")
+for part in ["record: 0", "table: 0", "place: 1", "refusal: 0"]:
+    at(S, FAULT, "    Fault { %s, ..expect::fault(image, prepared(image).refusal) }\n" % part)
+
+# -------------------------------------------------------------------------------- expect.rs
+# Where a table is wrong: a library that has the call is needed.
+at(E, "!matches!(refusal, 5..=10 | 12 | 13)", "!matches!(refusal, 5..=9 | 12 | 13)")
+at(E, "!matches!(refusal, 5..=10 | 12 | 13)", "!matches!(refusal, 6..=10 | 12 | 13)")
+at(E, "!matches!(refusal, 5..=10 | 12 | 13)", "!matches!(refusal, 5..=10 | 13)")
+at(E, "!matches!(refusal, 5..=10 | 12 | 13)", "!matches!(refusal, 5..=10 | 12)")
+at(E, "!matches!(refusal, 5..=10 | 12 | 13)", "!matches!(refusal, 5..=13)", "no record meets 11")
+at(E, "Fault { record: 65_535, table: 255, place: 0, refusal }", "Fault { record: 0, table: 255, place: 0, refusal }")
+at(E, "Fault { record: 65_535, table: 255, place: 0, refusal }", "Fault { record: 65_535, table: 0, place: 0, refusal }")
+at(E, "Fault { place: 1, ..nowhere }", "Fault { place: 1, table: 0, ..nowhere }")
+at(E, "    if block_meets {", "    if false {")
+at(E, "        5 => !block_is_right(&image[..64]),\n", "")
+at(E, "        6 => [0, 8, 16, 24, 32].iter().any(|&at| bad_figure(image, at)),\n", "")
+at(E, "[0, 8, 16, 24, 32].iter().any(|&at| bad_figure(image, at))", "[0, 8, 16, 24].iter().any(|&at| bad_figure(image, at))")
+at(E, "        (5, CHANNELS) if t.flags & 4 == 0 => true,\n", "")
+at(E, "(5, CHANNELS) if t.flags & 4 == 0", "(5, CHANNELS) if t.flags & 16 == 0")
+at(E, "(5, PLAN_DATA | PLAN_AVOID) if t.flags & 16 == 0", "(5, PLAN_AVOID) if t.flags & 16 == 0")
+at(E, "(5, PLAN_DATA | PLAN_AVOID) if t.flags & 16 == 0", "(5, PLAN_DATA) if t.flags & 16 == 0")
+at(E, "        (5, _) => !record_is_right(table, bytes),\n", "")
+at(E, "(6, _) => [0, 8, 16].iter()", "(6, _) => [0, 8].iter()")
+at(E, "(6, _) => [0, 8, 16].iter()", "(6, _) => [8, 16].iter()")
+at(E, "(7, BANDS) | (8, SEGMENTS)", "(7, SEGMENTS) | (8, SEGMENTS)")
+at(E, "(9, AUTOMATIC) | (10, PRIVILEGES) => r.low >= r.high", "(9, AUTOMATIC) | (10, PRIVILEGES) => r.low > r.high")
+at(E, "(9, AUTOMATIC) | (10, PRIVILEGES) => r.low >= r.high", "(9, AUTOMATIC) => r.low >= r.high")
+at(E, "!t.tables[BANDS].iter().any(|b| b.low <= r.low && r.high <= b.high)", "!t.tables[BANDS].iter().any(|b| b.low < r.low && r.high <= b.high)")
+at(E, "!t.tables[BANDS].iter().any(|b| b.low <= r.low && r.high <= b.high)", "!t.tables[BANDS].iter().any(|b| b.low <= r.low && r.high < b.high)")
+at(E, "!t.tables[BANDS].iter().any(|b| b.low <= r.low && r.high <= b.high)", "!t.tables[BANDS].iter().any(|b| b.band == r.band && b.low <= r.low && r.high <= b.high)")
+at(E, "r.flags & 1 != 0 && r.figure <= 0.0", "r.flags & 1 != 0 && r.figure < 0.0")
+at(E, "r.flags & 1 != 0 && r.figure <= 0.0", "r.figure <= 0.0")
+at(E, "return Fault { record: record as u16, table: table as u8, place: 2, refusal };", "return Fault { record: (at / 32 - 2) as u16, table: table as u8, place: 2, refusal };")
+at(E, "return Fault { record: record as u16, table: table as u8, place: 2, refusal };", "return Fault { record: record as u16 + 1, table: table as u8, place: 2, refusal };")
+at(E, "            at += 32;\n", "            at += if record == 0 { 0 } else { 32 };\n")

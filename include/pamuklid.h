@@ -182,8 +182,8 @@ typedef struct {
 #define PAMUKLID_GUIDANCE_INSIDE 2  /* inside the area guidance_index of PAMUKLID_TABLE_PLAN_DATA */
 #define PAMUKLID_GUIDANCE_OUTSIDE 3 /* the plan puts data elsewhere */
 
-/* The marks in notes: one for each power record that a table can have. */
-#define PAMUKLID_NOTES 256
+/* The marks in notes: one for each power record that a table can have at most. */
+#define PAMUKLID_MOST_NOTES 256
 
 /* An answer. A part that is absent is all zero. A refusal has refusal, verdict PAMUKLID_BLOCKED and all
  * else zero.
@@ -222,12 +222,12 @@ typedef struct {
     uint8_t note_channel_power;  /* 1: above the watts of a 60 m channel; else 0 */
     uint8_t note_shared;         /* 1: shared with government stations; else 0 */
     uint8_t note_segment_power;  /* 1: above the watts of the 60 m segment; else 0 */
-    uint8_t notes[PAMUKLID_NOTES]; /* 1 for each power record of the image that is exceeded, by its index;
+    uint8_t notes[PAMUKLID_MOST_NOTES]; /* 1 for each power record of the image that is exceeded, by its index;
                                       else 0 */
 } pamuklid_decision;
 
-/* The rungs that a climb can have, the figures of each, and "no rung". */
-#define PAMUKLID_RUNGS 256
+/* The most rungs that a climb can have, the figures of each, and "no rung". */
+#define PAMUKLID_MOST_RUNGS 256
 #define PAMUKLID_RUNG_FIGURES 4
 #define PAMUKLID_RUNG_NONE (-1)
 
@@ -244,12 +244,12 @@ typedef struct {
     uint8_t refusal;         /* PAMUKLID_ACCEPTED: judged; else PAMUKLID_REFUSAL_... */
 } pamuklid_ceiling;
 
-/* The rows that a list can have. */
-#define PAMUKLID_ROWS 16777472
+/* The most rows that a list can have. */
+#define PAMUKLID_MOST_ROWS 16777472
 
 /* A dial list's answer. */
 typedef struct {
-    uint32_t count;          /* the rows that were written, at most PAMUKLID_ROWS; 0 on a refusal */
+    uint32_t count;          /* the rows that were written, at most PAMUKLID_MOST_ROWS; 0 on a refusal */
     uint8_t refusal;         /* PAMUKLID_ACCEPTED: listed; else PAMUKLID_REFUSAL_... */
 } pamuklid_dials;
 
@@ -278,14 +278,14 @@ typedef struct {
     uint8_t refusal;      /* PAMUKLID_ACCEPTED; else the image's refusal, 1 to 14 */
 } pamuklid_tidiness;
 
-/* An image: its length, the bytes of its general block, of each record and of its trailer, the records that
- * a table can have, and the offsets of the two bytes that pamuklid_distance_of asks for. */
+/* An image: its least and its most bytes, those of its general block, of each record and of its trailer, the
+ * most records of a table, and the offsets of the two bytes that pamuklid_distance_of asks for. */
 #define PAMUKLID_IMAGE_LEAST 92
 #define PAMUKLID_IMAGE_MOST 65536
 #define PAMUKLID_IMAGE_GENERAL 64
 #define PAMUKLID_IMAGE_RECORD 32
 #define PAMUKLID_IMAGE_TRAILER 28
-#define PAMUKLID_IMAGE_RECORDS 256
+#define PAMUKLID_MOST_RECORDS 256
 #define PAMUKLID_IMAGE_FLAGS 42
 #define PAMUKLID_IMAGE_CHANNEL_BAND 43
 

@@ -12,7 +12,7 @@ use super::regulatory::profile::{
     PlanArea, PowerLimit, Privilege, Privileges, Segment, SixtyEmissions,
 };
 use super::regulatory::{self as rust, AirOccupancy, Policy, Profile, Range, Reading, khz};
-use crate::ffi::{self, Decision, Edges, Station};
+use crate::ffi::{self, Decision, Edges, Figures, Station};
 use crate::image::{self, Record, Table};
 
 /// Codes 1 to 25, in document 01's order.
@@ -257,11 +257,11 @@ pub fn prepare(image: &[u8]) -> Result<Prepared, String> {
     Ok(made)
 }
 
-/// 0 untidy, 1 tidy, 100 + the refusal.
-pub fn tidy(p: &Prepared) -> u8 {
+/// Whether the table of an accepted image is tidy, 1 or 0, and the image's refusal.
+pub fn tidy(p: &Prepared) -> (u8, u8) {
     match &p.table {
-        Some(table) if p.refusal == 0 => u8::from(expect::tidy(table)),
-        _ => 100 + p.refusal,
+        Some(table) if p.refusal == 0 => (u8::from(expect::tidy(table)), 0),
+        _ => (0, p.refusal),
     }
 }
 
@@ -562,6 +562,18 @@ pub struct Ceiling {
     pub refusal: u8,
     pub rung: Option<u16>,
     pub limit: Option<Decision>,
+}
+
+impl Ceiling {
+    /// -1 where there is none.
+    pub fn rung_number(&self) -> i32 {
+        self.rung.map_or(-1, i32::from)
+    }
+
+    /// Where there is none: blocked, the refusal's number, all else absent.
+    pub fn limit_or_none(&self) -> Decision {
+        self.limit.unwrap_or(ffi::refused(self.refusal))
+    }
 }
 
 /// `ceiling`, refusals included.

@@ -3,7 +3,7 @@
 //! beside it or one unit in the last place.
 
 use crate::draw::{BIG, Rng, nudge, unit};
-use crate::ffi::{Edges, Station};
+use crate::ffi::{Edges, Figures, Station};
 use crate::image::POWER;
 use crate::tables::{Signal, World, some_audio, some_margin, watts};
 

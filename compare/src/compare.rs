@@ -1,11 +1,13 @@
 //! One call on both sides. Every function gives the agreed answer or says what differs; every byte
 //! lent is held against what it was.
 
+use std::fmt::Display;
+
 use crate::cases::Ladder;
 use crate::distance;
 use crate::draw::Rng;
 use crate::expect;
-use crate::ffi::{self, Decision, Edges, Station};
+use crate::ffi::{self, Decision, Edges, Fault, Figures, Parts, Station, StationParts};
 use crate::image;
 use crate::oracle::adapter::{self, Prepared};
 
@@ -18,7 +20,7 @@ fn unchanged(before: &[u8], after: &[u8], what: &str) -> Told<()> {
     Err(format!("the call changed its {what}"))
 }
 
-fn equal(what: &str, library: usize, expected: usize) -> Told<()> {
+fn equal<T: PartialEq + Display>(what: &str, library: T, expected: T) -> Told<()> {
     if library == expected {
         return Ok(());
     }
@@ -43,14 +45,25 @@ fn agreed(want: Told<Decision>, got: &Decision) -> Told<Decision> {
     }
 }
 
-/// The check and the tidy question.
-pub fn image(image: &[u8]) -> Told<Prepared> {
+/// The check, the tidy question and, where the library has the call, where the table is wrong.
+pub fn image(image: &[u8]) -> Told<(Prepared, Fault)> {
     let p = adapter::prepare(image)?;
     let lent = image.to_vec();
-    equal("check", ffi::check(&lent).into(), p.refusal.into())?;
-    equal("tidy", ffi::tidy(&lent).into(), adapter::tidy(&p).into())?;
+    equal("check", ffi::check(&lent), p.refusal)?;
+    let (got, (tidy, refusal)) = (ffi::tidy(&lent), adapter::tidy(&p));
+    equal("tidy", got.tidy, tidy)?;
+    equal("tidy's refusal", got.refusal, refusal)?;
+    let fault = expect::fault(image, p.refusal);
+    #[cfg(fault)]
+    {
+        let got = ffi::fault_of(&lent);
+        equal("fault's refusal", got.refusal, fault.refusal)?;
+        equal("fault's place", got.place, fault.place)?;
+        equal("fault's table", got.table, fault.table)?;
+        equal("fault's record", got.record, fault.record)?;
+    }
     unchanged(image, &lent, "image")?;
-    Ok(p)
+    Ok((p, fault))
 }
 
 pub fn verdict(
@@ -86,19 +99,10 @@ pub fn ceiling(
     let (lent, rungs, floors) = (image.to_vec(), l.rungs.clone(), l.floors.clone());
     let got = ffi::ceiling(*s, direction, l.ordinary, l.floor, &lent, &rungs, &floors);
     let want = adapter::ceiling(p, s, direction, &l.ordinary, &l.floor, &l.rungs, &l.floors)?;
-    equal("refusal", got.refusal.into(), want.refusal.into())?;
-    equal("rung_known", got.rung_known.into(), want.rung.is_some().into())?;
-    equal("rung", got.rung.into(), want.rung.unwrap_or(0).into())?;
-    equal("limit_known", got.limit_known.into(), want.limit.is_some().into())?;
-    match &want.limit {
-        Some(limit) => {
-            agreed(Ok(*limit), &got.limit)?;
-        }
-        None if !ffi::absent_limit_is_right(&got) => {
-            return Err(format!("an absent limit isn't zero: {}", got.limit.text()));
-        }
-        None => {}
-    }
+    equal("refusal", got.refusal, want.refusal)?;
+    equal("rung", got.rung, want.rung_number())?;
+    equal("limit_known", got.limit_known, want.limit.is_some().into())?;
+    agreed(Ok(want.limit_or_none()), &got.limit)?;
     unchanged(image, &lent, "image")?;
     unchanged(&l.floors, &floors, "floor bytes")?;
     let bits = |x: &[f64]| x.iter().flat_map(|x| x.to_bits().to_le_bytes()).collect::<Vec<u8>>();
@@ -167,7 +171,7 @@ pub fn dials(
         other => other,
     };
     let rows = if refusal == 0 { rows } else { Vec::new() };
-    equal("refusal", got.refusal.into(), refusal.into())?;
+    equal("refusal", got.refusal, refusal)?;
     equal("count", got.count as usize, rows.len() / 36)?;
     let n = rows.len();
     if let Some(i) = (0..n / 36).find(|i| after[36 * i..36 * i + 36] != rows[36 * i..36 * i + 36]) {
@@ -179,25 +183,20 @@ pub fn dials(
     Ok(Found { refusal, rows, lent })
 }
 
-/// The distance of a dial: document 01's, and the library's where it has the call.
+/// The distance of a dial.
 pub fn distance(a: &distance::Asked, rows: &[u8]) -> Told<Result<Option<f64>, u8>> {
-    let want = a.answer(rows);
-    #[cfg(distance)]
-    {
-        let lent = rows.to_vec();
-        let got = ffi::distance(a.dial, a.flags, a.channel_band, a.count, &lent);
-        let (refusal, far) = match want {
-            Ok(far) => (0, far),
-            Err(refusal) => (refusal, None),
-        };
-        equal("distance's refusal", got.refusal.into(), refusal.into())?;
-        equal("listed", got.listed.into(), far.is_some().into())?;
-        if got.distance_hz.to_bits() != far.unwrap_or(0.0).to_bits() {
-            return Err(format!("distance_hz: library {:?}, expected {far:?}", got.distance_hz));
-        }
-        unchanged(rows, &lent, "rows")?;
+    let answer = a.answer(rows);
+    let lent = rows.to_vec();
+    let got = ffi::distance(a.dial, a.flags, a.channel_band, a.count, &lent);
+    let want = distance::flat(answer);
+    equal("distance's refusal", got.refusal, want.refusal)?;
+    equal("listed", got.listed, want.listed)?;
+    if got.distance_hz.to_bits() != want.distance_hz.to_bits() {
+        let (got, want) = (got.distance_hz, want.distance_hz);
+        return Err(format!("distance_hz: library {got:?}, expected {want:?}"));
     }
-    Ok(want)
+    unchanged(rows, &lent, "rows")?;
+    Ok(answer)
 }
 
 fn row_text(r: &[u8]) -> String {

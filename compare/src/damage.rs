@@ -2,7 +2,7 @@
 
 use crate::cases::Ladder;
 use crate::draw::{BIG, Rng, nudge, plain};
-use crate::ffi::{Edges, Station};
+use crate::ffi::{Edges, Figures, Station};
 use crate::image::*;
 use crate::tables::{World, whole};
 
@@ -162,6 +162,48 @@ pub fn damaged(rng: &mut Rng, w: &World) -> Vec<u8> {
         }
     }
     image
+}
+
+/// A copy of a world's image with one kind of mistake in several records, or in the general block as
+/// well: the first of them is where the table is wrong.
+pub fn several(rng: &mut Rng, w: &World) -> Vec<u8> {
+    let mut t = w.table.clone();
+    let refusal = rng.pick(&[5, 5, 5, 6, 6, 6, 7, 8, 9, 10, 12, 13]);
+    if refusal == 5 && rng.chance(30) {
+        // a part that is absent, with its table
+        if rng.chance(50) {
+            t.flags &= !HAS_PLAN;
+        } else {
+            t.flags &= !HAS_CHANNELS;
+            (t.width, t.offset, t.tolerance) = (0.0, 0.0, 0.0);
+            (t.channel_band, t.sideband, t.rules[3]) = (0, 0, 0);
+        }
+    }
+    for _ in 0..1 + rng.below(4) {
+        let table = match refusal {
+            5 | 6 => rng.below(9),
+            7 => BANDS,
+            9 => AUTOMATIC,
+            10 => PRIVILEGES,
+            _ => SEGMENTS,
+        };
+        if t.tables[table].is_empty() {
+            continue;
+        }
+        let i = rng.below(t.tables[table].len());
+        let r = &mut t.tables[table][i];
+        match refusal {
+            5 => r.flags |= 128,
+            6 => r.low = rng.pick(&[f64::NAN, f64::INFINITY, -0.0, BIG.next_up()]),
+            12 => (r.low, r.high) = (-BIG, BIG),
+            13 => (r.flags, r.figure) = (r.flags | 1, rng.pick(&[0.0, -1.0])),
+            _ => r.high = r.low,
+        }
+    }
+    if rng.chance(10) {
+        (t.reading, t.offset) = (rng.pick(&[2, 3]), rng.pick(&[t.offset, f64::NAN]));
+    }
+    t.encode()
 }
 
 fn spoil_table(rng: &mut Rng, w: &World, t: &mut Table) {

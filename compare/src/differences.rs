@@ -4,7 +4,7 @@
 
 use crate::Run;
 use crate::distance::Asked as Asking;
-use crate::ffi::{Decision, NOTHING};
+use crate::ffi::{Decision, NOTHING, Parts};
 use crate::fixed::{Asked, asked, centre, practice, sixty, small, span, wrong};
 use crate::image::*;
 

@@ -1,11 +1,11 @@
 //! The distance of a dial and demand 3, from document 01. The distance of each list found is worked
-//! out here and, where the library has the call, compared; then demand 3's statement is asked of both
-//! sides' equal answers: nought exactly if data is allowed.
+//! out here and compared; then demand 3's statement is asked of both sides' equal answers: nought
+//! exactly if data is allowed. With the feature `stub` this file is built a second time, for the stub.
 
+use super::expect;
 use crate::damage;
 use crate::draw::Rng;
-use crate::expect;
-use crate::ffi::{Edges, Station};
+use crate::ffi::{Distance, Edges, Figures, Station};
 use crate::image::{BANDS, HAS_CHANNELS, Record, SEGMENTS, Table, f64_at};
 
 /// What is asked: a dial, bytes 42 and 43 of the list's image, and how many rows it has.
@@ -87,6 +87,17 @@ impl Asked {
         }
         (a, rows)
     }
+}
+
+/// An answer's numbers: with none listed, and on a refusal, the distance is infinite
+/// (docs/DECISIONS.md).
+pub fn flat(answer: Result<Option<f64>, u8>) -> Distance {
+    let (refusal, far) = match answer {
+        Ok(far) => (0, far),
+        Err(refusal) => (refusal, None),
+    };
+    let listed = u8::from(far.is_some());
+    Distance { distance_hz: far.unwrap_or(f64::INFINITY), listed, refusal }
 }
 
 /// "A figure is in eighths if eight times it is whole."

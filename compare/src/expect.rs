@@ -1,12 +1,13 @@
-//! What document 01 says and the Rust doesn't: refusals 1 to 6, 15, 16 and 20 to 23, the tidy
-//! question, the fresh record, and the parts of an answer that the Rust has only as text. Written
-//! from document 01 (quoted) and READINGS.md, not from the Rust and not from the Rattle code.
+//! What document 01 says and the Rust doesn't: refusals 1 to 6, 15, 16 and 20 to 23, where a table is
+//! wrong, the tidy question, the fresh record, and the parts of an answer that the Rust has only as
+//! text. Written from document 01 (quoted) and docs/DECISIONS.md, not from the Rust and not from the
+//! Rattle code.
 
-use crate::ffi::{Edges, Station};
+use crate::ffi::{Edges, Fault, Figures, Station};
 use crate::image::{
     AUTOMATIC, BANDS, CHANNELS, EXCLUDED, PLAN_AVOID, PLAN_DATA, POWER, PRIVILEGES, SEGMENTS,
 };
-use crate::image::{Record, Table, f64_at, u16_at, u32_at};
+use crate::image::{Record, Table, decode, f64_at, u16_at, u32_at};
 
 /// "not finite or above 2^40 in size"
 pub fn out_of_size(x: f64) -> bool {
@@ -70,10 +71,7 @@ pub fn image_1_to_6(image: &[u8]) -> u8 {
         }
     }
     // "6 a figure not finite, above 2^40 in size, or negative zero"
-    let bad = |at: usize| {
-        let x = f64_at(image, at);
-        out_of_size(x) || x.to_bits() == 1 << 63
-    };
+    let bad = |at: usize| bad_figure(image, at);
     if (0..5).any(|i| bad(8 * i)) {
         return 6;
     }
@@ -81,6 +79,56 @@ pub fn image_1_to_6(image: &[u8]) -> u8 {
         return 6;
     }
     0
+}
+
+/// "6 a figure not finite, above 2^40 in size, or negative zero"
+fn bad_figure(b: &[u8], at: usize) -> bool {
+    let x = f64_at(b, at);
+    out_of_size(x) || x.to_bits() == 1 << 63
+}
+
+/// Where the table of an image is wrong that the check refuses with this number, or accepts (0): for 5
+/// to 10, 12 and 13 the general block, else the first record that meets the number's own test, tables
+/// in the image's order (docs/DECISIONS.md).
+pub fn fault(image: &[u8], refusal: u8) -> Fault {
+    let nowhere = Fault { record: 65_535, table: 255, place: 0, refusal };
+    if !matches!(refusal, 5..=10 | 12 | 13) {
+        return nowhere;
+    }
+    let block_meets = match refusal {
+        5 => !block_is_right(&image[..64]),
+        6 => [0, 8, 16, 24, 32].iter().any(|&at| bad_figure(image, at)),
+        _ => false,
+    };
+    if block_meets {
+        return Fault { place: 1, ..nowhere };
+    }
+    let t = decode(image);
+    let mut at = 64;
+    for (table, records) in t.tables.iter().enumerate() {
+        for (record, r) in records.iter().enumerate() {
+            if record_meets(refusal, &t, table, r, &image[at..at + 32]) {
+                return Fault { record: record as u16, table: table as u8, place: 2, refusal };
+            }
+            at += 32;
+        }
+    }
+    nowhere
+}
+
+/// Whether a record meets the test of a refusal, as the list of refusals in document 01 has it.
+fn record_meets(refusal: u8, t: &Table, table: usize, r: &Record, bytes: &[u8]) -> bool {
+    match (refusal, table) {
+        // "a table of an absent part not empty"
+        (5, CHANNELS) if t.flags & 4 == 0 => true,
+        (5, PLAN_DATA | PLAN_AVOID) if t.flags & 16 == 0 => true,
+        (5, _) => !record_is_right(table, bytes),
+        (6, _) => [0, 8, 16].iter().any(|&at| bad_figure(bytes, at)),
+        (7, BANDS) | (8, SEGMENTS) | (9, AUTOMATIC) | (10, PRIVILEGES) => r.low >= r.high,
+        (12, SEGMENTS) => !t.tables[BANDS].iter().any(|b| b.low <= r.low && r.high <= b.high),
+        (13, SEGMENTS) => r.flags & 1 != 0 && r.figure <= 0.0,
+        _ => false,
+    }
 }
 
 /// "Unused bytes and fields of absent parts are zero".

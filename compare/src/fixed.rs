@@ -1,6 +1,7 @@
-//! Cases with answers that the papers state: document 01's practice table, the examples of
-//! READINGS.md, and the differences (differences.rs). Both sides are run on them as on every other
-//! case, and the code, the verdict and what else is stated must be the papers'.
+//! Cases with answers that document 01 states or that were worked out from it by hand: its practice
+//! table, places where a table is wrong, the nearest segment, and the differences (differences.rs). Both
+//! sides are run on them as on every other case, and the code, the verdict and what else is stated must
+//! be the one that stands here.
 
 use std::process::exit;
 
@@ -10,7 +11,7 @@ use crate::compare::Room;
 use crate::differences;
 use crate::draw::Rng;
 use crate::expect;
-use crate::ffi::{Decision, Edges, Station};
+use crate::ffi::{Decision, Edges, Figures, Parts, Station};
 use crate::image::*;
 use crate::tables;
 
@@ -54,7 +55,8 @@ pub fn practice() -> Table {
     t
 }
 
-/// READINGS.md: "band 1 is 0–100, its segment 20–80, an Extra's privilege 0–100, general limit 10".
+/// docs/DIFFERENCES.md's small table: band 1 is 0–100, its segment 20–80, an Extra's privilege 0–100,
+/// general limit 10.
 pub fn small() -> Table {
     let mut t =
         Table { data_limit: 10.0, reading: 2, rules: [7, 0, 9, 0, 0, 12], ..Table::default() };
@@ -64,8 +66,8 @@ pub fn small() -> Table {
     t
 }
 
-/// ""Sixty" is the same with band 1 as the channel band: a channel at 90, width 10, offset 2,
-/// tolerance 1."
+/// Its "sixty": the same with band 1 as the channel band: a channel at 90, width 10, offset 2,
+/// tolerance 1.
 pub fn sixty() -> Table {
     let mut t = small();
     t.flags = HAS_CHANNELS;
@@ -156,7 +158,8 @@ pub fn asked(
 
 pub fn run(run: &mut Run) {
     document_01(run);
-    readings(run);
+    faults(run);
+    nearest(run);
     differences::run(run);
     every_mark(run);
 }
@@ -220,8 +223,60 @@ fn document_01(run: &mut Run) {
     }
 }
 
-/// READINGS.md, "The verdict". Its list of differences is differences.rs.
-fn readings(run: &mut Run) {
+/// Where the practice table is wrong, once it is spoilt in one place or two: the refusal, the place, the
+/// table and the record.
+fn faults(run: &mut Run) {
+    type Spoilt = fn(&mut Table);
+    let cases: [(Spoilt, (u8, u8, u8, u16)); 22] = [
+        (|_| {}, (0, 0, 255, 65_535)),
+        (|t| t.reading = 3, (5, 1, 255, 65_535)),
+        (|t| t.tables[BANDS][1].class = 1, (5, 2, 0, 1)),
+        (|t| t.tables[PRIVILEGES][1].class = 5, (5, 2, 3, 1)),
+        (|t| (t.tables[PRIVILEGES][1].class, t.reading) = (5, 3), (5, 1, 255, 65_535)),
+        (|t| t.tables[PLAN_DATA].push(span(0.0, 1.0)), (5, 2, 7, 0)),
+        (|t| t.tables[PLAN_AVOID] = vec![span(0.0, 1.0); 2], (5, 2, 8, 0)),
+        (|t| t.offset = f64::NAN, (6, 1, 255, 65_535)),
+        (|t| t.tables[CHANNELS][0].low = -0.0, (6, 2, 2, 0)),
+        (|t| t.tables[AUTOMATIC][1].high = f64::INFINITY, (6, 2, 4, 1)),
+        (|t| (t.tables[AUTOMATIC][1].high, t.data_limit) = (2e12, 2e12), (6, 1, 255, 65_535)),
+        (|t| t.tables[BANDS][1].low = 5_407_000.0, (7, 2, 0, 1)),
+        (|t| t.tables[SEGMENTS][1].low = 5_366_500.0, (8, 2, 1, 1)),
+        (|t| t.tables[AUTOMATIC][1].low = 14_112_000.0, (9, 2, 4, 1)),
+        (|t| t.tables[PRIVILEGES][0].low = 14_150_001.0, (10, 2, 3, 0)),
+        (|t| t.tables[BANDS].clear(), (11, 0, 255, 65_535)),
+        (|t| t.tables[SEGMENTS][1].low = 5_329_999.0, (12, 2, 1, 1)),
+        (|t| t.tables[SEGMENTS][0].low = 1.0, (12, 2, 1, 0)),
+        (|t| (t.tables[SEGMENTS][1].flags, t.tables[SEGMENTS][1].figure) = (1, 0.0), (13, 2, 1, 1)),
+        (|t| t.data_limit = 0.0, (14, 0, 255, 65_535)),
+        // an own limit of nought and a segment in no band: 12 comes first, with its own record
+        (|t| (t.tables[SEGMENTS][0].flags, t.tables[SEGMENTS][1].low) = (1, 1.0), (12, 2, 1, 1)),
+        // both segments in no band: the first
+        (|t| t.tables[BANDS] = vec![span(1.0, 2.0)], (12, 2, 1, 0)),
+    ];
+    for (spoil, want) in cases {
+        let mut table = practice();
+        spoil(&mut table);
+        let image = table.encode();
+        let f = run.fault(&image);
+        if f != want {
+            wrong(&format!("refusal, place, table, record {want:?}"), &format!("{f:?}"));
+        }
+    }
+    // the form has no place
+    let image = practice().encode();
+    for (at, byte, refusal) in [(377, b'F', 2), (374, 2, 3), (352, 3, 4)] {
+        let mut image = image.clone();
+        image[at] = byte;
+        let f = run.fault(&image);
+        if f != (refusal, 0, 255, 65_535) {
+            wrong(&format!("refusal {refusal}, no place"), &format!("{f:?}"));
+        }
+    }
+}
+
+/// "take the least overshoot (unguarded), first at a tie": by the sum of both sides. "Low above high is
+/// accepted."
+fn nearest(run: &mut Run) {
     let mut t = small();
     t.data_limit = 1000.0;
     t.tables[SEGMENTS] = vec![

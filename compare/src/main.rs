@@ -1,11 +1,12 @@
 //! Runs the Rust, unchanged, beside the proved library, and compares every part of every answer.
 //!
-//!     pamuklid-compare [--verdicts N] [--ceilings N] [--dials N] [--seed S] [--brief]
+//!     pamuklid-compare [--verdicts N] [--ceilings N] [--dials N] [--seed S] [--few] [--brief]
 //!     pamuklid-compare --replay FILE [--seed S]
 //!
 //! Exit 0: no difference, and everything that can be reached was; 1: a difference, printed with all
 //! its inputs and then made smaller; 2: wrong arguments; 3: no difference, but something was never
-//! reached. With --brief a difference is one line, and 3 doesn't happen: for mutate.py.
+//! reached. With --few, for a run of few cases, what was not reached is counted and 3 doesn't happen;
+//! with --brief neither, and a difference is one line: for mutate.py.
 
 mod cases;
 mod compare;
@@ -31,7 +32,7 @@ use std::process::exit;
 use cases::Ladder;
 use compare::{Call, Case, Found, Room, Told};
 use draw::Rng;
-use ffi::{Decision, Edges, Station};
+use ffi::{Decision, Edges, Figures, Parts, Station, StationParts};
 use oracle::adapter::{self, Prepared};
 use reach::Reach;
 use tables::{Signal, World};
@@ -92,18 +93,32 @@ impl Run {
         exit(1)
     }
 
-    /// The check and the tidy question.
+    /// The check, the tidy question, and where the table is wrong.
     pub fn image(&mut self, image: &[u8]) -> Prepared {
-        let p = self.or_end(compare::image(image), image, &expect::FRESH, Call::Image);
+        let (p, f) = self.or_end(compare::image(image), image, &expect::FRESH, Call::Image);
         self.images += 1;
-        let tidy = u16::from(adapter::tidy(&p));
+        let (tidy, refusal) = adapter::tidy(&p);
         if p.refusal == 0 {
-            self.reach.count("tidy", tidy, 0);
+            self.reach.count("tidy", u16::from(tidy), 0);
         } else {
             self.reach.count("check refused", u16::from(p.refusal), 0);
-            self.reach.count("tidy refused", tidy - 100, 0);
+            self.reach.count("tidy refused", u16::from(refusal), 0);
+        }
+        let number = u16::from(f.refusal);
+        match f.place {
+            0 => self.reach.count("fault without a place", number, 0),
+            1 => self.reach.count("fault in the general block", number, 0),
+            _ if f.record == 0 => self.reach.count("fault in record 0", number, f.table.into()),
+            _ => self.reach.count("fault in a later record", number, f.table.into()),
         }
         p
+    }
+
+    /// Where a table is wrong: refusal, place, table, record.
+    pub fn fault(&mut self, image: &[u8]) -> (u8, u8, u8, u16) {
+        let p = self.image(image);
+        let f = expect::fault(image, p.refusal);
+        (f.refusal, f.place, f.table, f.record)
     }
 
     pub fn verdict(
@@ -241,7 +256,7 @@ impl Run {
         };
         let (a, odd) = distance::Asked::odd(rng, table, rows);
         let _ = self.distance(&a, &odd);
-        let met = distance::premises(table, adapter::tidy(p) == 1, s, e);
+        let met = distance::premises(table, adapter::tidy(p) == (1, 0), s, e);
         for _ in 0..if met { 4 } else { 1 } {
             let dial = distance::some_dial(rng, table, rows);
             let far = self.distance(&distance::Asked::of(table, rows, dial), rows).unwrap_or(None);
@@ -380,6 +395,10 @@ struct Wanted {
 }
 
 fn run_all(run: &mut Run, wanted: &Wanted) {
+    if ffi::version() != ffi::VERSION {
+        println!("DIFFERENCE: the library's version is {}", ffi::version());
+        exit(1);
+    }
     let f = ffi::fresh();
     let same =
         f.floats().iter().zip(expect::FRESH.floats()).all(|(a, b)| a.1.to_bits() == b.1.to_bits())
@@ -460,10 +479,12 @@ fn run_all(run: &mut Run, wanted: &Wanted) {
                 _ => {}
             }
         }
+        run.image(&damage::several(&mut Rng::new(run.seed, run.place + (1 << 33)), &w));
     }
 }
 
-/// Every bit of the sample images turned over, one at a time: the check and the tidy question.
+/// Every bit of the sample images turned over, one at a time: the check, the tidy question, and where
+/// the table is wrong.
 fn every_bit(run: &mut Run) {
     for sample in damage::samples() {
         let p = run.image(&sample);
@@ -478,7 +499,8 @@ fn every_bit(run: &mut Run) {
 
 fn usage() -> ! {
     eprintln!(
-        "usage: pamuklid-compare [--verdicts N] [--ceilings N] [--dials N] [--seed S] [--brief]\n\
+        "usage: pamuklid-compare [--verdicts N] [--ceilings N] [--dials N] [--seed S] [--few] \
+         [--brief]\n\
          \x20      pamuklid-compare --replay FILE [--seed S]"
     );
     exit(2)
@@ -486,7 +508,7 @@ fn usage() -> ! {
 
 fn main() {
     let mut wanted = Wanted { verdicts: 1_000_000, ceilings: 100_000, dials: 100_000 };
-    let (mut seed, mut brief, mut replay) = (1, false, None);
+    let (mut seed, mut few, mut brief, mut replay) = (1, false, false, None);
     let mut args = std::env::args().skip(1);
     while let Some(arg) = args.next() {
         let mut number = || args.next().and_then(|n| n.parse().ok()).unwrap_or_else(|| usage());
@@ -495,6 +517,7 @@ fn main() {
             "--ceilings" => wanted.ceilings = number(),
             "--dials" => wanted.dials = number(),
             "--seed" => seed = number(),
+            "--few" => few = true,
             "--brief" => brief = true,
             "--replay" => replay = Some(args.next().unwrap_or_else(|| usage())),
             _ => usage(),
@@ -516,14 +539,20 @@ fn main() {
     );
     let (met, nought) = run.demand_3;
     println!(
-        "distance: {}; demand 3: {met} dials with its premises met, {nought} of them nought",
-        if cfg!(distance) { format!("{} compared", run.distances) } else { "not compared".into() }
+        "fault: {}",
+        if cfg!(fault) { format!("{} compared", run.images) } else { "not compared".into() }
+    );
+    println!(
+        "distance: {} compared; demand 3: {met} dials with its premises met, {nought} of them nought",
+        run.distances
     );
     let missing = run.reach.missing();
-    if !brief {
+    if !brief && !few {
         run.reach.print();
     }
-    if !brief && !missing.is_empty() {
+    if few && !missing.is_empty() {
+        println!("never reached in so few cases: {} of what there is to reach", missing.len());
+    } else if !brief && !missing.is_empty() {
         println!("never reached: {missing:?}");
         println!("no difference, but not everything was reached");
         exit(3);

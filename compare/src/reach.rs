@@ -115,6 +115,19 @@ pub const OTHER: [Key; 48] = [
     ("tidy", 1, 0),
 ];
 
+/// Where a table can be wrong, by the refusal: in the general block, and in these tables. The figures of
+/// an excluded band (5) are unused, so that 6 is not met there.
+const FAULTS: [(u16, bool, &[u16]); 8] = [
+    (5, true, &[0, 1, 2, 3, 4, 5, 6, 7, 8]),
+    (6, true, &[0, 1, 2, 3, 4, 6, 7, 8]),
+    (7, false, &[0]),
+    (8, false, &[1]),
+    (9, false, &[4]),
+    (10, false, &[3]),
+    (12, false, &[1]),
+    (13, false, &[1]),
+];
+
 impl Reach {
     pub fn count(&mut self, what: &'static str, a: u16, b: u16) {
         *self.counts.entry((what, a, b)).or_default() += 1;
@@ -163,6 +176,16 @@ impl Reach {
             out.extend(verdicts.iter().map(|&v| ("code, verdict", code, v)));
         }
         out.extend(LIMITS.map(|code| ("ceiling limit", code, 0)));
+        out.extend([0, 1, 2, 3, 4, 11, 14].map(|number| ("fault without a place", number, 0)));
+        for (number, general, tables) in FAULTS {
+            if general {
+                out.push(("fault in the general block", number, 0));
+            }
+            for &table in tables {
+                out.push(("fault in record 0", number, table));
+                out.push(("fault in a later record", number, table));
+            }
+        }
         out.extend((0..256).map(|i| ("note at", i, 0)));
         for guidance in [1, 2] {
             out.extend((0..256).map(|i| ("guidance, index", guidance, i)));

@@ -9,17 +9,20 @@
 //!     PAGE      u32 number of bytes that follow in the page; u32 length of the image, its bytes; u32
 //!               number of cases, the cases
 //!     CASE      u8 call, then
-//!         0 check and tidy question: u8 check (0 accepted, else 1 to 14), u8 tidy (0 untidy, 1 tidy,
-//!           100 + refusal)
+//!         0 check and tidy question: u8 the refusal of both (0 accepted, else 1 to 14), u8 tidy (1 or
+//!           0; 0 if refused)
 //!         1 evaluate: STATION, u8 kind, u8 direction, EDGES; DECISION
 //!         2 unmeasured: STATION; DECISION
 //!         3 ceiling: STATION, u8 direction, EDGES ordinary, EDGES floor, u16 number of figures, u16
 //!           number of floor bytes, the figures (f64 each), the floor bytes; u8 refusal, u8 rung known,
-//!           u16 rung, u8 limit known, DECISION (all zero if it isn't known)
+//!           u16 rung (0 if it isn't known: the call answers -1), u8 limit known, DECISION (if it isn't
+//!           known: the refusal, verdict 2, all else zero)
 //!         4 dial list: STATION, u8 direction, EDGES, u32 bytes lent for rows; u8 refusal, u32 count,
 //!           count rows of 36 bytes
 //!         5 distance: f64 dial, u8 flags, u8 channel band, u32 count, u32 bytes of rows, those; u8
-//!           refusal, u8 listed, f64 distance (zero if none is listed)
+//!           refusal, u8 listed, f64 distance (infinite if none is listed)
+//!         6 where the table is wrong, if the linked library has the call: u8 refusal, u8 place, u8
+//!           table, u16 record
 //!     STATION   f64 margin, dial, power; u8 policy, control, license, sideband, itu_region,
 //!               band_plan, dial_known, power_known (32 bytes)
 //!     EDGES     f64 power low, power high, spectral low, spectral high (32 bytes)
@@ -38,8 +41,9 @@ use crate::compare::Room;
 use crate::damage;
 use crate::distance::{self, Asked};
 use crate::draw::{Rng, Scale};
-use crate::ffi::{Decision, Edges, NOTHING, Station};
-use crate::oracle::adapter::Prepared;
+use crate::expect;
+use crate::ffi::{Decision, Edges, Figures, Parts, Station, StationParts};
+use crate::oracle::adapter::{self, Prepared};
 use crate::tables::{self, World};
 use crate::{Run, fixed};
 
@@ -48,7 +52,7 @@ struct List {
     bytes: Vec<u8>,
     images: u32,
     /// How many cases of each call.
-    calls: [u32; 6],
+    calls: [u32; 7],
     /// The refusal and the code that each call is there with.
     seen: BTreeSet<(u8, u8, u8)>,
     /// How often each thing worth having is there.
@@ -131,9 +135,18 @@ impl<'a> Page<'a> {
     }
 
     fn check(&mut self, list: &mut List, most: u32) {
-        let tidy = crate::oracle::adapter::tidy(self.p);
-        if list.wants((0, u16::from(tidy), 0, 0), most) {
-            self.add(list, (0, self.p.refusal, 0), &[self.p.refusal, tidy]);
+        let (tidy, refusal) = adapter::tidy(self.p);
+        if list.wants((0, u16::from(tidy), u16::from(refusal), 0), most) {
+            self.add(list, (0, refusal, 0), &[refusal, tidy]);
+        }
+    }
+
+    fn fault(&mut self, list: &mut List, most: u32) {
+        let f = expect::fault(self.image, self.p.refusal);
+        let place = u16::from(f.place) * 256 + u16::from(f.table);
+        if list.wants((10, u16::from(f.refusal), place, f.record.min(1)), most) {
+            let [low, high] = f.record.to_le_bytes();
+            self.add(list, (6, f.refusal, 0), &[f.refusal, f.place, f.table, low, high]);
         }
     }
 
@@ -210,7 +223,7 @@ impl<'a> Page<'a> {
             out.extend([c.refusal, u8::from(c.rung.is_some())]);
             out.extend(c.rung.unwrap_or(0).to_le_bytes());
             out.push(u8::from(c.limit.is_some()));
-            decision(&mut out, &c.limit.unwrap_or(NOTHING));
+            decision(&mut out, &c.limit_or_none());
             self.add(list, (3, c.refusal, 0), &out);
         }
     }
@@ -273,11 +286,10 @@ impl<'a> Page<'a> {
             out.extend(a.count.to_le_bytes());
             out.extend((rows.len() as u32).to_le_bytes());
             out.extend(&rows);
-            let refusal = far.err().unwrap_or(0);
-            let far = far.unwrap_or(None);
-            out.extend([refusal, u8::from(far.is_some())]);
-            out.extend(far.unwrap_or(0.0).to_bits().to_le_bytes());
-            self.add(list, (5, refusal, 0), &out);
+            let flat = distance::flat(far);
+            out.extend([flat.refusal, flat.listed]);
+            out.extend(flat.distance_hz.to_bits().to_le_bytes());
+            self.add(list, (5, flat.refusal, 0), &out);
         }
     }
 }
@@ -317,10 +329,10 @@ pub fn write(run: &mut Run, file: &str) {
         eprintln!("{file}: {e}");
         std::process::exit(2);
     }
-    let [checks, verdicts, unmeasured, ceilings, dials, distances] = list.calls;
+    let [checks, verdicts, unmeasured, ceilings, dials, distances, faults] = list.calls;
     println!(
         "{} bytes; {} images, {checks} image cases, {verdicts} verdicts, {unmeasured} unmeasured, \
-         {ceilings} ceilings, {dials} dial lists, {distances} distances; seed {}",
+         {ceilings} ceilings, {dials} dial lists, {distances} distances, {faults} faults; seed {}",
         out.len(),
         list.images,
         run.seed
@@ -340,6 +352,9 @@ fn wanted() -> Vec<(u8, u8, u8)> {
         }
     }
     out.extend([(5, 0, 0), (5, 21, 0), (5, 23, 0)]);
+    if cfg!(fault) {
+        out.extend((0..=14).map(|refusal| (6, refusal, 0)));
+    }
     out
 }
 
@@ -357,6 +372,9 @@ fn page(
     let mut page = Page::new(image, &p);
     let mut bare = Page::new(&[], none);
     page.check(list, most / 2);
+    if cfg!(fault) {
+        page.fault(list, most / 2);
+    }
     let rng = &mut Rng::new(run.seed, run.place + (1 << 32));
     for i in 0..tries {
         let (signal, mut s, mut e, mut kind, mut direction) =

@@ -4,9 +4,9 @@
 use std::cell::RefCell;
 use std::rc::Rc;
 
-use crate::ffi::{Ceiling, Decision, Dials, Edges, NOTHING, Station};
+use crate::ffi::{Ceiling, Decision, Dials, Distance, Edges, Fault, Station, Tidiness, VERSION};
 use crate::original::adapter::{self, Prepared};
-use crate::original::expect;
+use crate::original::{distance, expect};
 
 thread_local! {
     static LAST: RefCell<Option<(Vec<u8>, Rc<Prepared>)>> = const { RefCell::new(None) };
@@ -28,13 +28,25 @@ unsafe fn slice<'a, T>(at: *const T, n: usize) -> &'a [T] {
 }
 
 #[unsafe(no_mangle)]
+extern "C" fn pamuklid_version() -> u32 {
+    VERSION
+}
+
+#[unsafe(no_mangle)]
 extern "C" fn pamuklid_check(image: *const u8, n: usize) -> u8 {
     prepared(unsafe { slice(image, n) }).refusal
 }
 
 #[unsafe(no_mangle)]
-extern "C" fn pamuklid_tidy(image: *const u8, n: usize) -> u8 {
-    adapter::tidy(&prepared(unsafe { slice(image, n) }))
+extern "C" fn pamuklid_fault_of(image: *const u8, n: usize) -> Fault {
+    let image = unsafe { slice(image, n) };
+    expect::fault(image, prepared(image).refusal)
+}
+
+#[unsafe(no_mangle)]
+extern "C" fn pamuklid_tidy(image: *const u8, n: usize) -> Tidiness {
+    let (tidy, refusal) = adapter::tidy(&prepared(unsafe { slice(image, n) }));
+    Tidiness { tidy, refusal }
 }
 
 #[unsafe(no_mangle)]
@@ -79,9 +91,8 @@ extern "C" fn pamuklid_ceiling_of(
     let c = adapter::ceiling(&p, &s, direction, &ordinary, &floor, rungs, floors)
         .expect("the Rust's words");
     Ceiling {
-        limit: c.limit.unwrap_or(NOTHING),
-        rung: c.rung.unwrap_or(0),
-        rung_known: u8::from(c.rung.is_some()),
+        limit: c.limit_or_none(),
+        rung: c.rung_number(),
         limit_known: u8::from(c.limit.is_some()),
         refusal: c.refusal,
     }
@@ -109,4 +120,17 @@ extern "C" fn pamuklid_safe_dials(
     }
     rows[..bytes.len()].copy_from_slice(&bytes);
     Dials { count: (bytes.len() / 36) as u32, refusal: 0 }
+}
+
+#[unsafe(no_mangle)]
+extern "C" fn pamuklid_distance_of(
+    dial: f64,
+    flags: u8,
+    channel_band: u8,
+    count: u32,
+    rows: *const u8,
+    rows_len: usize,
+) -> Distance {
+    let asked = distance::Asked { dial, flags, channel_band, count };
+    distance::flat(asked.answer(unsafe { slice(rows, rows_len) }))
 }

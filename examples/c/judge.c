@@ -1,41 +1,32 @@
-/* Judges the practice table through libpamuklid.a: judge IMAGE prints one answer to a line. */
+/* Judges the practice table through libpamuklid.a: judge IMAGE prints one answer to a line.
+ * It is C11 and C++17 at once. */
+#include <inttypes.h>
 #include <stdio.h>
 #include <string.h>
 
 #include "pamuklid.h"
 
-/* Nothing else checks the header against the library. */
-_Static_assert(sizeof(pamuklid_station) == 32, "station");
-_Static_assert(sizeof(pamuklid_edges) == 32, "edges");
-_Static_assert(sizeof(pamuklid_decision) == 360, "decision");
-_Static_assert(sizeof(pamuklid_ceiling) == 368, "ceiling");
-_Static_assert(sizeof(pamuklid_dials) == 8, "dials");
-_Static_assert(sizeof(pamuklid_distance) == 16, "distance");
-
-enum { RULES = 2, LOCAL = 0, AUTOMATIC = 2, GENERAL = 2, UPPER = 0, ABSENT = 255 };
-enum { ORIGINATE = 0, RESPOND = 1 };
-enum { DATA = 0, TEST = 2 };
 #define POWER_UNKNOWN (-1.0)
 
 /* A byte more than the longest image. */
-static uint8_t image[65537];
+static uint8_t image[PAMUKLID_IMAGE_MOST + 1];
 static size_t image_len;
 
+/* Every part of the record is set. */
 static pamuklid_station station_at(double dial, uint8_t control, double power)
 {
-    pamuklid_station s = {
-        .margin_hz = 50,
-        .dial_hz = dial,
-        .power_w = power,
-        .policy = RULES,
-        .control = control,
-        .license = GENERAL,
-        .sideband = UPPER,
-        .itu_region = 2,
-        .band_plan = 0,
-        .dial_known = 1,
-        .power_known = power != POWER_UNKNOWN,
-    };
+    pamuklid_station s = pamuklid_fresh();
+    s.policy = PAMUKLID_POLICY_RULES;
+    s.control = control;
+    s.license = PAMUKLID_LICENSE_GENERAL;
+    s.sideband = PAMUKLID_SIDEBAND_UPPER;
+    s.itu_region = 2;
+    s.margin_hz = 50;
+    s.band_plan = 0;
+    s.dial_hz = dial;
+    s.dial_known = 1;
+    s.power_w = power;
+    s.power_known = power >= 0;
     return s;
 }
 
@@ -48,21 +39,85 @@ static pamuklid_edges both(double low, double high)
 
 static const char *verdict_text(uint8_t verdict)
 {
-    return verdict == 0 ? "legal" : verdict == 1 ? "warning" : "blocked";
+    switch (verdict) {
+    case PAMUKLID_LEGAL:
+        return "legal";
+    case PAMUKLID_WARNING:
+        return "warning";
+    default:
+        return "blocked";
+    }
+}
+
+static const char *edge_text(uint8_t edge)
+{
+    return edge == PAMUKLID_EDGE_UPPER ? "upper" : "lower";
 }
 
 static void print_decision(const pamuklid_decision *d)
 {
-    if (d->refusal != 0) {
-        printf("refusal %u\n", d->refusal);
+    if (d->refusal != PAMUKLID_ACCEPTED) {
+        printf("refusal %d\n", d->refusal);
         return;
     }
-    printf("%s, code %u", verdict_text(d->verdict), d->code);
-    if (d->overshoot == 1)
-        printf(", beyond the %s edge by %.12g Hz", d->edge ? "upper" : "lower", d->beyond_hz);
-    if (d->overshoot == 2)
-        printf(", too close to the %s edge", d->edge ? "upper" : "lower");
+    printf("%s, code %d", verdict_text(d->verdict), d->code);
+    if (d->overshoot == PAMUKLID_OVERSHOOT_BEYOND)
+        printf(", beyond the %s edge by %.12g Hz", edge_text(d->edge), d->beyond_hz);
+    if (d->overshoot == PAMUKLID_OVERSHOOT_TOO_CLOSE)
+        printf(", too close to the %s edge", edge_text(d->edge));
     printf("\n");
+}
+
+/* The check, the tidy question, and where the table is wrong. */
+static void print_image(const char *title, const uint8_t *bytes, size_t n)
+{
+    pamuklid_tidiness t = pamuklid_tidy(bytes, n);
+    pamuklid_fault f = pamuklid_fault_of(bytes, n);
+    printf("%s: refusal %d, tidy %d", title, pamuklid_check(bytes, n), t.tidy);
+    if (t.refusal != f.refusal)
+        printf(", tidy's refusal %d, fault's %d", t.refusal, f.refusal);
+    if (f.place == PAMUKLID_PLACE_GENERAL)
+        printf(", in the general block");
+    if (f.place == PAMUKLID_PLACE_RECORD)
+        printf(", in record %d of table %d", f.record, f.table);
+    printf("\n");
+}
+
+/* A place of the image, and the bytes that are put there. */
+struct spoilt {
+    const char *title;
+    size_t at, len;
+    uint8_t bytes[8];
+};
+
+/* Where the practice table's records begin, see tools/reference/practice.txt. */
+enum { BAND_60 = 96, SEGMENT_60 = 160, PRIVILEGE_60 = 256, TRAILER = 352 };
+
+static const struct spoilt spoilt[] = {
+    {"other letters", TRAILER + 24, 1, {'F'}},
+    {"reading 3", 41, 1, {3}},
+    {"class 5 in the second privilege", PRIVILEGE_60 + 25, 1, {5}},
+    {"infinity as the second band's low end", BAND_60, 8, {0, 0, 0, 0, 0, 0, 0xf0, 0x7f}},
+    {"second segment from 8000000 Hz", SEGMENT_60, 8, {0, 0, 0, 0, 0x80, 0x84, 0x5e, 0x41}},
+    {"second segment up to 8000000 Hz", SEGMENT_60 + 8, 8, {0, 0, 0, 0, 0x80, 0x84, 0x5e, 0x41}},
+    {"second segment with an own limit of 0", SEGMENT_60 + 27, 1, {1}},
+    {"general limit 0", 0, 8, {0, 0, 0, 0, 0, 0, 0, 0}},
+    {"second band up to 16000000 Hz", BAND_60 + 8, 8, {0, 0, 0, 0, 0x80, 0x84, 0x6e, 0x41}},
+};
+
+static void images(void)
+{
+    static uint8_t copy[sizeof image];
+    print_image("image", image, image_len);
+    print_image("no bytes", image, 0);
+    for (size_t i = 0; i < sizeof spoilt / sizeof spoilt[0]; i++) {
+        const struct spoilt *t = &spoilt[i];
+        if (t->at + t->len > image_len)
+            continue;
+        memcpy(copy, image, image_len);
+        memcpy(copy + t->at, t->bytes, t->len);
+        print_image(t->title, copy, image_len);
+    }
 }
 
 struct item {
@@ -70,6 +125,13 @@ struct item {
     double dial, low, high, power;
     uint8_t control, direction, kind;
 };
+
+#define LOCAL PAMUKLID_CONTROL_LOCAL
+#define AUTOMATIC PAMUKLID_CONTROL_AUTOMATIC
+#define ORIGINATE PAMUKLID_DIRECTION_ORIGINATE
+#define RESPOND PAMUKLID_DIRECTION_RESPOND
+#define DATA PAMUKLID_KIND_DATA
+#define TEST PAMUKLID_KIND_TEST
 
 static const struct item items[] = {
     {"data", 14023800, 1250, 1750, POWER_UNKNOWN, LOCAL, ORIGINATE, DATA},
@@ -104,20 +166,21 @@ static void verdicts(void)
 
 static void print_ceiling(const double *rungs, size_t rung_count)
 {
-    static const uint8_t floors[256]; /* every rung goes with the ordinary control frame */
+    static const uint8_t floors[PAMUKLID_MOST_RUNGS] = {0}; /* all with the ordinary control frame */
     pamuklid_station s = station_at(14100000, LOCAL, POWER_UNKNOWN);
     pamuklid_edges control = both(1250, 1750);
-    pamuklid_ceiling c = pamuklid_ceiling_of(s, ORIGINATE, control, control, image, image_len, rungs,
-                                             4 * rung_count, floors, rung_count);
+    pamuklid_ceiling c =
+        pamuklid_ceiling_of(s, ORIGINATE, control, control, image, image_len, rungs,
+                            PAMUKLID_RUNG_FIGURES * rung_count, floors, rung_count);
     printf("ceiling of %zu rungs, dial 14100000: ", rung_count);
-    if (c.refusal != 0) {
-        printf("refusal %u\n", c.refusal);
+    if (c.refusal != PAMUKLID_ACCEPTED) {
+        printf("refusal %d\n", c.refusal);
         return;
     }
-    if (c.rung_known)
-        printf("rung %u, ", c.rung);
-    else
+    if (c.rung == PAMUKLID_RUNG_NONE)
         printf("no rung, ");
+    else
+        printf("rung %" PRId32 ", ", c.rung);
     if (c.limit_known) {
         printf("limit ");
         print_decision(&c.limit);
@@ -155,15 +218,18 @@ static void list(size_t row_count)
     pamuklid_dials d = pamuklid_safe_dials(s, ORIGINATE, both(1250, 1750), image, image_len, rows,
                                            row_count * PAMUKLID_ROW);
     printf("automatic, originating, list with room for %zu: ", row_count);
-    if (d.refusal != 0) {
-        printf("refusal %u\n", d.refusal);
+    if (d.refusal != PAMUKLID_ACCEPTED) {
+        printf("refusal %d\n", d.refusal);
         return;
     }
-    printf("%lu rows\n", (unsigned long)d.count);
+    printf("%" PRIu32 " rows\n", d.count);
     for (size_t i = 0; i < d.count; i++) {
         const uint8_t *row = rows + PAMUKLID_ROW * i;
-        printf("  dials %.12g to %.12g, segment %.12g to %.12g, band %u\n", row_figure(row + 16),
-               row_figure(row + 24), row_figure(row), row_figure(row + 8), row[32]);
+        printf("  dials %.12g to %.12g, ", row_figure(row + PAMUKLID_ROW_DIAL_LOW),
+               row_figure(row + PAMUKLID_ROW_DIAL_HIGH));
+        printf("segment %.12g to %.12g, ", row_figure(row + PAMUKLID_ROW_SEGMENT_LOW),
+               row_figure(row + PAMUKLID_ROW_SEGMENT_HIGH));
+        printf("band %d\n", row[PAMUKLID_ROW_BAND]);
     }
 }
 
@@ -173,19 +239,21 @@ static void distances(const char *title, uint8_t sideband, const double *dials, 
     static uint8_t rows[16 * PAMUKLID_ROW];
     pamuklid_station s = station_at(14100000, AUTOMATIC, POWER_UNKNOWN);
     s.sideband = sideband;
-    pamuklid_dials list = pamuklid_safe_dials(s, ORIGINATE, both(1250, 1750), image, image_len, rows,
+    pamuklid_dials made = pamuklid_safe_dials(s, ORIGINATE, both(1250, 1750), image, image_len, rows,
                                               sizeof rows);
-    if (list.refusal != 0) {
-        printf("%s: refusal %u\n", title, list.refusal);
+    if (made.refusal != PAMUKLID_ACCEPTED) {
+        printf("%s: refusal %d\n", title, made.refusal);
         return;
     }
+    /* A list under rules was made, so the image has these two bytes. */
+    uint8_t flags = image[PAMUKLID_IMAGE_FLAGS];
+    uint8_t channel_band = image[PAMUKLID_IMAGE_CHANNEL_BAND];
     for (size_t i = 0; i < dial_count; i++) {
-        /* A list under rules was made, so the image has these two bytes. */
-        pamuklid_distance d = pamuklid_distance_of(dials[i], image[42], image[43], list.count, rows,
+        pamuklid_distance d = pamuklid_distance_of(dials[i], flags, channel_band, made.count, rows,
                                                    sizeof rows);
         printf("%s, distance of dial %.13g: ", title, dials[i]);
-        if (d.refusal != 0)
-            printf("refusal %u\n", d.refusal);
+        if (d.refusal != PAMUKLID_ACCEPTED)
+            printf("refusal %d\n", d.refusal);
         else if (d.listed)
             printf("%.12g Hz\n", d.distance_hz);
         else
@@ -195,6 +263,10 @@ static void distances(const char *title, uint8_t sideband, const double *dials, 
 
 int main(int argc, char **argv)
 {
+    if (pamuklid_version() != PAMUKLID_VERSION) {
+        fprintf(stderr, "judge: library %" PRIu32 ", header %d\n", pamuklid_version(), PAMUKLID_VERSION);
+        return 2;
+    }
     FILE *file = argc == 2 ? fopen(argv[1], "rb") : NULL;
     if (file == NULL) {
         fprintf(stderr, "usage: judge IMAGE\n");
@@ -202,15 +274,15 @@ int main(int argc, char **argv)
     }
     image_len = fread(image, 1, sizeof image, file);
     fclose(file);
-    printf("image: refusal %u, tidy %u\n", pamuklid_check(image, image_len),
-           pamuklid_tidy(image, image_len));
+    printf("version %" PRIu32 "\n", pamuklid_version());
+    images();
     verdicts();
     ceilings();
     list(16);
     list(1);
     static const double dials[] = {14097700, 14098000, 14093799, 2e12};
-    distances("automatic, originating", UPPER, dials, 4);
-    distances("sideband absent", ABSENT, dials, 1);
+    distances("automatic, originating", PAMUKLID_SIDEBAND_UPPER, dials, 4);
+    distances("sideband absent", PAMUKLID_ABSENT, dials, 1);
     pamuklid_decision d = pamuklid_unmeasured(station_at(14100000, LOCAL, POWER_UNKNOWN), image,
                                               image_len);
     printf("spectrum not known: ");

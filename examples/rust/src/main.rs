@@ -5,8 +5,8 @@ use std::fs;
 use std::process::ExitCode;
 
 use pamuklid::{
-    Control, Decision, Direction, Distance, Edge, Edges, Kind, License, Overshoot, Policy, Refusal,
-    Sideband, Station, Verdict, ROW,
+    raw, Control, Decision, Direction, Distance, Edges, Kind, License, Overshoot, Place, Policy,
+    Refusal, Sideband, Station, ROW,
 };
 
 fn station(dial_hz: f64, control: Control, power_w: Option<f64>) -> Station {
@@ -27,31 +27,61 @@ fn refusal(r: Refusal) -> String {
     format!("refusal {}", r.number())
 }
 
-fn edge(e: Edge) -> &'static str {
-    match e {
-        Edge::Lower => "lower",
-        Edge::Upper => "upper",
-    }
-}
-
 fn decision(d: &Decision) -> String {
-    let verdict = match d.verdict {
-        Verdict::Legal => "legal",
-        Verdict::Warning => "warning",
-        Verdict::Blocked => "blocked",
-    };
     let overshoot = match d.overshoot {
         Overshoot::NoOvershoot => String::new(),
-        Overshoot::Beyond { by_hz, edge: e } => {
-            format!(", beyond the {} edge by {by_hz} Hz", edge(e))
-        }
-        Overshoot::TooClose { edge: e } => format!(", too close to the {} edge", edge(e)),
+        Overshoot::Beyond { by_hz, edge } => format!(", beyond the {edge} edge by {by_hz} Hz"),
+        Overshoot::TooClose { edge } => format!(", too close to the {edge} edge"),
     };
-    format!("{verdict}, code {}{overshoot}", d.code.number())
+    format!("{}, code {}{overshoot}", d.verdict.name(), d.code.number())
 }
 
 fn answer(a: Result<Decision, Refusal>) -> String {
     a.as_ref().map_or_else(|r| refusal(*r), decision)
+}
+
+/// The check, the tidy question, and where the table is wrong.
+fn print_image(title: &str, image: &[u8]) {
+    let checked = pamuklid::check(image).err().map_or(0, Refusal::number);
+    let tidy = u8::from(pamuklid::tidy(image) == Ok(true));
+    let place = match pamuklid::fault_of(image).err().and_then(|fault| fault.place) {
+        None => String::new(),
+        Some(Place::General) => ", in the general block".to_owned(),
+        Some(Place::Record { table, index }) => {
+            format!(", in record {index} of table {}", table.number())
+        }
+    };
+    println!("{title}: refusal {checked}, tidy {tidy}{place}");
+}
+
+/// Where the practice table's records begin, see tools/reference/practice.txt.
+const BAND_60: usize = 96;
+const SEGMENT_60: usize = 160;
+const PRIVILEGE_60: usize = 256;
+const TRAILER: usize = 352;
+
+fn images(image: &[u8]) {
+    print_image("image", image);
+    print_image("no bytes", &[]);
+    let figure = |x: f64| x.to_bits().to_le_bytes().to_vec();
+    let spoilt = [
+        ("other letters", TRAILER + 24, vec![b'F']),
+        ("reading 3", 41, vec![3]),
+        ("class 5 in the second privilege", PRIVILEGE_60 + 25, vec![5]),
+        ("infinity as the second band's low end", BAND_60, figure(f64::INFINITY)),
+        ("second segment from 8000000 Hz", SEGMENT_60, figure(8_000_000.0)),
+        ("second segment up to 8000000 Hz", SEGMENT_60 + 8, figure(8_000_000.0)),
+        ("second segment with an own limit of 0", SEGMENT_60 + 27, vec![1]),
+        ("general limit 0", 0, figure(0.0)),
+        ("second band up to 16000000 Hz", BAND_60 + 8, figure(16_000_000.0)),
+    ];
+    for (title, at, bytes) in spoilt {
+        let mut image = image.to_vec();
+        if let Some(place) = image.get_mut(at..at + bytes.len()) {
+            place.copy_from_slice(&bytes);
+            print_image(title, &image);
+        }
+    }
 }
 
 fn verdicts(image: &[u8]) {
@@ -172,9 +202,8 @@ fn main() -> ExitCode {
         eprintln!("usage: judge IMAGE");
         return ExitCode::from(2);
     };
-    let checked = pamuklid::check(&image).err().map_or(0, Refusal::number);
-    let tidy = pamuklid::tidy(&image).map_or_else(|r| 100 + r.number(), u8::from);
-    println!("image: refusal {checked}, tidy {tidy}");
+    println!("version {}", raw::version());
+    images(&image);
     verdicts(&image);
     let rungs =
         [Edges::both(1_250.0, 1_750.0), Edges::both(1_000.0, 2_000.0), Edges::both(0.0, 2_900.0)];

@@ -37,12 +37,12 @@ pub struct SixtyNotes {
 /// The power records of the image that the power is above, by their index.
 #[derive(Clone, Copy, PartialEq, Eq)]
 pub struct PowerNotes {
-    marks: [bool; raw::NOTES],
+    marks: [bool; raw::MOST_NOTES],
 }
 
 impl PowerNotes {
     /// No record.
-    pub const NONE: Self = Self { marks: [false; raw::NOTES] };
+    pub const NONE: Self = Self { marks: [false; raw::MOST_NOTES] };
 
     /// Whether there is none.
     pub fn is_empty(&self) -> bool {
@@ -174,43 +174,12 @@ pub(crate) fn ceiling(c: &raw::Ceiling) -> Result<Ceiling, Refusal> {
 mod tests {
     use super::*;
 
-    /// A refusal as the library gives it: the number, verdict 2, all else zero.
-    fn refusal(number: u8) -> raw::Decision {
-        raw::Decision { refusal: number, verdict: 2, ..NOTHING }
-    }
+    const ABSENT: raw::Decision = raw::Decision::ABSENT;
 
-    const NOTHING: raw::Decision = raw::Decision {
-        segment_low: 0.0,
-        segment_high: 0.0,
-        automatic_low: 0.0,
-        automatic_high: 0.0,
-        audio_low: 0.0,
-        audio_high: 0.0,
-        width: 0.0,
-        air_low: 0.0,
-        air_high: 0.0,
-        beyond_hz: 0.0,
-        rule: 0,
-        segment_rule: 0,
-        guidance_index: 0,
-        refusal: 0,
-        verdict: 0,
-        code: 0,
-        rule_known: 0,
-        band_known: 0,
-        band: 0,
-        segment_known: 0,
-        automatic_known: 0,
-        audio_known: 0,
-        air_known: 0,
-        overshoot: 0,
-        edge: 0,
-        guidance: 0,
-        note_channel_power: 0,
-        note_shared: 0,
-        note_segment_power: 0,
-        notes: [0; raw::NOTES],
-    };
+    /// A refusal as the library gives it.
+    fn refusal(number: u8) -> raw::Decision {
+        raw::Decision { refusal: number, ..ABSENT }
+    }
 
     #[test]
     fn refusals() {
@@ -226,7 +195,7 @@ mod tests {
     #[test]
     #[should_panic(expected = "libpamuklid.a answers code 0, which the crate pamuklid has no name")]
     fn never_asked() {
-        let _ = decision(&NOTHING);
+        let _ = decision(&raw::Decision { verdict: 0, ..ABSENT });
     }
 
     #[test]
@@ -234,7 +203,7 @@ mod tests {
         let of = |rung, limit_known| {
             let limit = match limit_known {
                 0 => refusal(0),
-                _ => raw::Decision { verdict: 2, code: 12, rule: 7, rule_known: 1, ..NOTHING },
+                _ => raw::Decision { code: 12, rule: 7, rule_known: 1, ..ABSENT },
             };
             ceiling(&raw::Ceiling { limit, rung, limit_known, refusal: 0 }).unwrap()
         };
@@ -255,7 +224,7 @@ mod tests {
     /// 256 marks, of which those that are set are printed.
     #[test]
     fn debug_without_marks() {
-        let mut d = raw::Decision { verdict: 1, code: 16, rule_known: 1, ..NOTHING };
+        let mut d = raw::Decision { verdict: 1, code: 16, rule_known: 1, ..ABSENT };
         let text = |d: &raw::Decision| format!("{:?}", decision(d).unwrap());
         assert!(text(&d).ends_with("power: {} }"), "{}", text(&d));
         (d.notes[0], d.notes[7], d.notes[255]) = (1, 1, 1);

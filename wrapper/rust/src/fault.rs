@@ -1,6 +1,7 @@
 //! Where a table is wrong.
 
 use std::error::Error;
+use std::ops::Range;
 use std::str::FromStr;
 
 use crate::codes::{known, numbered, refused, Refusal, UnknownName};
@@ -42,6 +43,25 @@ pub enum Place {
         /// Its index in that table, from 0.
         index: u16,
     },
+}
+
+impl Place {
+    /// Its bytes in the image; `None` where the image has no such place.
+    pub fn bytes(self, image: &[u8]) -> Option<Range<usize>> {
+        let (start, size) = match self {
+            Self::General => (0, raw::IMAGE_GENERAL),
+            Self::Record { table, index } => {
+                let trailer = image.len().checked_sub(raw::IMAGE_TRAILER)?;
+                let counts =
+                    image[trailer..].chunks(2).map(|n| usize::from(n[0]) + 256 * usize::from(n[1]));
+                let before: usize = counts.take(table.number().into()).sum();
+                let start = raw::IMAGE_GENERAL + raw::IMAGE_RECORD * (before + usize::from(index));
+                (start, raw::IMAGE_RECORD)
+            }
+        };
+        let end = start + size;
+        (end <= image.len()).then_some(start..end)
+    }
 }
 
 /// An image's refusal, and where the table is wrong.

@@ -18,16 +18,16 @@ pub const RUNG_NONE: i32 = -1;
 pub const TABLE_NONE: u8 = 255;
 /// The record of a fault that names none.
 pub const RECORD_NONE: u16 = 65_535;
-/// The marks in the notes of an answer: one for each power record that a table can have.
-pub const NOTES: usize = 256;
-/// The rungs that a climb can have.
-pub const RUNGS: usize = 256;
+/// The marks in the notes of an answer: one for each power record that a table can have at most.
+pub const MOST_NOTES: usize = 256;
+/// The most rungs that a climb can have.
+pub const MOST_RUNGS: usize = 256;
 /// The figures of a rung.
 pub const RUNG_FIGURES: usize = 4;
 /// The bytes of a dial row.
 pub const ROW: usize = 36;
-/// The rows that a dial list can have.
-pub const ROWS: usize = 16_777_472;
+/// The most rows that a dial list can have.
+pub const MOST_ROWS: usize = 16_777_472;
 /// The least bytes of an image.
 pub const IMAGE_LEAST: usize = 92;
 /// The most bytes of an image.
@@ -38,8 +38,8 @@ pub const IMAGE_GENERAL: usize = 64;
 pub const IMAGE_RECORD: usize = 32;
 /// The bytes of an image's trailer.
 pub const IMAGE_TRAILER: usize = 28;
-/// The records that a table of an image can have.
-pub const IMAGE_RECORDS: usize = 256;
+/// The most records that a table of an image can have.
+pub const MOST_RECORDS: usize = 256;
 /// The offset of an image's flags, which the distance of a dial asks for.
 pub const IMAGE_FLAGS: usize = 42;
 /// The offset of the number of an image's channel band, which the distance of a dial asks for.
@@ -153,7 +153,43 @@ pub struct Decision {
     /// 1: above the watts of the 60 m segment; else 0.
     pub note_segment_power: u8,
     /// 1 for each power record of the image that is exceeded, by its index; else 0.
-    pub notes: [u8; NOTES],
+    pub notes: [u8; MOST_NOTES],
+}
+
+impl Decision {
+    /// The limit of a ceiling that has none: verdict 2, all else zero. A refusal is this with its number.
+    pub const ABSENT: Self = Self {
+        segment_low: 0.0,
+        segment_high: 0.0,
+        automatic_low: 0.0,
+        automatic_high: 0.0,
+        audio_low: 0.0,
+        audio_high: 0.0,
+        width: 0.0,
+        air_low: 0.0,
+        air_high: 0.0,
+        beyond_hz: 0.0,
+        rule: 0,
+        segment_rule: 0,
+        guidance_index: 0,
+        refusal: 0,
+        verdict: 2,
+        code: 0,
+        rule_known: 0,
+        band_known: 0,
+        band: 0,
+        segment_known: 0,
+        automatic_known: 0,
+        audio_known: 0,
+        air_known: 0,
+        overshoot: 0,
+        edge: 0,
+        guidance: 0,
+        note_channel_power: 0,
+        note_shared: 0,
+        note_segment_power: 0,
+        notes: [0; MOST_NOTES],
+    };
 }
 
 /// How fast a rung may be sent.

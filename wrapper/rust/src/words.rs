@@ -272,6 +272,11 @@ impl Display for Code {
 }
 
 impl Refusal {
+    /// Whether it is about the image (1 to 14): then [`fault_of`](crate::fault_of) may know where.
+    pub const fn is_about_image(self) -> bool {
+        self.number() <= Self::GeneralLimit.number()
+    }
+
     /// Why, as a clause.
     pub const fn reason(self) -> &'static str {
         match self {

@@ -66,6 +66,20 @@ fn image_calls() {
     assert_eq!((raw::tidy(&damaged).tidy, raw::tidy(&damaged).refusal), (0, 2));
 }
 
+/// tools/reference/practice.txt has the offsets.
+#[test]
+fn places() {
+    let at = |table, index| Place::Record { table, index }.bytes(IMAGE);
+    assert_eq!(Place::General.bytes(IMAGE), Some(0..64));
+    assert_eq!(at(Table::Bands, 0), Some(64..96));
+    assert_eq!(at(Table::Segments, 1), Some(160..192));
+    assert_eq!(at(Table::Channels, 0), Some(192..224));
+    assert_eq!(at(Table::Automatic, 1), Some(320..352));
+    assert_eq!(at(Table::Bands, 65_535), None);
+    assert_eq!(Place::General.bytes(&IMAGE[..63]), None);
+    assert_eq!(Place::Record { table: Table::Bands, index: 0 }.bytes(&[0; 27]), None);
+}
+
 /// Places of the practice table that were spoilt (tools/reference/practice.txt has its bytes): the first
 /// that the refusal's own test meets, or none.
 #[test]

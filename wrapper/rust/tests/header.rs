@@ -124,17 +124,17 @@ fn every_number() {
     numbers.take("TABLE_NONE", raw::TABLE_NONE.into());
     numbers.take("RECORD_NONE", raw::RECORD_NONE.into());
     for (name, size) in [
-        ("NOTES", raw::NOTES),
-        ("RUNGS", raw::RUNGS),
+        ("MOST_NOTES", raw::MOST_NOTES),
+        ("MOST_RUNGS", raw::MOST_RUNGS),
         ("RUNG_FIGURES", raw::RUNG_FIGURES),
         ("ROW", raw::ROW),
-        ("ROWS", raw::ROWS),
+        ("MOST_ROWS", raw::MOST_ROWS),
         ("IMAGE_LEAST", raw::IMAGE_LEAST),
         ("IMAGE_MOST", raw::IMAGE_MOST),
         ("IMAGE_GENERAL", raw::IMAGE_GENERAL),
         ("IMAGE_RECORD", raw::IMAGE_RECORD),
         ("IMAGE_TRAILER", raw::IMAGE_TRAILER),
-        ("IMAGE_RECORDS", raw::IMAGE_RECORDS),
+        ("MOST_RECORDS", raw::MOST_RECORDS),
         ("IMAGE_FLAGS", raw::IMAGE_FLAGS),
         ("IMAGE_CHANNEL_BAND", raw::IMAGE_CHANNEL_BAND),
     ] {
@@ -256,7 +256,7 @@ fn parts<'a>(t: &'a [String], mark: &'a str) -> impl Iterator<Item = &'a [String
 
 fn length(word: &str) -> String {
     match word {
-        "NOTES" | "PAMUKLID_NOTES" => raw::NOTES.to_string(),
+        "MOST_NOTES" | "PAMUKLID_MOST_NOTES" => raw::MOST_NOTES.to_string(),
         _ => word.to_owned(),
     }
 }

@@ -165,6 +165,7 @@ fn refusals() {
     for (&refusal, (number, text)) in Refusal::ALL.iter().zip(texts) {
         assert_eq!(refusal.number(), number);
         assert_eq!(refusal.reason(), text);
+        assert_eq!(refusal.is_about_image(), number < 15);
         reads(refusal, &format!("refusal {number}: {text}"));
     }
     let hints: HashSet<&str> = Refusal::ALL.iter().map(|r| r.what_to_do()).collect();
