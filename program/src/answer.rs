@@ -93,7 +93,7 @@ impl Style {
     /// For what goes to a terminal or elsewhere.
     pub fn new(when: When, terminal: bool) -> Self {
         let set = |name: &str| std::env::var_os(name).filter(|value| !value.is_empty());
-        let dumb = set("TERM").map_or(false, |term| term == "dumb");
+        let dumb = set("TERM").is_some_and(|term| term == "dumb");
         let on = match when {
             When::Auto => terminal && !dumb && set("NO_COLOR").is_none(),
             When::Always => true,

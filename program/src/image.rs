@@ -1,7 +1,7 @@
 //! The image's bytes, field by field (docs/IMAGE.md), to show where a refused table is wrong. The refusal and its place
 //! come from the library; which field it is, is looked for here, at that place.
 
-use pamuklid::raw::{IMAGE_GENERAL, IMAGE_LEAST, IMAGE_RECORD, IMAGE_RECORDS, IMAGE_TRAILER};
+use pamuklid::raw::{IMAGE_GENERAL, IMAGE_LEAST, IMAGE_RECORD, IMAGE_TRAILER, MOST_RECORDS};
 use pamuklid::{Fault, Hertz, Place, Refusal, Table};
 
 /// What a field may hold.
@@ -155,17 +155,12 @@ pub fn count_of(image: &[u8], table: Table) -> usize {
     }
 }
 
-/// Where a record begins, by the counts.
-pub fn record_at(image: &[u8], table: Table, index: usize) -> usize {
-    let before: usize = Table::ALL.iter().take(table.number().into()).map(|&t| count_of(image, t)).sum();
-    IMAGE_GENERAL + IMAGE_RECORD * (before + index)
-}
-
 /// The bands of an accepted image, from low to high.
 pub fn bands(image: &[u8]) -> impl Iterator<Item = (f64, f64)> + '_ {
-    (0..count_of(image, Table::Bands)).map(|i| {
-        let at = record_at(image, Table::Bands, i);
-        (f64_at(image, at), f64_at(image, at + 8))
+    (0..count_of(image, Table::Bands)).filter_map(|i| {
+        let place = Place::Record { table: Table::Bands, index: i.try_into().ok()? };
+        let at = place.bytes(image)?.start;
+        Some((f64_at(image, at), f64_at(image, at + 8)))
     })
 }
 
@@ -295,7 +290,7 @@ fn disagreeing(image: &[u8], trailer: usize) -> Vec<Field> {
     for &table in Table::ALL {
         let (at, count) = (trailer + 2 * usize::from(table.number()), count_of(image, table));
         sum += count;
-        if count > IMAGE_RECORDS {
+        if count > MOST_RECORDS {
             let name = count_name(table);
             out.push(trailer_field(image, at, 2, name, count.to_string(), "is over 256".to_owned()));
         }
@@ -358,11 +353,8 @@ pub fn fields(image: &[u8], fault: &Fault) -> Vec<Field> {
         (Refusal::GeneralLimit, _) => fields_at(image, 0, &GENERAL, &[(0, "must be above 0")]),
         (Refusal::CodedByte, Some(Place::General)) => miscoded(image, 0, &GENERAL, GENERAL_FLAGS, true),
         (Refusal::ImageFigure, Some(Place::General)) => unsound(image, 0, &GENERAL),
-        (refusal, Some(Place::Record { table, index })) => {
-            let start = record_at(image, table, index.into());
-            if start + IMAGE_RECORD > end {
-                return Vec::new();
-            }
+        (refusal, Some(place @ Place::Record { table, .. })) => {
+            let Some(start) = place.bytes(image).map(|bytes| bytes.start) else { return Vec::new() };
             let forms = record_forms(table);
             match refusal {
                 Refusal::CodedByte => match absent_part(image, table) {

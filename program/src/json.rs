@@ -7,7 +7,7 @@ use serde::Serialize;
 
 use crate::answer::{Failure, Status};
 use crate::args::Asked;
-use crate::image::{record_at, Field};
+use crate::image::Field;
 use crate::table::{Source, Table};
 use crate::words;
 
@@ -321,15 +321,13 @@ impl RefusalJson {
         let mut out = Self::of(refusal);
         let Some((fault, fields)) = fault else { return out };
         out.what_to_do = words::what_to_do(refusal, !fields.is_empty());
-        out.place = fault.place.map(|place| match place {
-            Place::General => PlaceJson { part: "general", table: None, record: None, at: 0, bytes: 64 },
-            Place::Record { table, index } => PlaceJson {
-                part: "record",
-                table: Some(table.name()),
-                record: Some(index),
-                at: record_at(image, table, index.into()),
-                bytes: 32,
-            },
+        out.place = fault.place.map(|place| {
+            let bytes = place.bytes(image).unwrap_or_default();
+            let (part, table, record) = match place {
+                Place::General => ("general", None, None),
+                Place::Record { table, index } => ("record", Some(table.name()), Some(index)),
+            };
+            PlaceJson { part, table, record, at: bytes.start, bytes: bytes.len() }
         });
         out.fields = fields
             .iter()

@@ -233,7 +233,7 @@ pub fn refusal(
     }
     out.push_str(&format!(
         "What to do: {}.\n",
-        what_to_do(refusal, fault.map_or(false, |(_, fields)| !fields.is_empty()))
+        what_to_do(refusal, fault.is_some_and(|(_, fields)| !fields.is_empty()))
     ));
     out
 }
@@ -263,12 +263,9 @@ pub fn what_to_do(refusal: Refusal, shown: bool) -> &'static str {
 }
 
 fn place_words(place: Place, table: &Table) -> String {
-    match place {
-        Place::General => "the general block, bytes 0 to 63".to_owned(),
-        Place::Record { table: of, index } => {
-            let at = crate::image::record_at(&table.image, of, index.into());
-            format!("{place}, bytes {at} to {}", at + 31)
-        }
+    match place.bytes(&table.image) {
+        Some(bytes) => format!("{place}, bytes {} to {}", bytes.start, bytes.end - 1),
+        None => place.to_string(),
     }
 }
 

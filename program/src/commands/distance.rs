@@ -46,7 +46,7 @@ struct Json {
 fn clause(dial: f64, distance: Option<Distance>, listing: &Listing) -> String {
     let dial = Hertz(dial);
     match (distance, listing) {
-        (Some(Distance::Hz(far)), _) if far == 0.0 => format!("The dial {dial} is listed: data may be sent there."),
+        (Some(Distance::Hz(0.0)), _) => format!("The dial {dial} is listed."),
         (Some(Distance::Hz(far)), _) => format!("The dial {dial} is {} from the nearest listed one.", Hertz(far)),
         (_, Listing::Barred(decision)) => format!("No dial is listed: {}.", words::reason(decision)),
         _ => "No dial is listed outside 60 m.".to_owned(),
