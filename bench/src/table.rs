@@ -59,7 +59,53 @@ fn has_limit(segment: usize) -> bool {
     segment % 10 == 0
 }
 
+/// The order in which a list table has its data segments.
+#[derive(Clone, Copy, PartialEq)]
+pub enum Order {
+    /// By frequency: every row goes last.
+    Rising,
+    /// The other way: every row goes first.
+    Falling,
+    /// By chance, the same in every run.
+    Mixed,
+}
+
+/// The numbers below n in an order.
+fn ordered(n: usize, order: Order) -> Vec<usize> {
+    let mut out: Vec<usize> = (0..n).collect();
+    match order {
+        Order::Rising => {}
+        Order::Falling => out.reverse(),
+        Order::Mixed => {
+            let mut x = 1u64;
+            for i in (1..n).rev() {
+                x = x
+                    .wrapping_mul(6_364_136_223_846_793_005)
+                    .wrapping_add(1_442_695_040_888_963_407);
+                out.swap(i, (x >> 33) as usize % (i + 1));
+            }
+        }
+    }
+    out
+}
+
 impl Table {
+    /// A table that lists, for an Extra, a row of each data segment under each privilege: one band,
+    /// segments of 10 kHz side by side in it, and every privilege all over it. The rows of a segment
+    /// share their lower dial.
+    pub fn listing(segments: usize, privileges: usize, order: Order) -> Table {
+        let wide = |low: usize, high: usize| span(start(0), 1e4 * low as f64, 1e4 * high as f64);
+        let whole = wide(0, segments);
+        let mut tables: [Vec<Record>; 9] = Default::default();
+        tables[BANDS] = vec![whole];
+        tables[SEGMENTS] = ordered(segments, order)
+            .into_iter()
+            .map(|i| Record { rule: RULE + 1, ..wide(i, i + 1) })
+            .collect();
+        tables[PRIVILEGES] = vec![Record { class: 4, ..whole }; privileges];
+        Table { tables }
+    }
+
     /// So many records of each table, spread over the bands.
     pub fn made(counts: [usize; 9]) -> Table {
         let bands = counts[BANDS];
@@ -103,6 +149,10 @@ impl Table {
             each(PLAN_AVOID, &|b, _| Record { rule: RULE, ..span(start(b), 149_000.0, 149_500.0) }),
         ];
         Table { tables }
+    }
+
+    pub fn bands(&self) -> usize {
+        self.tables[BANDS].len()
     }
 
     pub fn records(&self) -> usize {

@@ -4,14 +4,16 @@
     python3 borders.py --list   prints number, expectation and name of every case instead
 
 Every expected output comes from reference.py. Beside that each case carries an expectation
-written here by hand ("refused", "tidy", "untidy"; for stations a number or parts of the line),
+written here by hand ("refused", "tidy", "untidy"; for a refusal by 5 to 10, 12 or 13 also its
+place; for stations a number or parts of the line),
 and the generator stops if the reference says otherwise. Only the random cases ("free", and the
 random stations) have none. Nothing is random but by the fixed seeds below.
 
 run_image's stdin, little-endian: u16 cases; each: u32 image length, u16 patches, and each patch:
 u32 offset, u16 length n (1 to 64), u16 times, u32 stride, n bytes. The image starts as zero bytes;
 a patch is written `times` times, at offset, offset + stride, ..., later patches over earlier.
-Its stdout: "<case> check <C> tidy <T>", C 0 or the refusal, T 0 untidy, 1 tidy, 100 + refusal.
+Its stdout: "<case> check <C> tidy <T> fault <F>", C 0 or the refusal, T 0 untidy, 1 tidy,
+100 + refusal, F 0 nowhere, 1 the general block, "2 <table> <record>".
 
 run_station's stdin: u16 cases; each 35 bytes: u8 policy, control, license, sideband, region, plan
 mark, dial presence, power presence, direction, kind; u64 bits of margin, dial, power; u8 image
@@ -35,6 +37,9 @@ CRATES = os.path.join(HERE, "..", "..", "crates")
 BANDS, SEGMENTS, CHANNELS, PRIVILEGES, AUTOMATIC, EXCLUDED, POWER, PLAN_DATA, PLAN_AVOID = range(9)
 NAMES = ["bands", "segments", "channels", "privileges", "automatic", "excluded", "power",
          "plan_data", "plan_avoid"]
+
+# Places.
+NOWHERE, GENERAL = reference.NOWHERE, reference.GENERAL
 
 # General flags (byte 42).
 ELSEWHERE, RESPONSE, CHANNEL_PART, EMISSIONS_PART, PLAN = 1, 2, 4, 8, 16
@@ -142,12 +147,16 @@ def encoded(length, patches):
 # ---------------------------------------------------------------------------------------------
 # Image cases
 
-IMAGE_CASES = []                                 # (name, encoded, C, T)
+IMAGE_CASES = []                                 # (name, encoded, C, T, F)
 
 
-def add(name, base, edits, check, tidy):
-    """`base` is an image, or a length and patches; `edits` are (offset, bytes). `check` and
-    `tidy` are the expectation by hand, None for none."""
+def fault_words(at):
+    return {NOWHERE: "0", GENERAL: "1"}.get(at) or "2 %d %d" % at
+
+
+def add(name, base, edits, check, tidy, at):
+    """`base` is an image, or a length and patches; `edits` are (offset, bytes). `check`, `tidy`
+    and `at` are the expectation by hand, None for none."""
     if isinstance(base, tuple):
         length, patches = base
         ways = [patches]
@@ -170,23 +179,27 @@ def add(name, base, edits, check, tidy):
         raise SystemExit("%s: by hand %d, reference %d" % (name, check, found))
     if tidy is not None and found_tidy != tidy:
         raise SystemExit("%s: by hand tidy %d, reference %d" % (name, tidy, found_tidy))
-    IMAGE_CASES.append((name, code, found, found_tidy))
+    found_at = reference.place_of(data)
+    if at is not None and found_at != at:
+        raise SystemExit("%s: by hand at %s, reference %s" % (name, at, found_at))
+    IMAGE_CASES.append((name, code, found, found_tidy, fault_words(found_at)))
 
 
-def refused(number, name, base, *edits):
-    add(name, base, edits, number, 100 + number)
+def refused(number, name, base, *edits, at=NOWHERE):
+    assert (at == NOWHERE) == (number in (1, 2, 3, 4, 11, 14)), name
+    add(name, base, edits, number, 100 + number, at)
 
 
 def tidy(name, base, *edits):
-    add(name, base, edits, 0, 1)
+    add(name, base, edits, 0, 1, NOWHERE)
 
 
 def untidy(name, base, *edits):
-    add(name, base, edits, 0, 0)
+    add(name, base, edits, 0, 0, NOWHERE)
 
 
 def free(name, base, *edits):
-    add(name, base, edits, None, None)
+    add(name, base, edits, None, None, None)
 
 
 # ---------------------------------------------------------------------------------------------
@@ -340,10 +353,10 @@ def counts():
         refused(4, "256 %s, count 257, distance with it" % NAMES[t], full,
                 (end + 2 * t, [1, 1]), (end + 18, struct.pack("<I", end + 32)))
         refused(5, "256 %s, an unused byte of the last" % NAMES[t], full,
-                (place(full, t, 255) + (31 if t != SEGMENTS else 25), [1]))
+                (place(full, t, 255) + (31 if t != SEGMENTS else 25), [1]), at=(t, 255))
         if t != EXCLUDED:
             refused(6, "256 %s, low of the last" % NAMES[t], full,
-                    (place(full, t, 255), f64(MINUS_ABOVE)))
+                    (place(full, t, 255), f64(MINUS_ABOVE)), at=(t, 255))
     refused(4, "count 512", with_table(AUTOMATIC, [PLAIN[AUTOMATIC]] * 512))
     refused(4, "count 2,043", with_table(AUTOMATIC, [PLAIN[AUTOMATIC]] * 2043))
 
@@ -377,7 +390,8 @@ def general_codes():
     tidy("flags with all parts present, tables empty",
          image(general(flags=31), bands=[BAND], segments=[SEGMENT]))
     for byte in range(58, 64):
-        refused(5, "general byte %d is not zero" % byte, MINIMAL, (byte, [1 if byte % 2 else 128]))
+        refused(5, "general byte %d is not zero" % byte, MINIMAL, (byte, [1 if byte % 2 else 128]),
+                at=GENERAL)
 
     # Each byte of each field of each part: 5 while the part is absent.
     parts = [("elsewhere", ELSEWHERE, list(range(8, 16)) + [48, 49]),
@@ -390,16 +404,18 @@ def general_codes():
         alone = image(general(flags=bit), bands=[BAND], segments=[SEGMENT])
         tidy("only %s present, all zero" % name, alone)
         for byte in fields:
-            refused(5, "%s absent, byte %d" % (name, byte), MINIMAL, (byte, [1]))
+            refused(5, "%s absent, byte %d" % (name, byte), MINIMAL, (byte, [1]), at=GENERAL)
         for byte in (b for b in fields if b < 40 and b % 8 == 7 or b >= 40):
-            refused(5, "%s absent, the others present, byte %d" % (name, byte), others, (byte, [1]))
+            refused(5, "%s absent, the others present, byte %d" % (name, byte), others, (byte, [1]),
+                    at=GENERAL)
             tidy("%s present, byte %d" % (name, byte), alone, (byte, [1]))
         for byte in (b for b in fields if b < 40 and b % 8 == 0):
             for what, bits in (("negative zero", NEG_ZERO), ("NaN", QUIET_NAN)):
                 refused(5, "%s absent, figure at %d %s" % (name, byte, what), MINIMAL,
-                        (byte, f64(bits)))
-    refused(5, "response required, elsewhere absent", MINIMAL, (42, [RESPONSE]))
-    refused(5, "response required, elsewhere alone absent", MINIMAL, (42, [31 - ELSEWHERE]))
+                        (byte, f64(bits)), at=GENERAL)
+    refused(5, "response required, elsewhere absent", MINIMAL, (42, [RESPONSE]), at=GENERAL)
+    refused(5, "response required, elsewhere alone absent", MINIMAL, (42, [31 - ELSEWHERE]),
+            at=GENERAL)
     tidy("elsewhere without response", MINIMAL, (42, [ELSEWHERE]))
     tidy("elsewhere with response", MINIMAL, (42, [ELSEWHERE | RESPONSE]))
 
@@ -408,24 +424,25 @@ def general_codes():
         for what, one in (("a record", PLAIN[t]), ("a record of zeros", bytes(32))):
             here = with_table(t, [one])
             tidy("%s: %s, part present" % (NAMES[t], what), here)
-            refused(5, "%s: %s, part absent" % (NAMES[t], what), here, (42, [0]))
-            refused(5, "%s: %s, part alone absent" % (NAMES[t], what), here, (42, [keep]))
+            refused(5, "%s: %s, part absent" % (NAMES[t], what), here, (42, [0]), at=(t, 0))
+            refused(5, "%s: %s, part alone absent" % (NAMES[t], what), here, (42, [keep]),
+                    at=(t, 0))
     both = image(general(), bands=[BAND], segments=[SEGMENT], plan_data=[PLAIN[PLAN_DATA]],
                  plan_avoid=[PLAIN[PLAN_AVOID]])
-    refused(5, "both plan tables, plan absent", both)
+    refused(5, "both plan tables, plan absent", both, at=(PLAN_DATA, 0))
     tidy("both plan tables, plan present", both, (42, [PLAN]))
 
     for value in (0, 1, 2):
         tidy("reading %d" % value, MINIMAL, (41, [value]))
     for value in (3, 4, 255):
-        refused(5, "reading %d" % value, MINIMAL, (41, [value]))
+        refused(5, "reading %d" % value, MINIMAL, (41, [value]), at=GENERAL)
     for value in (32, 64, 128, 63):
-        refused(5, "general flags %d" % value, MINIMAL, (42, [value]))
+        refused(5, "general flags %d" % value, MINIMAL, (42, [value]), at=GENERAL)
     channels = image(general(flags=CHANNEL_PART), bands=[BAND], segments=[SEGMENT])
     for value in (0, 1):
         tidy("channel sideband %d" % value, channels, (44, [value]))
     for value in (2, 3, 255):
-        refused(5, "channel sideband %d" % value, channels, (44, [value]))
+        refused(5, "channel sideband %d" % value, channels, (44, [value]), at=GENERAL)
     for value in (0, 255):
         tidy("channel band %d" % value, channels, (43, [value]))
         tidy("region %d" % value, MINIMAL, (40, [value]))
@@ -433,7 +450,7 @@ def general_codes():
     for value in (1, 8, 15):
         tidy("emission bits %d" % value, emissions, (45, [value]))
     for value in (16, 32, 64, 128):
-        refused(5, "emission bits %d" % value, emissions, (45, [value]))
+        refused(5, "emission bits %d" % value, emissions, (45, [value]), at=GENERAL)
     tidy("all rules 65,535", image(general(flags=31), bands=[BAND], segments=[SEGMENT]),
          (46, [255] * 12))
     tidy("rules without parts 65,535", MINIMAL, (46, [255, 255]), (50, [255, 255]), (56, [255, 255]))
@@ -463,7 +480,7 @@ def record_codes():
                            (with_table(t, [PLAIN[t]]), 0))[byte % 4]
             value = (1, 128, 255)[(byte // 3) % 3] if byte not in (25, 26, 27) else 1
             refused(5, "%s %d, unused byte %d" % (NAMES[t], which, byte), base,
-                    (place(base, t, which) + byte, [value]))
+                    (place(base, t, which) + byte, [value]), at=(t, which))
     # The same where every flag is set: the bytes that stay unused.
     for t, one, fields in (
             (SEGMENTS, record(-512.0, 512.0, figure=4.0, flags=3, second=1), [25, 26]),
@@ -474,7 +491,7 @@ def record_codes():
         tidy("%s, flags set" % NAMES[t], base)
         for byte in fields:
             refused(5, "%s, flags set, unused byte %d" % (NAMES[t], byte), base,
-                    (place(base, t, 0) + byte, [1]))
+                    (place(base, t, 0) + byte, [1]), at=(t, 0))
     # Unused figures that would meet 6 if they were looked at as figures.
     for t, field in ((BANDS, 16), (SEGMENTS, 16), (CHANNELS, 8), (CHANNELS, 16), (PRIVILEGES, 16),
                      (AUTOMATIC, 16), (EXCLUDED, 0), (EXCLUDED, 8), (EXCLUDED, 16),
@@ -482,7 +499,7 @@ def record_codes():
         base = with_table(t, [PLAIN[t]])
         for what, bits in (("negative zero", NEG_ZERO), ("NaN", SIGNAL_NAN)):
             refused(5, "%s, unused figure at %d %s" % (NAMES[t], field, what), base,
-                    (place(base, t, 0) + field, f64(bits)))
+                    (place(base, t, 0) + field, f64(bits)), at=(t, 0))
 
     # Bands: the number is any byte.
     numbered = image(bands=[record(-1024.0, 1024.0, band=0)],
@@ -501,17 +518,24 @@ def record_codes():
     tidy("segment, second rule 0 without own limit", segment(flags=2))
     tidy("segment, own limit and second rule", segment(flags=3, figure=4.0, second=256))
     tidy("segment, own limit and second rule 0", segment(flags=3, figure=4.0))
-    refused(5, "segment, second rule's low byte, flag clear", segment(flags=1, figure=4.0, second=1))
-    refused(5, "segment, second rule's high byte, flag clear", segment(flags=1, figure=4.0, second=256))
-    refused(5, "segment, own limit under a clear flag", segment(flags=0, figure=4.0))
-    refused(5, "segment, own limit under the other flag", segment(flags=2, figure=4.0))
-    refused(5, "segment, own limit negative zero, flag clear", segment(flags=2, figure=NEG_ZERO))
-    refused(6, "segment, own limit negative zero, flag set", segment(flags=1, figure=NEG_ZERO))
-    refused(13, "segment, own limit zero, flag set", segment(flags=1, figure=0.0))
+    refused(5, "segment, second rule's low byte, flag clear", segment(flags=1, figure=4.0, second=1),
+            at=(SEGMENTS, 0))
+    refused(5, "segment, second rule's high byte, flag clear", segment(flags=1, figure=4.0, second=256),
+            at=(SEGMENTS, 0))
+    refused(5, "segment, own limit under a clear flag", segment(flags=0, figure=4.0),
+            at=(SEGMENTS, 0))
+    refused(5, "segment, own limit under the other flag", segment(flags=2, figure=4.0),
+            at=(SEGMENTS, 0))
+    refused(5, "segment, own limit negative zero, flag clear", segment(flags=2, figure=NEG_ZERO),
+            at=(SEGMENTS, 0))
+    refused(6, "segment, own limit negative zero, flag set", segment(flags=1, figure=NEG_ZERO),
+            at=(SEGMENTS, 0))
+    refused(13, "segment, own limit zero, flag set", segment(flags=1, figure=0.0), at=(SEGMENTS, 0))
     tidy("segment, own limit zero, flag clear", segment(flags=0, figure=0.0))
     for bit in range(2, 8):
-        refused(5, "segment, flag bit %d" % bit, segment(flags=1 << bit))
-    refused(5, "segment, flag bits 0, 1, 2", segment(flags=7, figure=4.0, second=1))
+        refused(5, "segment, flag bit %d" % bit, segment(flags=1 << bit), at=(SEGMENTS, 0))
+    refused(5, "segment, flag bits 0, 1, 2", segment(flags=7, figure=4.0, second=1),
+            at=(SEGMENTS, 0))
 
     # Privileges.
     def privilege(**fields):
@@ -519,24 +543,29 @@ def record_codes():
     for cls in range(5):
         tidy("privilege, class %d" % cls, privilege(cls=cls))
     for cls in (5, 6, 8, 16, 128, 255):
-        refused(5, "privilege, class %d" % cls, privilege(cls=cls))
+        refused(5, "privilege, class %d" % cls, privilege(cls=cls), at=(PRIVILEGES, 0))
     for bit in range(8):
         if bit < 4:
             tidy("privilege, emission bit %d" % bit, privilege(flags=1, emissions=1 << bit))
         else:
-            refused(5, "privilege, emission bit %d" % bit, privilege(flags=1, emissions=1 << bit))
+            refused(5, "privilege, emission bit %d" % bit, privilege(flags=1, emissions=1 << bit),
+                    at=(PRIVILEGES, 0))
         if bit > 1:
-            refused(5, "privilege, flag bit %d" % bit, privilege(flags=1 << bit))
-    refused(5, "privilege, emission bit 0, flags clear", privilege(emissions=1))
-    refused(5, "privilege, emission bit 3, the other flag set", privilege(flags=2, emissions=8))
+            refused(5, "privilege, flag bit %d" % bit, privilege(flags=1 << bit),
+                    at=(PRIVILEGES, 0))
+    refused(5, "privilege, emission bit 0, flags clear", privilege(emissions=1), at=(PRIVILEGES, 0))
+    refused(5, "privilege, emission bit 3, the other flag set", privilege(flags=2, emissions=8),
+            at=(PRIVILEGES, 0))
     tidy("privilege, empty emission list", privilege(flags=1))
     tidy("privilege, all emissions listed", privilege(flags=1, emissions=15))
-    refused(5, "privilege, emission bits 31", privilege(flags=1, emissions=31))
+    refused(5, "privilege, emission bits 31", privilege(flags=1, emissions=31), at=(PRIVILEGES, 0))
     tidy("privilege, rule", privilege(flags=2, rule=65535))
     tidy("privilege, rule 0", privilege(flags=2))
-    refused(5, "privilege, rule's low byte, flag clear", privilege(flags=1, rule=1))
-    refused(5, "privilege, rule's high byte, flag clear", privilege(flags=1, rule=256))
-    refused(5, "privilege, second rule", privilege(flags=3, rule=1, second=1))
+    refused(5, "privilege, rule's low byte, flag clear", privilege(flags=1, rule=1),
+            at=(PRIVILEGES, 0))
+    refused(5, "privilege, rule's high byte, flag clear", privilege(flags=1, rule=256),
+            at=(PRIVILEGES, 0))
+    refused(5, "privilege, second rule", privilege(flags=3, rule=1, second=1), at=(PRIVILEGES, 0))
 
     # Power.
     def power(**fields):
@@ -545,20 +574,20 @@ def record_codes():
         if bit < 5:
             tidy("power, class bit %d" % bit, power(flags=1, cls=1 << bit))
         else:
-            refused(5, "power, class bit %d" % bit, power(flags=1, cls=1 << bit))
+            refused(5, "power, class bit %d" % bit, power(flags=1, cls=1 << bit), at=(POWER, 0))
         if bit > 0:
-            refused(5, "power, flag bit %d" % bit, power(flags=1 << bit))
-    refused(5, "power, class bit 4, flag clear", power(cls=16))
+            refused(5, "power, flag bit %d" % bit, power(flags=1 << bit), at=(POWER, 0))
+    refused(5, "power, class bit 4, flag clear", power(cls=16), at=(POWER, 0))
     tidy("power, no class", power(flags=1))
     tidy("power, all classes", power(flags=1, cls=31))
-    refused(5, "power, class bits 63", power(flags=1, cls=63))
+    refused(5, "power, class bits 63", power(flags=1, cls=63), at=(POWER, 0))
     tidy("power, rule 65,535", power(rule=65535))
-    refused(5, "power, second rule", power(second=1))
+    refused(5, "power, second rule", power(second=1), at=(POWER, 0))
 
     # Plan.
     for t in (PLAN_DATA, PLAN_AVOID):
         tidy("%s, label 65,535" % NAMES[t], with_table(t, [record(0.0, 1.0, rule=65535)]))
-        refused(5, "%s, flag bit 1" % NAMES[t], with_table(t, [record(flags=2)]))
+        refused(5, "%s, flag bit 1" % NAMES[t], with_table(t, [record(flags=2)]), at=(t, 0))
 
 
 # ---------------------------------------------------------------------------------------------
@@ -573,7 +602,7 @@ def general_figures():
     for field, name in ((0, "data limit"), (8, "elsewhere limit"), (16, "width"), (24, "offset"),
                         (32, "tolerance")):
         for what, bits in BAD_FIGURES if field == 0 else BAD_FIGURES[:6]:
-            refused(6, "%s %s" % (name, what), base, (field, f64(bits)))
+            refused(6, "%s %s" % (name, what), base, (field, f64(bits)), at=GENERAL)
         for what, bits, number in good:
             if field == 0 and number:
                 refused(number, "%s %s" % (name, what), base, (0, f64(bits)))
@@ -604,12 +633,12 @@ def record_figures():
         for which in range(3):
             bits = ABOVE if (which + field // 8) % 2 == 0 else MINUS_ABOVE
             refused(6, "%s %d, figure at %d just too great" % (NAMES[t], which, field), base,
-                    (place(base, t, which) + field, f64(bits)))
+                    (place(base, t, which) + field, f64(bits)), at=(t, which))
         # Negative zero, an infinity and a NaN, the record going round.
         for what, bits in (BAD_FIGURES[2], BAD_FIGURES[3 + turn % 2], BAD_FIGURES[5 + turn % 4]):
             turn += 1
             refused(6, "%s %d, figure at %d %s" % (NAMES[t], turn % 3, field, what), base,
-                    (place(base, t, turn % 3) + field, f64(bits)))
+                    (place(base, t, turn % 3) + field, f64(bits)), at=(t, turn % 3))
         for (what, bits), number in zip((("2^40", TWO40), ("-2^40", MINUS_TWO40),
                                          ("smallest", SMALLEST), ("-smallest", MINUS_SMALLEST)),
                                         numbers):
@@ -619,7 +648,7 @@ def record_figures():
             name = "%s %d, figure at %d %s" % (NAMES[t], turn % 3, field, what)
             edit = (place(base, t, turn % 3) + field, f64(bits))
             if number:
-                refused(number, name, base, edit)
+                refused(number, name, base, edit, at=(t, turn % 3))
             else:
                 accepted(name, base, edit)
 
@@ -635,21 +664,24 @@ def ranges():
         for which in range(3):
             at = place(base, t, which)
             refused(number, "%s %d, low = high" % (NAMES[t], which), base,
-                    (at, f64(100.0) + f64(100.0)))
+                    (at, f64(100.0) + f64(100.0)), at=(t, which))
         at = place(base, t, 1)
-        refused(number, "%s, low > high" % NAMES[t], base, (at, f64(100.0) + f64(99.875)))
-        refused(number, "%s, low = high = 0" % NAMES[t], base, (at, bytes(16)))
+        refused(number, "%s, low > high" % NAMES[t], base, (at, f64(100.0) + f64(99.875)),
+                at=(t, 1))
+        refused(number, "%s, low = high = 0" % NAMES[t], base, (at, bytes(16)), at=(t, 1))
         refused(number, "%s, low one ulp above high" % NAMES[t], base,
-                (at, f64(ulp(100.0)) + f64(100.0)))
-        refused(number, "%s, -100 to -200" % NAMES[t], base, (at, f64(-100.0) + f64(-200.0)))
-        refused(number, "%s, 0 to -smallest" % NAMES[t], base, (at, f64(0) + f64(MINUS_SMALLEST)))
+                (at, f64(ulp(100.0)) + f64(100.0)), at=(t, 1))
+        refused(number, "%s, -100 to -200" % NAMES[t], base, (at, f64(-100.0) + f64(-200.0)),
+                at=(t, 1))
+        refused(number, "%s, 0 to -smallest" % NAMES[t], base, (at, f64(0) + f64(MINUS_SMALLEST)),
+                at=(t, 1))
         accepted("%s, high one ulp above low" % NAMES[t], base,
                  (at, f64(100.0) + f64(ulp(100.0))))
         accepted("%s, -200 to -100" % NAMES[t], base, (at, f64(-200.0) + f64(-100.0)))
         accepted("%s, 0 to smallest" % NAMES[t], base, (at, f64(0) + f64(SMALLEST)))
         accepted("%s, -smallest to 0" % NAMES[t], base, (at, f64(MINUS_SMALLEST) + f64(0)))
         refused(number, "%s alone, of zero bytes" % NAMES[t],
-                with_table(t, [bytes(24) + PLAIN[t][24:]]))
+                with_table(t, [bytes(24) + PLAIN[t][24:]]), at=(t, 0))
     for t in (POWER, PLAN_DATA, PLAN_AVOID):
         base = thrice(t)
         for which in (0, 2):
@@ -691,20 +723,20 @@ def bands_and_segments():
     tidy("segment touches the upper end", segment(150.0, 200.0))
     tidy("segment one ulp inside below", segment(ulp(100.0), 200.0))
     tidy("segment one ulp inside above", segment(100.0, ulp(200.0, -1)))
-    refused(12, "segment one ulp out below", segment(ulp(100.0, -1), 200.0))
-    refused(12, "segment one ulp out above", segment(100.0, ulp(200.0)))
-    refused(12, "segment an eighth out below", segment(99.875, 150.0))
-    refused(12, "segment an eighth out above", segment(150.0, 200.125))
-    refused(12, "segment around the band", segment(50.0, 300.0))
-    refused(12, "segment below the band", segment(0.0, 50.0))
-    refused(12, "segment touches the band from below", segment(50.0, 100.0))
-    refused(12, "segment touches the band from above", segment(200.0, 300.0))
-    refused(12, "segment above the band", segment(300.0, 400.0))
-    refused(12, "segment below zero", segment(-150.0, -120.0))
+    refused(12, "segment one ulp out below", segment(ulp(100.0, -1), 200.0), at=(SEGMENTS, 0))
+    refused(12, "segment one ulp out above", segment(100.0, ulp(200.0)), at=(SEGMENTS, 0))
+    refused(12, "segment an eighth out below", segment(99.875, 150.0), at=(SEGMENTS, 0))
+    refused(12, "segment an eighth out above", segment(150.0, 200.125), at=(SEGMENTS, 0))
+    refused(12, "segment around the band", segment(50.0, 300.0), at=(SEGMENTS, 0))
+    refused(12, "segment below the band", segment(0.0, 50.0), at=(SEGMENTS, 0))
+    refused(12, "segment touches the band from below", segment(50.0, 100.0), at=(SEGMENTS, 0))
+    refused(12, "segment touches the band from above", segment(200.0, 300.0), at=(SEGMENTS, 0))
+    refused(12, "segment above the band", segment(300.0, 400.0), at=(SEGMENTS, 0))
+    refused(12, "segment below zero", segment(-150.0, -120.0), at=(SEGMENTS, 0))
     refused(12, "segment over two touching bands",
-            segment(150.0, 250.0, (100.0, 200.0, 1), (200.0, 300.0, 1)))
+            segment(150.0, 250.0, (100.0, 200.0, 1), (200.0, 300.0, 1)), at=(SEGMENTS, 0))
     refused(12, "segment over two overlapping bands",
-            segment(110.0, 240.0, (100.0, 200.0, 1), (150.0, 250.0, 1)))
+            segment(110.0, 240.0, (100.0, 200.0, 1), (150.0, 250.0, 1)), at=(SEGMENTS, 0))
     tidy("segment in the second of two bands",
          segment(250.0, 300.0, (100.0, 200.0, 2), (200.0, 300.0, 1)))
     tidy("segment in the third of three bands",
@@ -716,9 +748,9 @@ def bands_and_segments():
     tidy("three segments, touching", three)
     for which in range(3):
         refused(12, "segment %d of three out" % which, three,
-                (place(three, SEGMENTS, which), f64(300.0) + f64(310.0)))
+                (place(three, SEGMENTS, which), f64(300.0) + f64(310.0)), at=(SEGMENTS, which))
         refused(12, "segment %d of three across the end" % which, three,
-                (place(three, SEGMENTS, which), f64(180.0) + f64(210.0)))
+                (place(three, SEGMENTS, which), f64(180.0) + f64(210.0)), at=(SEGMENTS, which))
 
 
 def limits():
@@ -728,8 +760,9 @@ def limits():
     tidy("three segments with own limits", three)
     for which in (0, 2):
         at = place(three, SEGMENTS, which) + 16
-        refused(13, "own limit 0 in segment %d" % which, three, (at, f64(0)))
-        refused(13, "own limit -smallest in segment %d" % which, three, (at, f64(MINUS_SMALLEST)))
+        refused(13, "own limit 0 in segment %d" % which, three, (at, f64(0)), at=(SEGMENTS, which))
+        refused(13, "own limit -smallest in segment %d" % which, three, (at, f64(MINUS_SMALLEST)),
+                at=(SEGMENTS, which))
         tidy("own limit smallest in segment %d" % which, three, (at, f64(SMALLEST)))
         tidy("own limit 0, flag clear, in segment %d" % which, three, (at, f64(0)), (at + 11, [0]))
         tidy("own limit 0, second rule's flag alone, in segment %d" % which, three, (at, f64(0)),
@@ -794,44 +827,160 @@ def faulty(*faults):
     return whole
 
 
+def faulty_place(*faults):
+    """Where the first of them stands in that image."""
+    return {5: (POWER, 1 if 6 in faults else 0), 6: (POWER, 0), 7: (BANDS, 1),
+            8: (SEGMENTS, 2 if 12 in faults else 1), 9: (AUTOMATIC, 0), 10: (PRIVILEGES, 0),
+            12: (SEGMENTS, 1), 13: (SEGMENTS, 0)}.get(faults[0], NOWHERE)
+
+
 def faults_together():
     tidy("the faulty image without a fault", faulty())
     for n in range(1, 15):
-        refused(n, "fault %d alone" % n, faulty(n))
+        refused(n, "fault %d alone" % n, faulty(n), at=faulty_place(n))
     for a in range(1, 15):
         for b in [b for b in range(a + 1, 15) if b <= a + 3 or b in (7, 14)]:
-            refused(a, "faults %d and %d" % (a, b), faulty(a, b))
+            refused(a, "faults %d and %d" % (a, b), faulty(a, b), at=faulty_place(a, b))
     for a in (2, 3, 4, 5, 6, 8, 9, 10, 11, 12):
-        refused(a, "faults %d to 14" % a, faulty(*range(a, 15)))
+        refused(a, "faults %d to 14" % a, faulty(*range(a, 15)), at=faulty_place(*range(a, 15)))
 
     # Some by hand, at both ends of the image.
     base = thrice(PLAN_AVOID)
     last = place(base, PLAN_AVOID, 2)
     refused(6, "6 in the last record, 7 in the first", base, (64, f64(1.0) + f64(1.0)),
-            (last + 8, f64(QUIET_NAN)))
+            (last + 8, f64(QUIET_NAN)), at=(PLAN_AVOID, 2))
     refused(5, "5 in the last byte of the last record, 6 in the data limit", base,
-            (last + 31, [1]), (0, f64(QUIET_NAN)))
+            (last + 31, [1]), (0, f64(QUIET_NAN)), at=(PLAN_AVOID, 2))
     refused(5, "5 in the last record, 6 in the first", base, (last + 16, f64(NEG_ZERO)),
-            (64, f64(INFINITY)))
+            (64, f64(INFINITY)), at=(PLAN_AVOID, 2))
     refused(4, "4 in the distance, 5 in byte 63", base, (len(base) - 10, [0]), (63, [1]))
     refused(3, "3 and a count of 257", base, (len(base) - 28, [1, 1]), (len(base) - 6, [0]))
     refused(2, "2 and 3", base, (len(base) - 1, [0]), (len(base) - 6, [0]))
-    refused(6, "6 in the last record, 14", base, (last, f64(MINUS_ABOVE)), (0, f64(0)))
-    refused(6, "6 by negative zero as a band's low, 7", base, (64, f64(NEG_ZERO) + f64(0)))
-    refused(6, "6 by a NaN high, which no comparison orders", base, (72, f64(QUIET_NAN)))
+    refused(6, "6 in the last record, 14", base, (last, f64(MINUS_ABOVE)), (0, f64(0)),
+            at=(PLAN_AVOID, 2))
+    refused(6, "6 by negative zero as a band's low, 7", base, (64, f64(NEG_ZERO) + f64(0)),
+            at=(BANDS, 0))
+    refused(6, "6 by a NaN high, which no comparison orders", base, (72, f64(QUIET_NAN)),
+            at=(BANDS, 0))
     refused(6, "6 by negative zero as own limit, 13",
-            with_table(SEGMENTS, [record(-512.0, 512.0, figure=NEG_ZERO, flags=1)]))
-    refused(6, "6 by negative zero as data limit, 14", MINIMAL, (0, f64(NEG_ZERO)))
+            with_table(SEGMENTS, [record(-512.0, 512.0, figure=NEG_ZERO, flags=1)]),
+            at=(SEGMENTS, 0))
+    refused(6, "6 by negative zero as data limit, 14", MINIMAL, (0, f64(NEG_ZERO)), at=GENERAL)
     refused(9, "9 in the last automatic segment, 10 in the first privilege",
             image(bands=[BAND], segments=[SEGMENT], privileges=[record(1.0, 1.0)],
-                  automatic=[PLAIN[AUTOMATIC], record(1.0, 1.0)]))
+                  automatic=[PLAIN[AUTOMATIC], record(1.0, 1.0)]), at=(AUTOMATIC, 1))
     refused(11, "11 by no bands: no band holds the segment either (12)", image(segments=[SEGMENT]))
     refused(12, "12 in the last segment, 13 in the first",
-            with_table(SEGMENTS, [record(-512.0, 512.0, flags=1), SEGMENT, record(1.0, 2048.0)]))
-    refused(8, "8 in a segment in no band", with_table(SEGMENTS, [SEGMENT, record(4096.0, 4096.0)]))
+            with_table(SEGMENTS, [record(-512.0, 512.0, flags=1), SEGMENT, record(1.0, 2048.0)]),
+            at=(SEGMENTS, 2))
+    refused(8, "8 in a segment in no band", with_table(SEGMENTS, [SEGMENT, record(4096.0, 4096.0)]),
+            at=(SEGMENTS, 1))
     refused(7, "7 in the only band, which leaves the segment in none (12)",
-            image(bands=[bytes(32)], segments=[SEGMENT]))
+            image(bands=[bytes(32)], segments=[SEGMENT]), at=(BANDS, 0))
     refused(1, "1 by an empty image, every other part missing", b"")
+
+
+# ---------------------------------------------------------------------------------------------
+# The first place of several
+
+def first_places():
+    def threes(*ts, flags=CHANNEL_PART | PLAN):
+        """Three records in each of these tables, one band and one segment otherwise."""
+        tables = {"bands": [BAND], "segments": [SEGMENT]}
+        tables.update((NAMES[t], [PLAIN[t]] * 3) for t in ts)
+        return image(general(flags=flags), **tables)
+
+    def unused(base, t, i):
+        return place(base, t, i) + (25 if t == SEGMENTS else 31), [1]
+
+    def huge(base, t, i):
+        return place(base, t, i), f64(ABOVE)
+
+    def short(base, t, i):
+        return place(base, t, i), f64(64.0) + f64(64.0)
+
+    # The lower table comes first, whatever the index; in a table the lower index.
+    for t in range(8):
+        two = threes(t, t + 1)
+        refused(5, "5 in %s 2 and in %s 0" % (NAMES[t], NAMES[t + 1]), two, unused(two, t, 2),
+                unused(two, t + 1, 0), at=(t, 2))
+        if EXCLUDED not in (t, t + 1):
+            refused(6, "6 in %s 2 and in %s 0" % (NAMES[t], NAMES[t + 1]), two, huge(two, t, 2),
+                    huge(two, t + 1, 0), at=(t, 2))
+    for t in range(9):
+        one = threes(t)
+        refused(5, "5 in %s 1 and 2" % NAMES[t], one, unused(one, t, 1), unused(one, t, 2), at=(t, 1))
+        if t != EXCLUDED:
+            refused(6, "6 in %s 1 and 2" % NAMES[t], one, huge(one, t, 1), huge(one, t, 2), at=(t, 1))
+            refused(5, "5 in %s 2, 6 in 0" % NAMES[t], one, unused(one, t, 2), huge(one, t, 0),
+                    at=(t, 2))
+
+    # The general block comes before every record.
+    base = threes(PLAN_AVOID)
+    for where, i in ((BANDS, 0), (PLAN_AVOID, 2)):
+        refused(5, "5 in byte 63 and in %s %d" % (NAMES[where], i), base, (63, [1]),
+                unused(base, where, i), at=GENERAL)
+        refused(6, "6 in the data limit and in %s %d" % (NAMES[where], i), base, (0, f64(ABOVE)),
+                huge(base, where, i), at=GENERAL)
+    refused(6, "6 in the tolerance and in the first band", base, (32, f64(NEG_ZERO)),
+            huge(base, BANDS, 0), at=GENERAL)
+    refused(5, "5 in the last record, 6 in the tolerance", base, unused(base, PLAN_AVOID, 2),
+            (32, f64(NEG_ZERO)), at=(PLAN_AVOID, 2))
+
+    # Tables of absent parts stand in the order of the tables, each with its first record.
+    both = threes(CHANNELS, PLAN_DATA, flags=0)
+    refused(5, "both parts absent", both, at=(CHANNELS, 0))
+    refused(5, "both parts absent, a field of the channels", both, (16, [1]), at=GENERAL)
+    refused(5, "both parts absent, flag bit 7", both, (42, [128]), at=GENERAL)
+    refused(5, "both parts absent, response without elsewhere", both, (42, [RESPONSE]), at=GENERAL)
+    refused(5, "both parts absent, 6 in the first channel", both, huge(both, CHANNELS, 0),
+            at=(CHANNELS, 0))
+    refused(5, "both parts absent, 6 in the data limit", both, (0, f64(ABOVE)), at=(CHANNELS, 0))
+    refused(5, "channels alone absent", both, (42, [PLAN]), at=(CHANNELS, 0))
+    refused(5, "plan alone absent", both, (42, [CHANNEL_PART]), at=(PLAN_DATA, 0))
+    refused(5, "plan alone absent, 5 in the last channel", both, (42, [CHANNEL_PART]),
+            unused(both, CHANNELS, 2), at=(CHANNELS, 2))
+    channels = threes(SEGMENTS, CHANNELS, PRIVILEGES, flags=PLAN)
+    refused(5, "channels absent, 5 in channel 2", channels, unused(channels, CHANNELS, 2),
+            at=(CHANNELS, 0))
+    refused(5, "channels absent, 5 in the last segment", channels, unused(channels, SEGMENTS, 2),
+            at=(SEGMENTS, 2))
+    refused(5, "channels absent, 5 in the first privilege", channels,
+            unused(channels, PRIVILEGES, 0), at=(CHANNELS, 0))
+    plan = threes(POWER, PLAN_DATA, PLAN_AVOID, flags=0)
+    refused(5, "plan absent, 5 in the last power record", plan, unused(plan, POWER, 2),
+            at=(POWER, 2))
+    refused(5, "plan absent, 5 in plan_data 1", plan, unused(plan, PLAN_DATA, 1), at=(PLAN_DATA, 0))
+    refused(5, "plan absent, 5 in plan_avoid 1", plan, unused(plan, PLAN_AVOID, 1), at=(PLAN_DATA, 0))
+    avoid = threes(PLAN_AVOID, flags=0)
+    refused(5, "plan absent, plan_avoid alone", avoid, at=(PLAN_AVOID, 0))
+    refused(5, "plan absent, plan_avoid alone, 5 in the segment", avoid, unused(avoid, SEGMENTS, 0),
+            at=(SEGMENTS, 0))
+
+    # 7 to 10, 12 and 13: the first of the number's own table.
+    for t, number in ((BANDS, 7), (SEGMENTS, 8), (AUTOMATIC, 9), (PRIVILEGES, 10)):
+        one = threes(t)
+        for i in (0, 1):
+            refused(number, "%d in %s %d and 2" % (number, NAMES[t], i), one, short(one, t, i),
+                    short(one, t, 2), at=(t, i))
+    two = threes(PRIVILEGES, AUTOMATIC)
+    refused(9, "9 in the last of three automatic segments, 10 in the first of three privileges", two,
+            short(two, AUTOMATIC, 2), short(two, PRIVILEGES, 0), at=(AUTOMATIC, 2))
+
+    inside = record(-8.0, 8.0, figure=4.0, flags=1)
+    out = record(2048.0, 4096.0)
+    bare = record(-8.0, 8.0, flags=1)
+    out_and_bare = record(2048.0, 4096.0, flags=1)
+
+    def segments(number, name, records, i):
+        refused(number, name, with_table(SEGMENTS, records), at=(SEGMENTS, i))
+    segments(12, "12 in segments 0 and 2", [out, SEGMENT, out], 0)
+    segments(12, "12 in segments 1 and 2", [SEGMENT, out, out], 1)
+    segments(12, "12 in segment 2, 13 in 0", [bare, SEGMENT, out], 2)
+    segments(12, "12 and 13 in segment 1, 13 in 0", [bare, out_and_bare, out], 1)
+    segments(13, "13 in segments 0 and 2", [bare, SEGMENT, bare], 0)
+    segments(13, "13 in segments 1 and 2", [SEGMENT, bare, bare], 1)
+    segments(13, "13 in segment 2, an own limit in 0", [inside, SEGMENT, bare], 2)
 
 
 # ---------------------------------------------------------------------------------------------
@@ -967,7 +1116,7 @@ def tidy_homes():
     untidy("own band and another hold it", home([(0.0, 200.0, 2), (0.0, 100.0, 1)], [(50.0, 60.0, 1)]))
     tidy("segment is its band", home([(0.0, 100.0, 1)], [(0.0, 100.0, 1)]))
     refused(12, "own band short by an ulp, no other holds it",
-            home([(0.0, 100.0, 1), (200.0, 300.0, 2)], [(0.0, ulp(100.0), 1)]))
+            home([(0.0, 100.0, 1), (200.0, 300.0, 2)], [(0.0, ulp(100.0), 1)]), at=(SEGMENTS, 0))
     tidy("own limits don't matter", image(bands=[record(0.0, 100.0, band=1)],
                                           segments=[record(0.0, 50.0, figure=1.0, band=1, flags=1),
                                                     record(50.0, 100.0, figure=2.0, band=1, flags=1)]))
@@ -1003,13 +1152,13 @@ def practice_table():
     refused(4, "the practice table, first byte missing", PRACTICE[1:])
     refused(2, "the practice table, last byte missing", PRACTICE[:-1])
     refused(2, "the practice table's first 92 bytes", PRACTICE[:92])
-    refused(5, "the practice table without elsewhere's bit", PRACTICE, (42, [14]))
+    refused(5, "the practice table without elsewhere's bit", PRACTICE, (42, [14]), at=GENERAL)
     tidy("the practice table with an empty plan", PRACTICE, (42, [31]))
     untidy("the practice table, second segment's number 20", PRACTICE, (160 + 24, [20]))
     refused(12, "the practice table, 60 m segment an eighth past the band", PRACTICE,
-            (160 + 8, f64(5407000.125)))
+            (160 + 8, f64(5407000.125)), at=(SEGMENTS, 1))
     refused(9, "the practice table, second automatic segment turned round", PRACTICE,
-            (320, f64(14112000.0) + f64(14100500.0)))
+            (320, f64(14112000.0) + f64(14100500.0)), at=(AUTOMATIC, 1))
 
 
 # ---------------------------------------------------------------------------------------------
@@ -1067,18 +1216,20 @@ def large():
     end = len(alike) - 28
     assert len(alike) == 65532
     untidy("2,045 records in nine tables", alike)
-    refused(6, "2,045 records, NaN in the last", alike, (end - 32 + 8, f64(QUIET_NAN)))
-    refused(5, "2,045 records, the last byte of the last", alike, (end - 1, [1]))
+    refused(6, "2,045 records, NaN in the last", alike, (end - 32 + 8, f64(QUIET_NAN)),
+            at=(PLAN_AVOID, 228))
+    refused(5, "2,045 records, the last byte of the last", alike, (end - 1, [1]),
+            at=(PLAN_AVOID, 228))
     refused(4, "2,045 records, the last not counted", alike, (end + 16, [228]))
     refused(4, "2,045 records, distance 65,536", alike, (end + 18, struct.pack("<I", 65536)))
     refused(7, "2,045 records, the last band of no width", alike,
-            (place(alike, BANDS, 226) + 8, f64(-1024.0)))
+            (place(alike, BANDS, 226) + 8, f64(-1024.0)), at=(BANDS, 226))
     refused(12, "2,045 records, the last segment one ulp past the bands", alike,
-            (place(alike, SEGMENTS, 226) + 8, f64(ulp(1024.0))))
+            (place(alike, SEGMENTS, 226) + 8, f64(ulp(1024.0))), at=(SEGMENTS, 226))
     refused(10, "2,045 records, the last privilege of no width", alike,
-            (place(alike, PRIVILEGES, 226), f64(256.0)))
+            (place(alike, PRIVILEGES, 226), f64(256.0)), at=(PRIVILEGES, 226))
     refused(9, "2,045 records, the last automatic segment of no width", alike,
-            (place(alike, AUTOMATIC, 226), f64(128.0)))
+            (place(alike, AUTOMATIC, 226), f64(128.0)), at=(AUTOMATIC, 226))
 
 
 # ---------------------------------------------------------------------------------------------
@@ -1327,12 +1478,12 @@ def write(crate, stdin, stdout):
 def main():
     for section in (lengths, letters, editions, counts, general_codes, record_codes,
                     general_figures, record_figures, ranges, bands_and_segments, limits,
-                    faults_together, tidy_ranges, tidy_classes, tidy_homes, tidy_leaves_alone,
+                    faults_together, first_places, tidy_ranges, tidy_classes, tidy_homes, tidy_leaves_alone,
                     practice_table, large, random_tables, random_damage):
         section()
     station_cases()
-    image_lines = ["%d check %d tidy %d" % (n, check, answer)
-                   for n, (_, _, check, answer) in enumerate(IMAGE_CASES)]
+    image_lines = ["%d check %d tidy %d fault %s" % (n, check, answer, at)
+                   for n, (_, _, check, answer, at) in enumerate(IMAGE_CASES)]
     station_lines = ["%d %s" % (n, line) for n, (_, _, line) in enumerate(STATION_CASES)]
     if "--list" in sys.argv[1:]:
         for line, case in zip(image_lines, IMAGE_CASES):

@@ -5,6 +5,7 @@ comment quotes the sentence of document 01 that it turns into Python. "READINGS"
 of READINGS.md, "DECISION" one of the team's decisions on an open point.
 
     check_image(image)    0 if the image is accepted, else the first refusal, 1 to 14
+    place_of(image)       where that refusal is met
     tidy_question(image)  (refusal, None) or (0, True) or (0, False)
     read_station(...)     the first of 20, 21, 22, or the station as it is read
 """
@@ -374,6 +375,66 @@ def check_image(image):
         if met(image):
             return number
     return 0
+
+
+# ---------------------------------------------------------------------------------------------
+# Where a refusal is met
+
+NOWHERE = "nowhere"
+GENERAL = "general"
+
+
+def first_place(tables, met):
+    """The first table and, in it, the first record that meets something; tables and records in
+    their order in the image."""
+    for table, records in enumerate(tables):
+        for index, record in enumerate(records):
+            if met(table, record):
+                return table, index
+    return NOWHERE
+
+
+def place_of(image):
+    """Where the check's refusal is met: GENERAL (the general block), (table, index), or NOWHERE.
+
+    The refusals that speak of bytes, figures or ranges of the block or of a record have a place:
+    5 to 10, 12, 13. 1 to 4 are the form's, 11 is a table without records, 14 is the one general
+    limit; they have none, nor has an accepted image. The block comes before the records. "A table
+    of an absent part not empty" is met by each of its records."""
+    number = check_image(image)
+    if number not in (5, 6, 7, 8, 9, 10, 12, 13):
+        return NOWHERE
+    general = general_block(image)
+    tables = table_records(image)
+    if number == 5:
+        if not (general_codes_right(general)
+                and unused_are_zero(general, used_general_bytes(general))):
+            return GENERAL
+        absent = []
+        if not has_bit(general[42], 2):
+            absent += [CHANNELS]
+        if not has_bit(general[42], 4):
+            absent += [PLAN_DATA, PLAN_AVOID]
+        return first_place(tables, lambda table, record: table in absent
+                           or not record_codes_right(table, record)
+                           or not unused_are_zero(record, used_record_bytes(table, record)))
+    if number == 6:
+        def wrong(data, offsets):
+            return any(bits_at(data, at) == NEGATIVE_ZERO or not in_size(bits_at(data, at))
+                       for at in offsets)
+        if wrong(general, (0, 8, 16, 24, 32)):
+            return GENERAL
+        return first_place(tables, lambda table, record: wrong(record, (0, 8, 16)))
+    ranges = {7: BANDS, 8: SEGMENTS, 9: AUTOMATIC, 10: PRIVILEGES}
+    if number in ranges:
+        return first_place(tables, lambda table, record: table == ranges[number]
+                           and no_width([record]))
+    if number == 12:
+        return first_place(tables, lambda table, record: table == SEGMENTS
+                           and not any(holds(band, low(record), high(record))
+                                       for band in tables[BANDS]))
+    return first_place(tables, lambda table, record: table == SEGMENTS
+                       and has_bit(flags(record), 0) and figure(record) <= 0.0)
 
 
 # ---------------------------------------------------------------------------------------------

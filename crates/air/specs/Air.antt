@@ -1,7 +1,7 @@
 -- From audio to the air and back: the range that a signal covers at a dial, with its margin, and the dials that put it in a range.
 -- The margin enters here alone.
 use mathlib.Core.Bool.{Bool, true, false, cond}
-use lib.Ieee.{Float, binary64, add, sub, le}
+use lib.Ieee.{Float, binary64, add, sub, lt, le}
 use Rattle.codes.specs.declared.Sideband.{Sideband}
 use Rattle.codes.specs.declared.Sideband.the-variants.{Usb, Lsb}
 use Rattle.profile.specs.Range.{range}
@@ -26,6 +26,10 @@ unguardedOf margin r = range (add binary64 (r .«low_hz») margin) (sub binary64
 abbrev pub widthOf : Range → Float
 widthOf audio = sub binary64 (audio .«high_hz») (audio .«low_hz»)
 
+-- the width is above the limit; a width equal to the limit is not
+abbrev pub wider : Float → Float → Bool
+wider width limit = lt limit width
+
 -- the lowest and the highest dial that put the guarded signal inside a piece: each end less the audio, then the margin
 abbrev pub dialEndsOf : Range → Sideband → Range → Float → Range
 dialEndsOf piece Usb audio margin =
@@ -35,7 +39,7 @@ dialEndsOf piece Lsb audio margin =
     range (add binary64 (add binary64 (piece .«low_hz») (audio .«high_hz»)) margin)
     (sub binary64 (add binary64 (piece .«high_hz») (audio .«low_hz»)) margin)
 
--- "`dial_range` [needs] low ≤ high"
+-- "`dial_range` low ≤ high"
 abbrev pub dialsBetween : Range → DialRange
 dialsBetween ends = cond (le (ends .«low_hz») (ends .«high_hz»)) (Dials ends) NoDial
 

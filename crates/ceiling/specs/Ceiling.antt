@@ -135,7 +135,7 @@ ceilingOf r direction ordinary floor l rungs floors =
     (climbed (judgeBy l (situationOf r) (directionOf direction)) (burstOf (edgesRead ordinary) (edgesRead floor) rungs floors)
     (length rungs / 4))
 
--- "rung or none": the rung's number, and -1 where there is none, which is below every rung
+-- a rung or none: the rung's number, and -1 where there is none, which is below every rung
 abbrev pub rungNumber : Rung → ℤ
 rungNumber (Fastest k) = pos k
 rungNumber NoRung = negsuc 0

@@ -1,12 +1,15 @@
--- Demand 3 is not vacuous: inputs that meet every premise and get nought, a distance, and "none listed"; and for tidy, eighths, the positive
--- width and "off the channel band" an input that meets every other premise and breaks the statement. All of it is computed from bytes.
+-- Demand 3 is not vacuous: inputs that meet every premise and get nought, a distance, and "none listed", with an automatic station, the lower
+-- sideband and a table with channels among them; and for tidy, eighths, the positive width and a dial off the channel band an input that
+-- meets every other premise and breaks the statement. All of it is computed from bytes.
 use Prim.Native.Nat.{ℕ}
 use mathlib.Core.Bool.{Bool, true, false, not, false≢true}
 use mathlib.Core.List.{List, [], _∷_, _++_}
 use mathlib.Core.Path.{_≡_, refl, ap}
 use borrow.Author.Tests.{not-true}
+use lib.IntN.{pos}
 use lib.ListN.{replicate, getD}
-use lib.Ieee.{Float, binary64, ofBits, toBits, lt, le, eq, ne, neg, add, sub, mul, div}
+use lib.Ieee.{Float, binary64, ofBits, toBits, ofInt, lt, le, eq, ne, neg, add, sub, mul, div}
+use Rattle.figures.specs.Figure.{zeroHz}
 use Rattle.scan.specs.First.{firstFrom}
 use Rattle.codes.specs.Refusal.{refusalOf}
 use Rattle.codes.specs.declared.Checked.{Checked}
@@ -42,78 +45,107 @@ use Rattle.demand_3.specs.Theorem.{demand-3}
 
 -- ---- small tables, put together field by field
 
+-- a figure in whole hertz, and its bits
+abbrev hz : ℕ → Float
+hz n = ofInt binary64 (pos n)
+
+abbrev bits : ℕ → ℕ
+bits n = toBits binary64 (hz n)
+
 -- a general block: the data limit, the channels' width, offset and tolerance, the flags and the channel band; the rest is zero
 abbrev block : ℕ → ℕ → ℕ → ℕ → ℕ → ℕ → List ℕ
 block limit width offset tolerance flags channel =
-    little 8 limit ++ (replicate 8 0 ++ (little 8 width ++ (little 8 offset ++ (little 8 tolerance ++ (0 ∷ 0 ∷ flags ∷ channel ∷ replicate 20 0)))))
+    little 8 (bits limit) ++ (replicate 8 0 ++ (little 8 (bits width) ++ (little 8 (bits offset) ++ (little 8 (bits tolerance)
+    ++ (0 ∷ 0 ∷ flags ∷ channel ∷ replicate 20 0)))))
 
 -- a record: low, high, band, class, flags; no figure, emissions or rules
 abbrev entry : ℕ → ℕ → ℕ → ℕ → ℕ → List ℕ
-entry low high band class flags = little 8 low ++ (little 8 high ++ (replicate 8 0 ++ (band ∷ class ∷ 0 ∷ flags ∷ replicate 4 0)))
+entry low high band class flags =
+    little 8 (bits low) ++ (little 8 (bits high) ++ (replicate 8 0 ++ (band ∷ class ∷ 0 ∷ flags ∷ replicate 4 0)))
 
--- a trailer: one band, one segment, so many channels and privileges, and the distance back
-abbrev trailer : ℕ → ℕ → ℕ → List ℕ
-trailer channels privileges back =
-    1 ∷ 0 ∷ 1 ∷ 0 ∷ channels ∷ 0 ∷ privileges ∷ 0 ∷ replicate 10 0 ++ (back ∷ 0 ∷ 0 ∷ 0 ∷ 1 ∷ 0 ∷ 69 ∷ 68 ∷ 71 ∷ 69 ∷ [])
+-- a trailer: so many bands, one segment, so many channels, privileges and automatic segments, and the distance back
+abbrev trailer : ℕ → ℕ → ℕ → ℕ → ℕ → List ℕ
+trailer bands channels privileges automatic back =
+    bands ∷ 0 ∷ 1 ∷ 0 ∷ channels ∷ 0 ∷ privileges ∷ 0 ∷ automatic ∷ 0 ∷ replicate 8 0
+    ++ (back ∷ 0 ∷ 0 ∷ 0 ∷ 1 ∷ 0 ∷ 69 ∷ 68 ∷ 71 ∷ 69 ∷ [])
 
 -- band 1 is 0–100, its segment 20–80
 abbrev band : List ℕ
-band = entry 0 0x4059000000000000 1 0 0
+band = entry 0 100 1 0 0
 
 abbrev segment : List ℕ
-segment = entry 0x4034000000000000 0x4054000000000000 1 0 0
+segment = entry 20 80 1 0 0
 
--- an Extra's privilege, 0–100; the same that forbids every emission; and one of 0–20
+-- an Extra's privilege, 0–100; the same that forbids every emission; one of 0–20; and one of 0–300
 abbrev privilege : List ℕ
-privilege = entry 0 0x4059000000000000 0 4 0
+privilege = entry 0 100 0 4 0
 
 abbrev forbidding : List ℕ
-forbidding = entry 0 0x4059000000000000 0 4 1
+forbidding = entry 0 100 0 4 1
 
 abbrev lowest : List ℕ
-lowest = entry 0 0x4034000000000000 0 4 0
+lowest = entry 0 20 0 4 0
+
+abbrev everywhere : List ℕ
+everywhere = entry 0 300 0 4 0
 
 -- general limit 10
 abbrev plain : List ℕ
-plain = block 0x4024000000000000 0 0 0 0 0 ++ (band ++ (segment ++ (privilege ++ trailer 0 1 160)))
+plain = block 10 0 0 0 0 0 ++ (band ++ (segment ++ (privilege ++ trailer 1 0 1 0 160)))
+
+-- an automatic segment, 40–60
+abbrev automatic : List ℕ
+automatic = block 10 0 0 0 0 0 ++ (band ++ (segment ++ (privilege ++ (entry 40 60 0 0 0 ++ trailer 1 0 1 1 192))))
 
 -- a first privilege that forbids data, a second that does not: untidy
 abbrev untidy : List ℕ
-untidy = block 0x4024000000000000 0 0 0 0 0 ++ (band ++ (segment ++ (forbidding ++ (privilege ++ trailer 0 2 192))))
+untidy = block 10 0 0 0 0 0 ++ (band ++ (segment ++ (forbidding ++ (privilege ++ trailer 1 0 2 0 192))))
 
 -- general limit 1,000
 abbrev broad : List ℕ
-broad = block 0x408f400000000000 0 0 0 0 0 ++ (band ++ (segment ++ (privilege ++ trailer 0 1 160)))
+broad = block 1000 0 0 0 0 0 ++ (band ++ (segment ++ (privilege ++ trailer 1 0 1 0 160)))
 
 -- the privilege ends where the segment begins
 abbrev meeting : List ℕ
-meeting = block 0x4024000000000000 0 0 0 0 0 ++ (band ++ (segment ++ (lowest ++ trailer 0 1 160)))
+meeting = block 10 0 0 0 0 0 ++ (band ++ (segment ++ (lowest ++ trailer 1 0 1 0 160)))
 
 -- band 1 is the channel band: a channel at 90, width 10, offset 2, tolerance 1
 abbrev channelled : List ℕ
-channelled =
-    block 0x4024000000000000 0x4024000000000000 0x4000000000000000 0x3ff0000000000000 4 1
-    ++ (band ++ (segment ++ (entry 0x4056800000000000 0 0 0 0 ++ (privilege ++ trailer 1 1 192))))
+channelled = block 10 10 2 1 4 1 ++ (band ++ (segment ++ (entry 90 0 0 0 0 ++ (privilege ++ trailer 1 1 1 0 192))))
 
--- Rules, local, Extra, upper sideband, no dial; by its margin
-abbrev station : Float → StationRecord
-station margin =
+-- the channel band is another, band 2, 200–300: a channel at 290
+abbrev beside : List ℕ
+beside =
+    block 10 10 2 1 4 2
+    ++ (band ++ (entry 200 300 2 0 0 ++ (segment ++ (entry 290 0 0 0 0 ++ (everywhere ++ trailer 2 1 1 0 224)))))
+
+-- Rules, Extra, no dial; by control (0 local, 2 automatic), sideband (0 upper, 1 lower) and margin
+abbrev station : ℕ → ℕ → Float → StationRecord
+station control sideband margin =
     record {
       policy = 2;
-      control = 0;
+      control = control;
       license = 4;
-      sideband = 0;
+      sideband = sideband;
       «itu_region» = 0;
       «band_plan» = 0;
       «dial_known» = 0;
       «power_known» = 0;
       «margin_hz» = margin;
-      «dial_hz» = ofBits binary64 0;
-      «power_w» = ofBits binary64 0;
+      «dial_hz» = zeroHz;
+      «power_w» = zeroHz;
     }
+
+-- local, on the upper sideband, with no margin
+abbrev usual : StationRecord
+usual = station 0 0 zeroHz
 
 abbrev edges : Float → Float → Edges
 edges low high = record { power = range low high; spectral = range low high }
+
+-- a signal of 0–5
+abbrev narrow : Edges
+narrow = edges zeroHz (hz 5)
 
 -- room for two rows
 abbrev lent : List ℕ
@@ -167,7 +199,9 @@ accepted-yes Accepted e = refl
 accepted-yes (Refused n) e = absurd (false≢true e)
 
 -- So the statement holds of such an input.
-holds : (r : StationRecord) (e : Edges) (l : List ℕ) (dial : Float) (count : ℕ) (distance : Distance) (allowed : Bool) → Outcome r e l dial count all distance allowed → Demand3 r 0 e l count (left r e l) dial
+holds :
+    (r : StationRecord) (e : Edges) (l : List ℕ) (dial : Float) (count : ℕ) (distance : Distance) (allowed : Bool)
+    → Outcome r e l dial count all distance allowed → Demand3 r 0 e l count (left r e l) dial
 holds r e l dial count distance allowed o =
     demand-3 r 0 e l lent (left r e l) (answer r e l) count dial (call r e l)
     (record {
@@ -181,39 +215,90 @@ holds r e l dial count distance allowed o =
       off-channels = not-true (onChannelBand r e l dial) (ap (at 6) (o .premises-are));
     })
 
--- ---- the inputs
+-- ---- computed
 
--- every premise is met, and the dial 30 is in the row 20–75
-nought : Outcome (station (ofBits binary64 0)) (edges (ofBits binary64 0) (ofBits binary64 0x4014000000000000)) plain (ofBits binary64 0x403e000000000000) 1 all (Hertz (ofBits binary64 0)) true
-unfolding situationRows listRows requestOf pieceRows automaticRows cutRows privilegeRows privilegesRows segmentRows dataRows channelFound channelRow channelRows openRows rowsOf insertRow insertAll little figuresOf encodeRow encodeAll each toBits evaluateOf decideOf unruledOf underRulesOf ruledOf caseOf signalOf airOf judge touching judgeInBand judgeOnBand sixty sixtyKind sixtyEmission sixtyPlace sixtySegment sixtyChannel allowedOnSixty judgeData insideSegment outsideSegments overshootOf nearestUpTo considered automaticData automaticElsewhere advised adviceWarns adviceOf guidanceOf planSays wantsPlan notesUpTo anyNote noted privilegedOf draftAutomatic draftInside draftOf refusedOf simpleOf finishOf noAdvice edgesRead edgesValid situationOf codesValid figuresValid checkOf codedBlock miscoded soundBlock unsound bare unlimited asks soundBits soundRecord codedOf codedGeneral recordsBefore recordAt generalOf u16At u32At u64At firstFrom lt le eq ne neg add sub mul div ofBits tidyTable twoShare inEighths recordInEighths blockInEighths imageInEighths edgesInEighths stationInEighths hertzInEighths tuned inForce prerequisitesMet guardedWidth positiveWidth channelBandHolds onChannelBand isOutside consideredAt leastUpTo distanceOf
+-- the definitions that computing from the bytes opens: to unfold `opened` is to unfold them all
+opened : Unit {0}
+unfolding
+    situationRows listRows requestOf pieceRows automaticRows cutRows privilegeRows privilegesRows segmentRows dataRows channelFound channelRow
+    channelRows openRows rowsOf insertRow insertAll little figuresOf encodeRow encodeAll each toBits evaluateOf decideOf unruledOf underRulesOf
+    ruledOf caseOf signalOf airOf judge touching judgeInBand judgeOnBand sixty sixtyKind sixtyEmission sixtyPlace sixtySegment sixtyChannel
+    allowedOnSixty judgeData insideSegment outsideSegments overshootOf nearestUpTo considered automaticData automaticElsewhere advised
+    adviceWarns adviceOf guidanceOf planSays wantsPlan notesUpTo anyNote noted privilegedOf draftAutomatic draftInside draftOf refusedOf
+    simpleOf finishOf noAdvice edgesRead edgesValid situationOf codesValid figuresValid checkOf codedBlock miscoded soundBlock unsound bare
+    unlimited asks soundBits soundRecord codedOf codedGeneral recordsBefore recordAt generalOf u16At u32At u64At firstFrom lt le eq ne neg add
+    sub mul div ofInt ofBits tidyTable twoShare inEighths recordInEighths blockInEighths imageInEighths edgesInEighths stationInEighths
+    hertzInEighths tuned inForce prerequisitesMet guardedWidth positiveWidth channelBandHolds onChannelBand isOutside consideredAt leastUpTo
+    distanceOf
+opened = tt
+
+-- ---- inputs that meet every premise
+
+-- the dial 30 is in the row 20–75
+nought : Outcome usual narrow plain (hz 30) 1 all (Hertz zeroHz) true
+unfolding opened
 nought = record { premises-are = refl; fitted = refl; distance-is = refl; verdict-is = refl }
 
--- every premise is met, and the dial 10 is 10 below it
-away : Outcome (station (ofBits binary64 0)) (edges (ofBits binary64 0) (ofBits binary64 0x4014000000000000)) plain (ofBits binary64 0x4024000000000000) 1 all (Hertz (ofBits binary64 0x4024000000000000)) false
-unfolding situationRows listRows requestOf pieceRows automaticRows cutRows privilegeRows privilegesRows segmentRows dataRows channelFound channelRow channelRows openRows rowsOf insertRow insertAll little figuresOf encodeRow encodeAll each toBits evaluateOf decideOf unruledOf underRulesOf ruledOf caseOf signalOf airOf judge touching judgeInBand judgeOnBand sixty sixtyKind sixtyEmission sixtyPlace sixtySegment sixtyChannel allowedOnSixty judgeData insideSegment outsideSegments overshootOf nearestUpTo considered automaticData automaticElsewhere advised adviceWarns adviceOf guidanceOf planSays wantsPlan notesUpTo anyNote noted privilegedOf draftAutomatic draftInside draftOf refusedOf simpleOf finishOf noAdvice edgesRead edgesValid situationOf codesValid figuresValid checkOf codedBlock miscoded soundBlock unsound bare unlimited asks soundBits soundRecord codedOf codedGeneral recordsBefore recordAt generalOf u16At u32At u64At firstFrom lt le eq ne neg add sub mul div ofBits tidyTable twoShare inEighths recordInEighths blockInEighths imageInEighths edgesInEighths stationInEighths hertzInEighths tuned inForce prerequisitesMet guardedWidth positiveWidth channelBandHolds onChannelBand isOutside consideredAt leastUpTo distanceOf
+-- the dial 10 is 10 below it
+away : Outcome usual narrow plain (hz 10) 1 all (Hertz (hz 10)) false
+unfolding opened
 away = record { premises-are = refl; fitted = refl; distance-is = refl; verdict-is = refl }
 
--- every premise is met, and a signal wider than the limit has no row
-none : Outcome (station (ofBits binary64 0)) (edges (ofBits binary64 0) (ofBits binary64 0x4034000000000000)) plain (ofBits binary64 0x403e000000000000) 0 all NoneListed false
-unfolding situationRows listRows requestOf pieceRows automaticRows cutRows privilegeRows privilegesRows segmentRows dataRows channelFound channelRow channelRows openRows rowsOf insertRow insertAll little figuresOf encodeRow encodeAll each toBits evaluateOf decideOf unruledOf underRulesOf ruledOf caseOf signalOf airOf judge touching judgeInBand judgeOnBand sixty sixtyKind sixtyEmission sixtyPlace sixtySegment sixtyChannel allowedOnSixty judgeData insideSegment outsideSegments overshootOf nearestUpTo considered automaticData automaticElsewhere advised adviceWarns adviceOf guidanceOf planSays wantsPlan notesUpTo anyNote noted privilegedOf draftAutomatic draftInside draftOf refusedOf simpleOf finishOf noAdvice edgesRead edgesValid situationOf codesValid figuresValid checkOf codedBlock miscoded soundBlock unsound bare unlimited asks soundBits soundRecord codedOf codedGeneral recordsBefore recordAt generalOf u16At u32At u64At firstFrom lt le eq ne neg add sub mul div ofBits tidyTable twoShare inEighths recordInEighths blockInEighths imageInEighths edgesInEighths stationInEighths hertzInEighths tuned inForce prerequisitesMet guardedWidth positiveWidth channelBandHolds onChannelBand isOutside consideredAt leastUpTo distanceOf
+-- a signal wider than the limit has no row
+none : Outcome usual (edges zeroHz (hz 20)) plain (hz 30) 0 all NoneListed false
+unfolding opened
 none = record { premises-are = refl; fitted = refl; distance-is = refl; verdict-is = refl }
 
+-- an automatic station, its row cut to the automatic segment, 40–55: the dial 50 is in it
+automatic-nought : Outcome (station 2 0 zeroHz) narrow automatic (hz 50) 1 all (Hertz zeroHz) true
+unfolding opened
+automatic-nought = record { premises-are = refl; fitted = refl; distance-is = refl; verdict-is = refl }
+
+-- the dial 30, where a local station may send, is 10 below it
+automatic-away : Outcome (station 2 0 zeroHz) narrow automatic (hz 30) 1 all (Hertz (hz 10)) false
+unfolding opened
+automatic-away = record { premises-are = refl; fitted = refl; distance-is = refl; verdict-is = refl }
+
+-- the lower sideband, with the row 25–80: the dial 78 is in it
+lower-nought : Outcome (station 0 1 zeroHz) narrow plain (hz 78) 1 all (Hertz zeroHz) true
+unfolding opened
+lower-nought = record { premises-are = refl; fitted = refl; distance-is = refl; verdict-is = refl }
+
+-- the dial 22, where the upper sideband may send, is 3 below it
+lower-away : Outcome (station 0 1 zeroHz) narrow plain (hz 22) 1 all (Hertz (hz 3)) false
+unfolding opened
+lower-away = record { premises-are = refl; fitted = refl; distance-is = refl; verdict-is = refl }
+
+-- a table with a channel on another band, with the rows 20–75 and 288–288: off that band the dial 30 is in the first
+beside-nought : Outcome usual narrow beside (hz 30) 2 all (Hertz zeroHz) true
+unfolding opened
+beside-nought = record { premises-are = refl; fitted = refl; distance-is = refl; verdict-is = refl }
+
+-- the dial 198 is 123 above it; the channel's row, 90 away, does not count
+beside-away : Outcome usual narrow beside (hz 198) 2 all (Hertz (hz 123)) false
+unfolding opened
+beside-away = record { premises-are = refl; fitted = refl; distance-is = refl; verdict-is = refl }
+
+-- ---- inputs that meet every premise but one
+
 -- without tidy: the list goes by any privilege that allows data, the verdict by the first that holds
-without-tidy : Outcome (station (ofBits binary64 0)) (edges (ofBits binary64 0) (ofBits binary64 0x4014000000000000)) untidy (ofBits binary64 0x403e000000000000) 1 (false ∷ true ∷ true ∷ true ∷ true ∷ true ∷ true ∷ []) (Hertz (ofBits binary64 0)) false
-unfolding situationRows listRows requestOf pieceRows automaticRows cutRows privilegeRows privilegesRows segmentRows dataRows channelFound channelRow channelRows openRows rowsOf insertRow insertAll little figuresOf encodeRow encodeAll each toBits evaluateOf decideOf unruledOf underRulesOf ruledOf caseOf signalOf airOf judge touching judgeInBand judgeOnBand sixty sixtyKind sixtyEmission sixtyPlace sixtySegment sixtyChannel allowedOnSixty judgeData insideSegment outsideSegments overshootOf nearestUpTo considered automaticData automaticElsewhere advised adviceWarns adviceOf guidanceOf planSays wantsPlan notesUpTo anyNote noted privilegedOf draftAutomatic draftInside draftOf refusedOf simpleOf finishOf noAdvice edgesRead edgesValid situationOf codesValid figuresValid checkOf codedBlock miscoded soundBlock unsound bare unlimited asks soundBits soundRecord codedOf codedGeneral recordsBefore recordAt generalOf u16At u32At u64At firstFrom lt le eq ne neg add sub mul div ofBits tidyTable twoShare inEighths recordInEighths blockInEighths imageInEighths edgesInEighths stationInEighths hertzInEighths tuned inForce prerequisitesMet guardedWidth positiveWidth channelBandHolds onChannelBand isOutside consideredAt leastUpTo distanceOf
+without-tidy : Outcome usual narrow untidy (hz 30) 1 (false ∷ true ∷ true ∷ true ∷ true ∷ true ∷ true ∷ []) (Hertz zeroHz) false
+unfolding opened
 without-tidy = record { premises-are = refl; fitted = refl; distance-is = refl; verdict-is = refl }
 
--- without eighths: edges 0.3–0.7, margin 12.200000000000001, dial 31.9 is listed and blocked
-without-eighths : Outcome (station (ofBits binary64 0x4028666666666667)) (edges (ofBits binary64 0x3fd3333333333333) (ofBits binary64 0x3fe6666666666666)) broad (ofBits binary64 0x403fe66666666666) 1 (true ∷ true ∷ false ∷ true ∷ true ∷ true ∷ true ∷ []) (Hertz (ofBits binary64 0)) false
-unfolding situationRows listRows requestOf pieceRows automaticRows cutRows privilegeRows privilegesRows segmentRows dataRows channelFound channelRow channelRows openRows rowsOf insertRow insertAll little figuresOf encodeRow encodeAll each toBits evaluateOf decideOf unruledOf underRulesOf ruledOf caseOf signalOf airOf judge touching judgeInBand judgeOnBand sixty sixtyKind sixtyEmission sixtyPlace sixtySegment sixtyChannel allowedOnSixty judgeData insideSegment outsideSegments overshootOf nearestUpTo considered automaticData automaticElsewhere advised adviceWarns adviceOf guidanceOf planSays wantsPlan notesUpTo anyNote noted privilegedOf draftAutomatic draftInside draftOf refusedOf simpleOf finishOf noAdvice edgesRead edgesValid situationOf codesValid figuresValid checkOf codedBlock miscoded soundBlock unsound bare unlimited asks soundBits soundRecord codedOf codedGeneral recordsBefore recordAt generalOf u16At u32At u64At firstFrom lt le eq ne neg add sub mul div ofBits tidyTable twoShare inEighths recordInEighths blockInEighths imageInEighths edgesInEighths stationInEighths hertzInEighths tuned inForce prerequisitesMet guardedWidth positiveWidth channelBandHolds onChannelBand isOutside consideredAt leastUpTo distanceOf
+-- without eighths: margin 12.200000000000001, edges 0.3–0.7, dial 31.9 is listed and blocked
+without-eighths :
+    Outcome (station 0 0 (ofBits binary64 0x4028666666666667)) (edges (ofBits binary64 0x3fd3333333333333) (ofBits binary64 0x3fe6666666666666)) broad
+    (ofBits binary64 0x403fe66666666666) 1 (true ∷ true ∷ false ∷ true ∷ true ∷ true ∷ true ∷ []) (Hertz zeroHz) false
+unfolding opened
 without-eighths = record { premises-are = refl; fitted = refl; distance-is = refl; verdict-is = refl }
 
 -- without the positive width: privilege and segment share one figure, where no stretch is listed and data is allowed
-without-width : Outcome (station (ofBits binary64 0)) (edges (ofBits binary64 0) (ofBits binary64 0)) meeting (ofBits binary64 0x4034000000000000) 0 (true ∷ true ∷ true ∷ true ∷ false ∷ true ∷ true ∷ []) NoneListed true
-unfolding situationRows listRows requestOf pieceRows automaticRows cutRows privilegeRows privilegesRows segmentRows dataRows channelFound channelRow channelRows openRows rowsOf insertRow insertAll little figuresOf encodeRow encodeAll each toBits evaluateOf decideOf unruledOf underRulesOf ruledOf caseOf signalOf airOf judge touching judgeInBand judgeOnBand sixty sixtyKind sixtyEmission sixtyPlace sixtySegment sixtyChannel allowedOnSixty judgeData insideSegment outsideSegments overshootOf nearestUpTo considered automaticData automaticElsewhere advised adviceWarns adviceOf guidanceOf planSays wantsPlan notesUpTo anyNote noted privilegedOf draftAutomatic draftInside draftOf refusedOf simpleOf finishOf noAdvice edgesRead edgesValid situationOf codesValid figuresValid checkOf codedBlock miscoded soundBlock unsound bare unlimited asks soundBits soundRecord codedOf codedGeneral recordsBefore recordAt generalOf u16At u32At u64At firstFrom lt le eq ne neg add sub mul div ofBits tidyTable twoShare inEighths recordInEighths blockInEighths imageInEighths edgesInEighths stationInEighths hertzInEighths tuned inForce prerequisitesMet guardedWidth positiveWidth channelBandHolds onChannelBand isOutside consideredAt leastUpTo distanceOf
+without-width : Outcome usual (edges zeroHz zeroHz) meeting (hz 20) 0 (true ∷ true ∷ true ∷ true ∷ false ∷ true ∷ true ∷ []) NoneListed true
+unfolding opened
 without-width = record { premises-are = refl; fitted = refl; distance-is = refl; verdict-is = refl }
 
--- without "off the channel band": a channel allows data, and its rows do not count
-without-channels : Outcome (station (ofBits binary64 0)) (edges (ofBits binary64 0) (ofBits binary64 0x4014000000000000)) channelled (ofBits binary64 0x4056000000000000) 2 (true ∷ true ∷ true ∷ true ∷ true ∷ true ∷ false ∷ []) NoneListed true
-unfolding situationRows listRows requestOf pieceRows automaticRows cutRows privilegeRows privilegesRows segmentRows dataRows channelFound channelRow channelRows openRows rowsOf insertRow insertAll little figuresOf encodeRow encodeAll each toBits evaluateOf decideOf unruledOf underRulesOf ruledOf caseOf signalOf airOf judge touching judgeInBand judgeOnBand sixty sixtyKind sixtyEmission sixtyPlace sixtySegment sixtyChannel allowedOnSixty judgeData insideSegment outsideSegments overshootOf nearestUpTo considered automaticData automaticElsewhere advised adviceWarns adviceOf guidanceOf planSays wantsPlan notesUpTo anyNote noted privilegedOf draftAutomatic draftInside draftOf refusedOf simpleOf finishOf noAdvice edgesRead edgesValid situationOf codesValid figuresValid checkOf codedBlock miscoded soundBlock unsound bare unlimited asks soundBits soundRecord codedOf codedGeneral recordsBefore recordAt generalOf u16At u32At u64At firstFrom lt le eq ne neg add sub mul div ofBits tidyTable twoShare inEighths recordInEighths blockInEighths imageInEighths edgesInEighths stationInEighths hertzInEighths tuned inForce prerequisitesMet guardedWidth positiveWidth channelBandHolds onChannelBand isOutside consideredAt leastUpTo distanceOf
+-- without a dial off the channel band: a channel allows data, and its rows do not count
+without-channels : Outcome usual narrow channelled (hz 88) 2 (true ∷ true ∷ true ∷ true ∷ true ∷ true ∷ false ∷ []) NoneListed true
+unfolding opened
 without-channels = record { premises-are = refl; fitted = refl; distance-is = refl; verdict-is = refl }

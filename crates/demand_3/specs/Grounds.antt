@@ -1,13 +1,13 @@
 -- From the premises to the grid: every figure that list and verdict add or compare is in eighths and at most 2^40 in size.
-use Prim.Native.Nat.{ℕ, _+_, _*_, _<_, _≤_, _^_}
+use Prim.Native.Nat.{ℕ, _+_, _<_, _≤_, _^_}
 use mathlib.Core.Bool.{Bool, true, false, not, cond, _&&_, _||_, true≢false}
 use mathlib.Core.List.{List}
-use mathlib.Core.Path.{_≡_, refl, sym, subst, _∙_}
+use mathlib.Core.Path.{_≡_, refl, sym, _∙_}
 use native.Mathlib.Omega.{arith}
 use lib.Dec.{eqb}
 use borrow.Author.Tests.{eqb-true, not-true, not-false}
 use lib.Ieee.{Float, ofBits, neg, lt, le, eq}
-use Rattle.figures.specs.Figure.{zeroHz, limit40, inSize, readHz, figureOf, minOf, maxOf}
+use Rattle.figures.specs.Figure.{zeroHz, limit40, negativeZeroBits, inSize, readHz, figureOf, minOf, maxOf}
 use Rattle.codes.specs.Code.{bitOf}
 use Rattle.codes.specs.Refusal.{none-fails, refusal-both}
 use Rattle.codes.specs.declared.Checked.the-variants.{Accepted}
@@ -18,14 +18,14 @@ use Rattle.occupancy.specs.declared.Reading.{Reading}
 use Rattle.occupancy.specs.declared.Reading.the-variants.{Power, Spectral, Wider}
 use Rattle.air.specs.Air.{widthOf}
 use Rattle.scan.specs.First.{some, some-false}
-use Rattle.layout.specs.Form.{Whole, formTests, table-within}
-use Rattle.layout.specs.Layout.{tables, power, generalSize, recordSize, recordsBefore, recordAt, startOf, generalOf, recordOf, countOf}
+use Rattle.layout.specs.Form.{formTests}
+use Rattle.layout.specs.Layout.{tables, power, generalOf, recordOf, countOf}
 use Rattle.layout.specs.declared.General.{General}
 use Rattle.table.specs.Parts.{elsewhereOf}
 use Rattle.table.specs.declared.ElsewhereRule.the-variants.{Under, Nowhere}
-use Rattle.find.specs.Question.{asks, asksAt, soundBits, soundRecord}
+use Rattle.find.specs.Question.{asks, soundBits, soundRecord}
 use Rattle.find.specs.declared.Question.the-variants.{Unsound}
-use Rattle.image.specs.Check.{checkOf, contentTests, accepted-whole, soundBlock, unsound}
+use Rattle.image.specs.Check.{checkOf, contentTests, soundBlock, unsoundIn, unsound}
 use Rattle.entry.specs.Entry.{edgesValid, edgesRead}
 use Rattle.eighths.specs.Grid.{Figure, Eighths, inEighths}
 use Rattle.eighths.specs.Laws.{eighths-of, in-eighths, zero-eighths, neg-eighths, eq-eighths, figure-of}
@@ -83,7 +83,7 @@ figure-read x on h = go (eq x zeroHz)
 
 bits-figure : (b : ℕ) → soundBits b ≡ true → inEighths (figureOf b) ≡ true → Figure (figureOf b)
 unfolding soundBits
-bits-figure b s on = figure-size (figureOf b) on (and-left (inSize limit40 (figureOf b)) (not (eqb b 0x8000_0000_0000_0000)) s)
+bits-figure b s on = figure-size (figureOf b) on (and-left (inSize limit40 (figureOf b)) (not (eqb b negativeZeroBits)) s)
 
 -- ---- the image
 
@@ -96,9 +96,6 @@ or-false-right true b e = absurd (true≢false e)
 or-false-right false b e = e
 
 module _ (l : List ℕ) (C : checkOf l ≡ Accepted) (E : imageInEighths l ≡ true) where
-  whole : Whole l
-  whole = accepted-whole l C
-
   -- refusal 6 met nothing
   sound : unsound l ≡ false
   unfolding checkOf
@@ -107,13 +104,9 @@ module _ (l : List ℕ) (C : checkOf l ≡ Accepted) (E : imageInEighths l ≡ t
   record-sound : (t i : ℕ) → t < tables → i < countOf l t → soundRecord (recordOf l t i) ≡ true
   unfolding unsound asks
   record-sound t i ht hi =
-      let n = recordsBefore l t + i in
-      let h : n < recordsBefore l tables = omega (arith, table-within l whole t ht, whole .filled) in
-      let e : generalSize + recordSize * n ≡ startOf l t + recordSize * i = omega arith in
-      subst (λ (at : ℕ). soundRecord (recordAt l at) ≡ true) e
-      (not-false (soundRecord (recordAt l (generalSize + recordSize * n)))
-      (some-false (asksAt l generalSize Unsound) (recordsBefore l tables)
-      (or-false-right (not (soundBlock (generalOf l))) (some (asksAt l generalSize Unsound) (recordsBefore l tables)) sound) n h))
+      not-false (soundRecord (recordOf l t i))
+      (some-false (λ k. asks Unsound (recordOf l t k)) (countOf l t)
+      (some-false (unsoundIn l) tables (or-false-right (not (soundBlock (generalOf l))) (some (unsoundIn l) tables) sound) t ht) i hi)
 
   record-on : (t i : ℕ) → t < tables → i < countOf l t → recordInEighths t (recordOf l t i) ≡ true
   unfolding imageInEighths
@@ -144,7 +137,7 @@ module _ (l : List ℕ) (C : checkOf l ≡ Accepted) (E : imageInEighths l ≡ t
       inEighths (figureOf (g .«channel_width»)) && (inEighths (figureOf (g .«carrier_offset»)) && inEighths (figureOf (g .«carrier_tolerance»))) in
       let s =
       all-three (soundBits (g .«data_limit»)) (soundBits (g .«elsewhere_limit»)) rest
-      (not-false (soundBlock g) (or-false-left (not (soundBlock g)) (some (asksAt l generalSize Unsound) (recordsBefore l tables)) sound)) in
+      (not-false (soundBlock g) (or-false-left (not (soundBlock g)) (some (unsoundIn l) tables) sound)) in
       let o =
       all-three (inEighths (figureOf (g .«data_limit»))) (inEighths (figureOf (g .«elsewhere_limit»))) on
       (and-left (blockInEighths g) (not (some (offGridIn l) tables)) E) in

@@ -209,16 +209,16 @@ pub record Premises (r : StationRecord) (direction : ℕ) (e : Edges) (l : List 
   pub prerequisites : prerequisitesMet l (situationOf (tuned r dial)) ≡ true
   pub width : positiveWidth r e l ≡ true
   pub fitted : Fitted answer count
-  -- "a dial that the gate doesn't refuse"
+  -- the gate does not refuse the dial
   pub not-refused : verdictAt r direction e l dial .refusal ≡ Accepted
   pub off-channels : onChannelBand r e l dial ≡ false
 
 pub record Demand3 (r : StationRecord) (direction : ℕ) (e : Edges) (l : List ℕ) (count : ℕ) (left : List ℕ) (dial : Float) : Type 0 where
   -- the distance call refuses no such dial
   pub answered : answers (distanceAt l count left dial) ≡ true
-  -- "the distance … is nought exactly when the gate allows data at that dial"
+  -- the distance is nought exactly when the gate allows data at that dial
   pub exactly : nought (distanceAt l count left dial) ≡ allows (verdictAt r direction e l dial)
-  -- "with none listed the answer says so and isn't nought, and the gate blocks data at that dial"
+  -- with none listed the answer says so and is not nought, and the gate blocks data at that dial
   pub none-listed :
       NoneOutside l count left
       → (distanceAt l count left dial ≡ NoneListed) × (nought (distanceAt l count left dial) ≡ false)

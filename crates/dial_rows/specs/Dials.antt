@@ -4,7 +4,7 @@ use Prim.Native.Nat.{ℕ}
 use mathlib.Core.Bool.{Bool, true, false, not, cond, _&&_, _||_}
 use mathlib.Core.List.{List, [], _∷_, _++_}
 use lib.Dec.{eqb}
-use lib.Ieee.{Float, binary64, sub, lt, le}
+use lib.Ieee.{Float, binary64, sub, le}
 use Rattle.codes.specs.Code.{classCode}
 use Rattle.codes.specs.declared.LicenseClass.{LicenseClass}
 use Rattle.codes.specs.declared.Sideband.{Sideband}
@@ -17,7 +17,7 @@ use Rattle.profile.specs.Limit.{dataLimitOf, allowsOf}
 use Rattle.profile.specs.declared.Range.{Range}
 use Rattle.profile.specs.declared.Shared.{Shared}
 use Rattle.profile.specs.declared.Shared.the-variants.{Stretch, Nothing}
-use Rattle.air.specs.Air.{rfRangeOf, guardedOf, widthOf, dialRangeOf}
+use Rattle.air.specs.Air.{rfRangeOf, guardedOf, widthOf, wider, dialRangeOf}
 use Rattle.air.specs.declared.DialRange.{DialRange}
 use Rattle.air.specs.declared.DialRange.the-variants.{Dials, NoDial}
 use Rattle.scan.specs.First.{some}
@@ -65,7 +65,7 @@ safeDial band rule piece dials =
       «dial_high_hz» = dials .«high_hz»;
     }
 
--- "`dial_range` [needs] low ≤ high": else there is no row
+-- "`dial_range` low ≤ high": else there is no row
 abbrev pub dialRows : ℕ → ℕ → Range → DialRange → List SafeDial
 dialRows band rule piece (Dials ends) = safeDial band rule piece ends ∷ []
 dialRows band rule piece NoDial = []
@@ -112,7 +112,7 @@ privilegesRows l q s = each (countOf l privileges) (privilegeAt l q s)
 
 -- 97.307(f)(2), (3), (5): the signal is wider than the segment's limit, its own or the general one
 abbrev pub tooWide : Request → Segment → Bool
-tooWide q s = lt (dataLimitOf (s .own) (s .second) (q .«data») .«max_bandwidth_hz») (q .«width_hz»)
+tooWide q s = wider (q .«width_hz») (dataLimitOf (s .own) (s .second) (q .«data») .«max_bandwidth_hz»)
 
 -- 97.221: automatic control is not allowed in the segment's band
 abbrev pub excludedBand : List ℕ → Request → Segment → Bool

@@ -1,12 +1,12 @@
--- How many rows there can be, that their dials are figures of a double, and the request and its flags by cases.
+-- How many rows there can be, that their dials are figures of a double and the lower one a number, and the request and its flags by cases.
 use Prim.Native.Nat.{ℕ, _*_, _≤_}
-use mathlib.Core.Bool.{Bool, true, false, not, cond, _&&_, _||_}
+use mathlib.Core.Bool.{Bool, true, false, not, cond, _&&_, _||_, false≢true}
 use mathlib.Core.List.{List, [], _∷_, _++_}
-use mathlib.Core.Path.{_≡_, ap}
+use mathlib.Core.Path.{_≡_, refl, ap}
 use native.Mathlib.Omega.{arith}
 use lib.Dec.{T}
 use lib.ListN.{length}
-use lib.Ieee.{Float, binary64, fits, add, sub, le}
+use lib.Ieee.{Float, nan, inf, fin, binary64, fits, isNan, add, sub, lt, le, eq}
 use lib.Ieee.Fits.{add-fits, sub-fits}
 use Rattle.codes.specs.Code.{classCode}
 use Rattle.codes.specs.declared.LicenseClass.{LicenseClass}
@@ -14,12 +14,12 @@ use Rattle.codes.specs.declared.ControlMode.{ControlMode}
 use Rattle.codes.specs.declared.Direction.{Direction}
 use Rattle.codes.specs.declared.Sideband.{Sideband}
 use Rattle.codes.specs.declared.Sideband.the-variants.{Usb, Lsb}
-use Rattle.profile.specs.Range.{intersectOf}
+use Rattle.profile.specs.Range.{holdsOf, intersectOf, channelRangeOf}
 use Rattle.profile.specs.declared.Range.{Range}
 use Rattle.profile.specs.declared.Shared.{Shared}
 use Rattle.profile.specs.declared.Shared.the-variants.{Stretch, Nothing}
 use Rattle.profile.specs.declared.DataLimit.{DataLimit}
-use Rattle.air.specs.Air.{widthOf, dialRangeOf, dialEndsOf}
+use Rattle.air.specs.Air.{rfRangeOf, guardedOf, widthOf, dialRangeOf, dialEndsOf}
 use Rattle.air.specs.declared.DialRange.{DialRange}
 use Rattle.air.specs.declared.DialRange.the-variants.{Dials, NoDial}
 use Rattle.layout.specs.Layout.{segments, channels, privileges, automatic, recordOf, countOf, generalOf}
@@ -34,9 +34,9 @@ use Rattle.table.specs.declared.ChannelBand.the-variants.{On, NoChannels}
 use Rattle.table.specs.declared.ElsewhereRule.{ElsewhereRule}
 use Rattle.automatic_97_221.specs.Automatic.{appliesOf, elsewhereAllows}
 use Rattle.rows.specs.Each.{each, each-few, Every, every-append, every-each, every-map}
-use Rattle.rows.specs.Back.{LowFits}
+use Rattle.rows.specs.Back.{LowNumber}
 use Rattle.rows.specs.declared.SafeDial.{SafeDial}
-use Rattle.dial_rows.specs.Dials.{requestOf, dialRows, pieceRows, onShared, automaticAt, automaticRows, cut, cutRows, mayUse, privilegeRows, privilegeAt, tooWide, excludedBand, privilegesRows, segmentRows, segmentAt, dataRows, channelHolds, channelSafe, channelRow, channelAt, channelsOpen, channelFound, channelRows, openRows, bandRows, rowsOf}
+use Rattle.dial_rows.specs.Dials.{requestOf, dialRows, pieceRows, onShared, automaticAt, automaticRows, cut, cutRows, mayUse, privilegeRows, privilegeAt, tooWide, excludedBand, privilegesRows, segmentRows, segmentAt, dataRows, channelDial, channelHolds, channelSafe, channelRow, channelAt, channelsOpen, channelFound, channelRows, openRows, bandRows, rowsOf}
 use Rattle.dial_rows.specs.declared.Request.{Request}
 
 -- ---- how many rows
@@ -110,10 +110,10 @@ pub channel-few : (q : Request) (c : Channels) (centre : Float) → length (chan
 unfolding channelRow
 channel-few q c centre = cond-one (channelHolds q c centre) (channelSafe c centre)
 
--- ---- both dials of every row are figures that a double holds
+-- ---- both dials of every row are figures that a double holds, and the lower one is a number
 
 abbrev pub DialsFit : SafeDial → Type 0
-DialsFit x = T (fits binary64 (x .«dial_low_hz»)) × T (fits binary64 (x .«dial_high_hz»))
+DialsFit x = T (fits binary64 (x .«dial_low_hz»)) × T (fits binary64 (x .«dial_high_hz»)) × (isNan (x .«dial_low_hz») ≡ false)
 
 abbrev pub RangeFits : Range → Type 0
 RangeFits r = T (fits binary64 (r .«low_hz»)) × T (fits binary64 (r .«high_hz»))
@@ -126,9 +126,18 @@ pub ends-fit : (piece : Range) (s : Sideband) (audio : Range) (margin : Float) �
 ends-fit piece Usb audio margin = (add-fits binary64 (sub binary64 (piece .«low_hz») (audio .«low_hz»)) margin, sub-fits binary64 (sub binary64 (piece .«high_hz») (audio .«high_hz»)) margin)
 ends-fit piece Lsb audio margin = (add-fits binary64 (add binary64 (piece .«low_hz») (audio .«high_hz»)) margin, sub-fits binary64 (add binary64 (piece .«high_hz») (audio .«low_hz»)) margin)
 
-dial-fit : (band rule : ℕ) (piece : Range) (ends : Range) (b : Bool) → RangeFits ends → Every DialsFit (dialRows band rule piece (cond b (Dials ends) NoDial))
-dial-fit band rule piece ends true h = (h, tt)
-dial-fit band rule piece ends false h = tt
+-- what compares is a number
+le-number : (x y : Float) → le x y ≡ true → isNan x ≡ false
+unfolding le lt eq isNan
+le-number nan y e = absurd (false≢true e)
+le-number (inf s) y e = refl
+le-number (fin s m d) y e = refl
+
+dial-fit :
+    (band rule : ℕ) (piece : Range) (ends : Range) (b : Bool) → RangeFits ends → (b ≡ true → isNan (ends .«low_hz») ≡ false)
+    → Every DialsFit (dialRows band rule piece (cond b (Dials ends) NoDial))
+dial-fit band rule piece ends true h n = ((h .0, h .1, n refl), tt)
+dial-fit band rule piece ends false h n = tt
 
 piece-fit : (q : Request) (band rule : ℕ) (piece : Range) → Every DialsFit (pieceRows q band rule piece)
 unfolding pieceRows
@@ -136,6 +145,7 @@ piece-fit q band rule piece =
     dial-fit band rule piece (dialEndsOf piece (q .sideband) (q .audio) (q .«margin_hz»))
     (le (dialEndsOf piece (q .sideband) (q .audio) (q .«margin_hz») .«low_hz») (dialEndsOf piece (q .sideband) (q .audio) (q .«margin_hz») .«high_hz»))
     (ends-fit piece (q .sideband) (q .audio) (q .«margin_hz»))
+    (le-number (dialEndsOf piece (q .sideband) (q .audio) (q .«margin_hz») .«low_hz») (dialEndsOf piece (q .sideband) (q .audio) (q .«margin_hz») .«high_hz»))
 
 shared-fit : (s : Shared) (f : Range → List SafeDial) → ((r : Range) → Every DialsFit (f r)) → Every DialsFit (onShared s f)
 shared-fit (Stretch piece) f h = h piece
@@ -171,13 +181,32 @@ data-fit : (l : List ℕ) (q : Request) → Every DialsFit (dataRows l q)
 unfolding dataRows
 data-fit l q = every-each DialsFit (countOf l segments) (segmentAt l q) (λ s. segment-fit l q (segmentOf (recordOf l segments s)))
 
-one-fit : (b : Bool) (x : SafeDial) → DialsFit x → Every DialsFit (cond b (x ∷ []) [])
-one-fit true x h = (h, tt)
+one-fit : (b : Bool) (x : SafeDial) → (b ≡ true → DialsFit x) → Every DialsFit (cond b (x ∷ []) [])
+one-fit true x h = (h refl, tt)
 one-fit false x h = tt
+
+le-nan : (x : Float) → le x nan ≡ false
+unfolding le lt eq
+le-nan nan = refl
+le-nan (inf s) = refl
+le-nan (fin s m d) = refl
+
+-- at a dial that is no number the signal lies in no range
+held-number :
+    (dial : Float) (s : Sideband) (audio : Range) (margin : Float) (r : Range)
+    → holdsOf r (guardedOf margin (rfRangeOf dial s audio)) ≡ true → isNan dial ≡ false
+unfolding isNan add sub
+held-number nan Usb audio margin r e = absurd (false≢true (rw (le-nan (r .«low_hz»)) at e))
+held-number nan Lsb audio margin r e = absurd (false≢true (rw (le-nan (r .«low_hz»)) at e))
+held-number (inf t) s audio margin r e = refl
+held-number (fin t m d) s audio margin r e = refl
 
 channel-fit : (q : Request) (c : Channels) (centre : Float) → Every DialsFit (channelRow q c centre)
 unfolding channelRow
-channel-fit q c centre = one-fit (channelHolds q c centre) (channelSafe c centre) (sub-fits binary64 centre (c .«carrier_offset_hz»), sub-fits binary64 centre (c .«carrier_offset_hz»))
+channel-fit q c centre =
+    let f : T (fits binary64 (channelDial c centre)) = sub-fits binary64 centre (c .«carrier_offset_hz») in
+    one-fit (channelHolds q c centre) (channelSafe c centre)
+    (λ e. (f, f, held-number (channelDial c centre) (q .sideband) (q .audio) (q .«margin_hz») (channelRangeOf (c .«width_hz») centre) e))
 
 band-fit : (l : List ℕ) (q : Request) (b : ChannelBand) → Every DialsFit (bandRows l q b)
 unfolding openRows channelRows
@@ -190,9 +219,9 @@ band-fit l q NoChannels = tt
 pub gathered-fit : (l : List ℕ) (q : Request) (b : ChannelBand) → Every DialsFit (dataRows l q ++ bandRows l q b)
 gathered-fit l q b = every-append DialsFit (dataRows l q) (bandRows l q b) (data-fit l q) (band-fit l q b)
 
--- each lower dial alone, which the insertion reads back
-pub gathered-low : (l : List ℕ) (q : Request) (b : ChannelBand) → Every LowFits (dataRows l q ++ bandRows l q b)
-gathered-low l q b = every-map DialsFit LowFits (λ x h. h .0) (dataRows l q ++ bandRows l q b) (gathered-fit l q b)
+-- each lower dial alone, which the insertion reads back and compares
+pub gathered-low : (l : List ℕ) (q : Request) (b : ChannelBand) → Every LowNumber (dataRows l q ++ bandRows l q b)
+gathered-low l q b = every-map DialsFit LowNumber (λ x h. (h .0, h .2)) (dataRows l q ++ bandRows l q b) (gathered-fit l q b)
 
 pub rows-fit : (l : List ℕ) (q : Request) → Every DialsFit (rowsOf l q)
 unfolding rowsOf

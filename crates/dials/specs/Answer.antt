@@ -26,7 +26,7 @@ use Rattle.entry.specs.Entry.{entryTests, entryOf, edgesValid, edgesRead}
 use Rattle.rows.specs.Rows.{rowSize, insertAll, sorted, encodeAll}
 use Rattle.rows.specs.Each.{Every}
 use Rattle.rows.specs.Pour.{pour}
-use Rattle.rows.specs.Back.{LowFits, length-encode, pour-all}
+use Rattle.rows.specs.Back.{LowNumber, length-encode, pour-all}
 use Rattle.rows.specs.Order.{length-sorted}
 use Rattle.rows.specs.declared.SafeDial.{SafeDial}
 use Rattle.dials.specs.List.{withSideband, withLicense, withControl, knownRows, situationRows, listRows, lentTests, listTests, Listed, Begun, Filled, SafeDials}
@@ -68,7 +68,7 @@ filled-fit xs lent left n e h p =
     })
 
 -- rows poured into bytes, with room or without
-pub begun : (xs : List SafeDial) (l own : List ℕ) → Every LowFits xs → length own ≡ length l → own ≡ pour l 0 xs → Begun xs own
+pub begun : (xs : List SafeDial) (l own : List ℕ) → Every LowNumber xs → length own ≡ length l → own ≡ pour l 0 xs → Begun xs own
 begun xs l own f s p h =
     let a : length (encodeAll (sorted xs)) ≡ length (sorted xs) * rowSize = length-encode (sorted xs) in
     let b : length (sorted xs) ≡ length xs = length-sorted xs in
@@ -87,7 +87,7 @@ copied xs lent own n b e h =
 
 -- rows poured into as many bytes as they need
 pub poured-whole :
-    (xs : List SafeDial) (lent part : List ℕ) (n : ℕ) → Every LowFits xs → n ≡ length xs → n * rowSize ≤ length lent
+    (xs : List SafeDial) (lent part : List ℕ) (n : ℕ) → Every LowNumber xs → n ≡ length xs → n * rowSize ≤ length lent
     → part ≡ pour (take (n * rowSize) lent) 0 xs → part ++ drop (n * rowSize) lent ≡ encodeAll (sorted xs) ++ drop (n * rowSize) lent
 poured-whole xs lent part n f e room p =
     let t : length (take (n * rowSize) lent) ≡ n * rowSize = length-take-le (n * rowSize) lent room in

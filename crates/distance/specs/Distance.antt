@@ -57,7 +57,7 @@ abbrev pub unlessRefused : Checked → Distance → Distance
 unlessRefused Accepted d = d
 unlessRefused (Refused n) d = NoAnswer n
 
--- the distance of a dial from the first count rows; "Negative zero … in a dial asked reads as zero"
+-- the distance of a dial from the first count rows; a dial of negative zero reads as zero
 unfoldable pub distanceOf : Float → ℕ → ℕ → ℕ → List ℕ → Distance
 distanceOf dial flags channel count rows =
     unlessRefused (refusalOf (distanceTests dial count rows)) (leastUpTo (readHz dial) flags channel rows count)

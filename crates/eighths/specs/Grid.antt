@@ -51,11 +51,12 @@ pub record Figure (x : Float) : Type 0 where
   pub plus-le : plusEighths x ≤ 2 ^ 43
   pub minus-le : minusEighths x ≤ 2 ^ 43
 
--- 14023800.125 is in eighths, and 0.1 is not.
+-- 14,023,800.125 is in eighths.
 on-grid : inEighths (ofBits binary64 0x416abf8f04000000) ≡ true
 unfolding inEighths ofBits
 on-grid = refl
 
+-- 0.1 is not.
 off-grid : inEighths (ofBits binary64 0x3fb999999999999a) ≡ false
 unfolding inEighths ofBits
 off-grid = refl

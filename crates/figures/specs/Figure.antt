@@ -14,9 +14,13 @@ one = ofBits binary64 0x3ff0_0000_0000_0000
 abbrev pub two : Float
 two = ofBits binary64 0x4000_0000_0000_0000
 
--- 2 ^ 40, document 01's limit on the size of a figure
+-- 2 ^ 40 (1,099,511,627,776), document 01's limit on the size of a figure
 abbrev pub limit40 : Float
 limit40 = ofBits binary64 0x4270_0000_0000_0000
+
+-- the bits of negative zero
+abbrev pub negativeZeroBits : ℕ
+negativeZeroBits = 0x8000_0000_0000_0000
 
 -- the lesser of two; where one is no number, the other
 abbrev pub minOf : Float → Float → Float
@@ -46,7 +50,7 @@ totalLess x y = lt x y || (eq x y && (negative x && not (negative y)))
 abbrev pub inSize : Float → Float → Bool
 inSize limit x = le (absOf x) limit
 
--- "Negative zero reads as zero."
+-- "Negative zero in edges or station reads as zero."
 abbrev pub readHz : Float → Float
 readHz x = cond (eq x zeroHz) zeroHz x
 

@@ -4,7 +4,7 @@ use mathlib.Core.Bool.{Bool, true, false, not, cond, _&&_}
 use mathlib.Core.List.{List}
 use lib.Dec.{eqb}
 use lib.Ieee.{Float, le}
-use Rattle.figures.specs.Figure.{zeroHz, limit40, inSize, figureOf}
+use Rattle.figures.specs.Figure.{zeroHz, limit40, negativeZeroBits, inSize, figureOf}
 use Rattle.profile.specs.Range.{holdsOf, overlapsOf, lengthy, shareOf, channelRangeOf}
 use Rattle.profile.specs.declared.Range.{Range}
 use Rattle.profile.specs.declared.OwnLimit.{OwnLimit}
@@ -25,7 +25,7 @@ use Rattle.find.specs.declared.Question.the-variants.{Miscoded, Unsound,
 
 -- "a figure not finite, above 2^40 in size, or negative zero", by its bits
 unfoldable pub soundBits : ℕ → Bool
-soundBits b = inSize limit40 (figureOf b) && not (eqb b 0x8000_0000_0000_0000)
+soundBits b = inSize limit40 (figureOf b) && not (eqb b negativeZeroBits)
 
 unfoldable pub soundRecord : Record → Bool
 soundRecord r = soundBits (r .low) && (soundBits (r .high) && soundBits (r .figure))

@@ -9,11 +9,11 @@ use Rattle.codes.specs.Refusal.{Test, test, refusalOf, refusal-both}
 use Rattle.codes.specs.declared.Checked.{Checked}
 use Rattle.codes.specs.declared.Checked.the-variants.{Accepted}
 use Rattle.scan.specs.First.{some}
-use Rattle.layout.specs.Layout.{generalSize, tables, bands, segments, channels, privileges, automatic, planData, planAvoid, generalOf, countOf, recordsBefore}
+use Rattle.layout.specs.Layout.{tables, bands, segments, channels, privileges, automatic, planData, planAvoid, generalOf, countOf}
 use Rattle.layout.specs.Form.{formTests, Whole, whole-of}
 use Rattle.layout.specs.declared.General.{General}
 use Rattle.coded.specs.Coded.{blank, codedGeneral}
-use Rattle.find.specs.Question.{soundBits, asksAt, someIn, homelessOf}
+use Rattle.find.specs.Question.{soundBits, someIn, homelessOf}
 use Rattle.find.specs.declared.Question.{Question}
 use Rattle.find.specs.declared.Question.the-variants.{Miscoded, Unsound, NotLengthy, NoLimit}
 
@@ -27,14 +27,17 @@ miscodedIn l t = someIn l t (Miscoded t)
 unfoldable pub miscoded : List ℕ → Bool
 miscoded l = not (codedBlock l) || some (miscodedIn l) tables
 
--- 6 "a figure not finite, above 2^40 in size, or negative zero": the five of the general block, then those of every record
+-- 6 "a figure not finite, above 2^40 in size, or negative zero": the five of the general block, then those of each table's records
 unfoldable pub soundBlock : General → Bool
 soundBlock g =
     soundBits (g .«data_limit») && (soundBits (g .«elsewhere_limit») && (soundBits (g .«channel_width»)
     && (soundBits (g .«carrier_offset») && soundBits (g .«carrier_tolerance»))))
 
+abbrev pub unsoundIn : List ℕ → ℕ → Bool
+unsoundIn l t = someIn l t Unsound
+
 unfoldable pub unsound : List ℕ → Bool
-unsound l = not (soundBlock (generalOf l)) || some (asksAt l generalSize Unsound) (recordsBefore l tables)
+unsound l = not (soundBlock (generalOf l)) || some (unsoundIn l) tables
 
 -- 11 "no bands or no segments"
 unfoldable pub bare : List ℕ → Bool

@@ -2,11 +2,8 @@
 use codes::Checked;
 use find::Question;
 use layout::General;
-use scan::Found;
 ghost use mathlib.Core.Path.{_≡_};
 ghost use mathlib.Core.Bool.{false};
-ghost use Prim.Native.Nat.{_+_, _*_, _≤_, _<_};
-ghost use lib.ListN.{length};
 ghost use Rattle.codes.specs.Refusal.{refusalOf};
 ghost use Rattle.layout.specs.Form.{Whole};
 ghost use Rattle.image.specs.Check.{codedBlock, miscoded, soundBlock, unsound, bare, unlimited, contentTests, checkOf};
@@ -44,7 +41,8 @@ fn is_miscoded(s: &[u8]) -> bool
     false
 }
 
-fn sound_block(g: General) -> bool
+// The general block's figures.
+pub fn sound_block(g: General) -> bool
     ensures { λ r. ⌜ r ≡ soundBlock g ⌝ }
 {
     find::sound_bits(g.data_limit)
@@ -53,7 +51,7 @@ fn sound_block(g: General) -> bool
                 && (find::sound_bits(g.carrier_offset) && find::sound_bits(g.carrier_tolerance))))
 }
 
-// 6: the general block's figures, then those of every record.
+// 6: the general block's figures, then those of each table's records.
 fn is_unsound(s: &[u8]) -> bool
     requires { ⌜ Whole (now s) ⌝ }
     ensures { λ r. ⌜ r ≡ unsound (now (s .entry)) ⌝ }
@@ -61,11 +59,14 @@ fn is_unsound(s: &[u8]) -> bool
     if !sound_block(layout::general_of(s)) {
         return true;
     }
-    let count = layout::records_before(s, layout::TABLES) as usize;
-    match find::find_from(s, layout::GENERAL_SIZE, count, Question::Unsound) {
-        Found::At(_) => true,
-        Found::Nothing => false,
+    let mut t: usize = 0;
+    while t < layout::TABLES {
+        if find::some_in(s, t, Question::Unsound) {
+            return true;
+        }
+        t += 1;
     }
+    false
 }
 
 // 11

@@ -85,8 +85,8 @@ unfolding recordAt u32At
 rules-read l at = let a : at + 28 + 2 ≡ at + 30 = omega arith in rw a (omega arith)
 
 -- "General: 0 data limit, 8 elsewhere limit, 16 channel width, 24 carrier offset, 32 carrier tolerance (f64 each); bytes 40 region,
--- 41 reading, 42 flags, 43 channel band, 44 sideband, 45 emission bits; u16 rules at 46 data, 48 elsewhere, 50 automatic segments,
--- 52 channels, 54 emissions, 56 privileges." The six bytes from 58 are unused.
+-- 41 reading …, 42 flags …, 43 channel band, 44 sideband …, 45 emission bits; u16 rules at 46 data, 48 elsewhere,
+-- 50 automatic segments, 52 channels, 54 emissions, 56 privileges." The six bytes from 58 are unused.
 unfoldable pub generalOf : List ℕ → General
 generalOf l =
     record {

@@ -1,4 +1,5 @@
--- No number of an answer is cut at the boundary: a rung is below 256, and a dial list has at most 256 * 256 * 256 + 256 rows.
+-- No number of an answer is cut at the boundary: a rung is below 256, a dial list has at most 256 * 256 * 256 + 256 rows, and the place of
+-- a refusal has a table below 9 and a record below 256.
 use Prim.Native.Nat.{ℕ, zero, suc, _+_, _*_, _/_, _%_, _<_, _≤_}
 use mathlib.Core.Bool.{Bool, true, false, not, cond, _&&_, _||_, true≢false}
 use mathlib.Core.List.{List, [], _∷_, _++_}
@@ -34,6 +35,10 @@ use Rattle.table.specs.Parts.{centreOf, channelsOf}
 use Rattle.table.specs.declared.Channels.{Channels}
 use Rattle.table.specs.declared.ChannelBand.{ChannelBand}
 use Rattle.table.specs.declared.ChannelBand.the-variants.{On, NoChannels}
+use Rattle.fault.specs.Fault.{faultOf}
+use Rattle.fault.specs.Laws.{named}
+use Rattle.fault.specs.declared.Fault.{Fault}
+use Rattle.fault.specs.declared.Fault.the-variants.{InRecord}
 use Rattle.entry.specs.Entry.{entryTests, entryOf, entry-whole, edgesValid, edgesRead}
 use Rattle.rows.specs.Each.{each, each-few}
 use Rattle.rows.specs.declared.SafeDial.{SafeDial}
@@ -191,3 +196,16 @@ module _ (r : StationRecord) (direction : ℕ) (ordinary floor : Edges) (l : Lis
           let w : j ≤ length rungs / 4 = run .1 .within in
           let m : length rungs / 4 ≤ 256 = accepted-few e in
           subst RungFits (sym (run .1 .fastest)) (below-fits j (omega arith))
+
+-- ---- the place of a refusal
+
+-- what the boundary asks of a place
+abbrev pub FaultFits : Fault → Type 0
+FaultFits f = (t i : ℕ) → f ≡ InRecord t i → (t < 9) × (i < 256)
+
+pub fault-fits : (l : List ℕ) → FaultFits (faultOf l .fault)
+fault-fits l t i e =
+    let n = named l t i e in
+    let few : countOf l t ≤ 256 = n .0 .few t (n .1) in
+    let below : i < countOf l t = n .2 in
+    (n .1, omega arith)

@@ -18,6 +18,10 @@ use Rattle.station.specs.declared.Figure.{Figure}
 use Rattle.station.specs.declared.Figure.the-variants.{Known, Absent}
 use Rattle.tidy.specs.declared.Tidiness.{Tidiness}
 use Rattle.tidy.specs.declared.Tidiness.the-variants.{Tidy, Untidy, NotJudged}
+use Rattle.fault.specs.Number.{faultNumber}
+use Rattle.fault.specs.declared.Fault.{Fault}
+use Rattle.fault.specs.declared.Fault.the-variants.{InGeneral, InRecord, Nowhere}
+use Rattle.fault.specs.declared.FaultAnswer.{FaultAnswer}
 use Rattle.codes.specs.Refusal.{refusalOf}
 use Rattle.decision.specs.Number.{verdictNumber, codeNumber, edgeNumber, overshootNumber, guidanceNumber}
 use Rattle.decision.specs.declared.Overshoot.{Overshoot}
@@ -52,6 +56,7 @@ use Rattle.pamuklid.specs.declared.FlatDecision.{FlatDecision}
 use Rattle.pamuklid.specs.declared.FlatTidiness.{FlatTidiness}
 use Rattle.pamuklid.specs.declared.FlatCeiling.{FlatCeiling}
 use Rattle.pamuklid.specs.declared.FlatDials.{FlatDials}
+use Rattle.pamuklid.specs.declared.FlatFault.{FlatFault}
 
 -- the station record that arrives, and one that leaves
 unfoldable pub recordOf : FlatStation → StationRecord
@@ -144,6 +149,26 @@ abbrev pub tidinessFlat : Tidiness → FlatTidiness
 tidinessFlat Untidy = record { tidy = 0; refusal = 0 }
 tidinessFlat Tidy = record { tidy = 1; refusal = 0 }
 tidinessFlat (NotJudged n) = record { tidy = 0; refusal = n }
+
+-- where a table is wrong: a table is below 9 and a record below 256 (Fits); where there is none they are 255 and 65,535
+abbrev pub faultTable : Fault → ℕ
+faultTable (InRecord t i) = t
+faultTable InGeneral = 255
+faultTable Nowhere = 255
+
+abbrev pub faultRecord : Fault → ℕ
+faultRecord (InRecord t i) = i
+faultRecord InGeneral = 65535
+faultRecord Nowhere = 65535
+
+abbrev pub faultFlat : FaultAnswer → FlatFault
+faultFlat a =
+    record {
+      «record» = faultRecord (a .fault);
+      table = faultTable (a .fault);
+      place = faultNumber (a .fault);
+      refusal = refusalNumber (a .refusal);
+    }
 
 -- an answer
 unfoldable pub flatOf : Decision → FlatDecision

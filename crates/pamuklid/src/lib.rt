@@ -1,5 +1,5 @@
 // The boundary to C: the public calls, exported, with flat structs of numbers. It uses codes, profile, occupancy, station,
-// image, tidy, decision, numbers, verdict, ceiling, dials and distance.
+// image, fault, tidy, decision, numbers, verdict, ceiling, dials and distance.
 use ceiling::CeilingAnswer;
 use ceiling::Rung;
 use codes::Checked;
@@ -11,6 +11,8 @@ use decision::MaybeRange;
 use decision::Overshoot;
 use dials::DialList;
 use distance::Distance;
+use fault::Fault;
+use fault::FaultAnswer;
 use occupancy::Edges;
 use profile::Range;
 use profile::RuleName;
@@ -21,15 +23,16 @@ ghost use mathlib.Core.Path.{_≡_};
 ghost use mathlib.Core.Bool.{cond};
 ghost use Prim.Native.Nat.{_<_};
 ghost use Rattle.image.specs.Check.{checkOf};
+ghost use Rattle.fault.specs.Fault.{faultOf};
 ghost use Rattle.tidy.specs.Tidy.{tidyOf};
 ghost use Rattle.station.specs.Station.{freshOf};
 ghost use Rattle.verdict.specs.Verdict.{evaluateOf, unmeasuredOf};
 ghost use Rattle.ceiling.specs.Ceiling.{ceilingOf, rungNumber};
 ghost use Rattle.distance.specs.Distance.{distanceOf};
 ghost use Rattle.numbers.specs.Refusal.{refusalNumber};
-ghost use Rattle.pamuklid.specs.Fits.{RungFits, Counted};
+ghost use Rattle.pamuklid.specs.Fits.{FaultFits, RungFits, Counted};
 ghost use Rattle.pamuklid.specs.Flat.{recordOf, stationOf, edgesOf, rangeFlat, segmentFlat, overshootFlat, guidanceIndex, guidanceFlat, ruleFlat, bandFlat, widthFlat};
-ghost use Rattle.pamuklid.specs.Flat.{tidinessFlat, flatOf, ceilingFlat, dialsFlat, FlatDialed, infinityHz, distanceFlat, versionNumber};
+ghost use Rattle.pamuklid.specs.Flat.{faultFlat, tidinessFlat, flatOf, ceilingFlat, dialsFlat, FlatDialed, infinityHz, distanceFlat, versionNumber};
 ghost use Rattle.pamuklid.specs.Guided.{Indexed};
 
 // The version of this boundary: 0.2.0.
@@ -102,6 +105,15 @@ pub struct FlatCeiling {
     pub limit: FlatDecision,
     pub rung: i32,
     pub limit_known: u8,
+    pub refusal: u8,
+}
+
+// Where a table is wrong: place is 0 nowhere, 1 the general block, 2 a record. Where there is no record, table is 255 and record 65,535.
+#[repr(C)]
+pub struct FlatFault {
+    pub record: u16,
+    pub table: u8,
+    pub place: u8,
     pub refusal: u8,
 }
 
@@ -323,6 +335,37 @@ fn mark(b: bool) -> u8
     if b { 1 } else { 0 }
 }
 
+// The place of a refusal, flat.
+fn fault_flat(a: FaultAnswer) -> FlatFault
+    requires { ⌜ FaultFits (a .fault) ⌝ }
+    ensures { λ r. ⌜ r ≡ faultFlat a ⌝ }
+{
+    let checked = a.refusal;
+    let f = a.fault;
+    let refusal = numbers::refusal_number(checked);
+    let place = fault::fault_number(f);
+    match f {
+        Fault::InRecord(t, i) => FlatFault {
+            record: i as u16,
+            table: t as u8,
+            place,
+            refusal,
+        },
+        Fault::InGeneral => FlatFault {
+            record: 65535,
+            table: 255,
+            place,
+            refusal,
+        },
+        Fault::Nowhere => FlatFault {
+            record: 65535,
+            table: 255,
+            place,
+            refusal,
+        },
+    }
+}
+
 // The tidy question's answer, flat.
 fn tidiness_flat(t: Tidiness) -> FlatTidiness
     ensures { λ r. ⌜ r ≡ tidinessFlat t ⌝ }
@@ -494,6 +537,14 @@ pub extern "C" fn pamuklid_check(image: &[u8]) -> u8
     ensures { λ r. ⌜ r ≡ refusalNumber (checkOf (now (image .entry))) ⌝ }
 {
     numbers::refusal_number(image::check(image))
+}
+
+// The same refusal, and where the table is wrong.
+#[no_mangle]
+pub extern "C" fn pamuklid_fault_of(image: &[u8]) -> FlatFault
+    ensures { λ r. ⌜ r ≡ faultFlat (faultOf (now (image .entry))) ⌝ }
+{
+    fault_flat(fault::fault_of(image))
 }
 
 // Whether an image's table is tidy, or the image's refusal.

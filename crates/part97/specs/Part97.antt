@@ -1,10 +1,6 @@
--- What the gate answers for a transmission under 47 CFR Part 97, as a table of an administration's rules states it.
---
--- How to read it. `table` is an accepted table image; `firstIn table bands (Holds r)` is the first band of the table whose range
--- holds r, both ends included, and `onFound` goes on with it, or with what stands last where there is none. `cond t a b` is a
--- where the test t holds, else b. A case `c` has the signal's range on the air, `c .air`, and the guarded range, `c .guarded`:
--- that range with the margin on either side. The tests stand in the order in which they are made. The paragraphs are named as
--- document 01 and the original's comments name them.
+-- What the gate answers for a transmission under 47 CFR Part 97, as a table of an administration's rules states it. The tests stand in
+-- the order in which they are made; the last definition, `judge`, makes the first. The paragraphs are named as document 01 and the
+-- original's comments name them. After the list of names from other files stands how to read the rules.
 use Prim.Native.Nat.{ℕ, zero, suc}
 use mathlib.Core.Bool.{Bool, true, false, not, cond, _&&_, _||_}
 use mathlib.Core.List.{List}
@@ -22,7 +18,7 @@ use Rattle.profile.specs.Range.{range, holdsOf, overlapsOf, channelRangeOf}
 use Rattle.profile.specs.Limit.{dataLimitOf, allowsOf, meantOf}
 use Rattle.profile.specs.declared.Range.{Range}
 use Rattle.profile.specs.declared.DataLimit.{DataLimit}
-use Rattle.air.specs.Air.{unguardedOf}
+use Rattle.air.specs.Air.{unguardedOf, wider}
 use Rattle.scan.specs.First.{some, isAt, onFound}
 use Rattle.scan.specs.declared.Found.{Found}
 use Rattle.scan.specs.declared.Found.the-variants.{At, Nothing}
@@ -73,6 +69,20 @@ use Rattle.part97.specs.declared.Nearest.{Nearest}
 use Rattle.part97.specs.declared.Nearest.the-variants.{Near, NoneNear}
 use Rattle.part97.specs.declared.Privileged.{Privileged}
 use Rattle.part97.specs.declared.Privileged.the-variants.{Granted, Forbidden, Unheld}
+
+-- ---- how to read the rules
+--
+-- A definition is a line with `:`, which says what it is asked about and, last, what it answers, and below it the answer. `f a b` is f
+-- asked about a and b. `table` is an accepted table image. `c` is the case, station and signal: `c .air` is the signal's range on the
+-- air, `c .guarded` that range with the margin on either side.
+--
+-- - Tests: `lt a b` is a < b, `le a b` is a ≤ b, `wider a b` is a > b; `&&` is and, `||` is or. `cond t a b` is a where the test t
+--   holds, else b.
+-- - Scans: `firstIn table bands (Holds r)` is the first band of the table whose range holds r, both ends included.
+--   `onFound found (λ i. a) b` is a where a record was found, i being its place in its table, else b. `λ i. a` reads: a, for this i.
+-- - Answers: a draft has the facts known so far: `draftOf` those of the signal and its band, `draftInside` a segment too,
+--   `draftAutomatic` an automatic segment too. `simpleOf draft verdict code rule` is the whole answer, the draft's facts with these
+--   three; `finishOf draft verdict code rule overshoot advice` has an overshoot, guidance and notes besides.
 
 -- ---- what the table says, record by record
 
@@ -133,7 +143,8 @@ draftAutomatic c band segment rule inside =
 -- ---- 97.301, 97.305(a), (b), 97.307(f)(9): the operator's privileges
 
 -- what the first privilege of the operator's class that holds the guarded range says of an emission: it allows it, or forbids it
--- (97.307(f)(9)), or there is none (97.301); a later privilege rescues nothing
+-- (97.307(f)(9)), or there is none (97.301); a later privilege rescues nothing. It is asked for data, CW and test, never for
+-- keying alone.
 unfoldable pub privilegedOf : List ℕ → Case → EmissionKind → Privileged
 privilegedOf table c kind =
     onFound (firstIn table privileges (ClassHolds (classCode (c .class)) (c .guarded)))
@@ -183,7 +194,7 @@ wantsPlan table c = c .«band_plan» && hasPlan (generalOf table)
 unfoldable pub guidanceOf : List ℕ → Case → Range → Guidance
 guidanceOf table c r = cond (wantsPlan table c) (planSays table r) NoGuidance
 
--- whether the plan calls for a warning: "'inside' leaves a power warning standing"
+-- whether the plan calls for a warning; inside an area for data it calls for none, and takes none away that the power limits give
 abbrev pub planWarns : Guidance → Bool
 planWarns (Avoid i) = true
 planWarns (Inside i) = false
@@ -218,7 +229,7 @@ advisedAutomatic table c draft code rule = advised table c (unguardedOf (c .«ma
 -- requires a response, only answering interrogation
 unfoldable pub automaticElsewhere : List ℕ → Case → Draft → ElsewhereRule → Decision
 automaticElsewhere table c draft (Under e) =
-    cond (lt (e .«max_bandwidth_hz») (c .width)) (simpleOf draft Blocked AutomaticBandwidth (e .rule))
+    cond (wider (c .width) (e .«max_bandwidth_hz»)) (simpleOf draft Blocked AutomaticBandwidth (e .rule))
     (cond (e .«requires_response» && not (responds (c .direction))) (simpleOf draft Blocked AutomaticOriginate (e .rule))
     (advisedAutomatic table c draft AutomaticResponse (e .rule)))
 automaticElsewhere table c draft Nowhere = simpleOf draft Blocked AutomaticOutside (automaticRule table)
@@ -266,7 +277,7 @@ onNearest NoneNear f a = a
 abbrev pub overshootBy : Float → Edge → Overshoot
 overshootBy by edge = cond (lt zeroHz by) (Beyond by edge) (TooClose edge)
 
--- "Above ≥ below names the upper edge."
+-- "Above ≥ below names the upper edge." Else below is the greater, so more than nought: `TooClose Lower` is never reached.
 unfoldable pub overshootOf : Range → Range → Overshoot
 overshootOf segment air =
     cond (le (below segment air) (above segment air)) (overshootBy (above segment air) Upper) (overshootBy (below segment air) Lower)
@@ -298,12 +309,13 @@ tooWide c band limit = simpleOf (draftOf c (Band band)) Blocked TooWide (limit .
 -- 97.305(c), by the first data segment that holds the guarded range; too wide comes before "no segment"
 unfoldable pub judgeData : List ℕ → Case → ℕ → Found → Decision
 judgeData table c band found =
-    cond (lt (limitFor table found .«max_bandwidth_hz») (c .width))
+    cond (wider (c .width) (limitFor table found .«max_bandwidth_hz»))
     (tooWide c band (limitFor table found))
     (onFound found (λ i. insideSegment table c band (segmentAt table i)) (outsideSegments table c band))
 
 -- ---- 97.305(a), (b): CW, test emissions and keying alone, off 60 m
 
+-- the rule that allows CW and test; the cases for data and for keying alone are never reached, since `offSixty` sends neither here
 abbrev pub otherRule : EmissionKind → ℕ
 otherRule Data = §97-301
 otherRule Cw = §97-305a
@@ -330,10 +342,11 @@ offSixty table c band NoEmission = keyed table c band
 
 -- ---- 60 m (97.303(h)(3), 97.305(c), 97.307(f)(14), 97.313(i)), from document 01
 
--- "Warnings are strictly above 100 W and 9.15 W."
+-- "Warnings are strictly above 100 W and 9.15 W.": on a channel 100
 abbrev pub channelWatts : Float
 channelWatts = ofBits binary64 0x4059_0000_0000_0000
 
+-- in the segment 9.15
 abbrev pub segmentWatts : Float
 segmentWatts = ofBits binary64 0x4022_4ccc_cccc_cccd
 
@@ -361,6 +374,7 @@ dataOnChannel c ch centre =
     && (le (absOf (sub binary64 (c .«dial_hz») (sub binary64 centre (ch .«carrier_offset_hz»)))) (ch .«carrier_tolerance_hz»)
     && holdsOf (channelRangeOf (ch .«width_hz») centre) (c .guarded))
 
+-- by the kind; the case for keying alone is never reached, since `sixtyKind` permits it before
 abbrev pub onChannel : Case → Channels → Float → EmissionKind → Bool
 onChannel c ch centre Data = dataOnChannel c ch centre
 onChannel c ch centre Cw = cwOnChannel c ch centre
@@ -375,6 +389,7 @@ sixtyChannel c ch centre =
     SixtyChannel (ch .rule) (record { «channel_power» = exceeds (c .power) channelWatts; shared = true; «segment_power» = false }))
     (simpleOf (draftInside c (ch .band) (channelRangeOf (ch .«width_hz») centre) (ch .rule)) Blocked SixtyChannel (ch .rule))
 
+-- data, whose width is tested; here too the case for keying alone is never reached
 abbrev pub isData : EmissionKind → Bool
 isData Data = true
 isData Cw = false
@@ -384,7 +399,7 @@ isData NoEmission = false
 -- in the segment: "The segment tests the general width only."
 unfoldable pub sixtySegment : List ℕ → Case → ℕ → SegmentRecord → Decision
 sixtySegment table c band s =
-    cond (isData (c .kind) && lt (generalLimit table .«max_bandwidth_hz») (c .width))
+    cond (isData (c .kind) && wider (c .width) (generalLimit table .«max_bandwidth_hz»))
     (simpleOf (draftInside c band (s .range) (s .rule)) Blocked TooWide (generalLimit table .rule))
     (allowedOnSixty (draftInside c band (s .range) (s .rule)) (exceeds (c .power) segmentWatts) SixtySegment (s .rule)
     (record { «channel_power» = false; shared = false; «segment_power» = exceeds (c .power) segmentWatts }))
@@ -398,7 +413,7 @@ sixtyPlace table c ch =
     (λ i. sixtySegment table c (ch .band) (segmentAt table i))
     (simpleOf (draftOf c (Band (ch .band))) Blocked SixtyOffChannel (ch .rule)))
 
--- 97.307(f)(14): the emissions allowed on 60 m
+-- 97.307(f)(14): the emissions allowed on 60 m; the bit for keying alone is never asked for
 unfoldable pub sixtyEmission : List ℕ → Case → Channels → SixtyEmissions → Decision
 sixtyEmission table c ch (Allowed bits rule) =
     cond (bitOf bits (kindCode (c .kind))) (sixtyPlace table c ch) (simpleOf (draftOf c (Band (ch .band))) Blocked SixtyEmission rule)

@@ -1,18 +1,18 @@
 -- Where no record is rough, none of the tests 5 to 10 and 13 that go record by record fails.
-use Prim.Native.Nat.{ℕ, zero, suc, _+_, _*_, _-_, _≤_, _<_}
-use mathlib.Core.Path.{_≡_, refl, sym, ap, subst, _∙_}
+use Prim.Native.Nat.{ℕ, _≤_, _<_}
+use mathlib.Core.Path.{_≡_, refl, sym, ap, _∙_}
 use mathlib.Core.Bool.{Bool, true, false, not}
 use mathlib.Core.List.{List}
 use native.Mathlib.Omega.{arith}
-use native.Mathlib.Decide.{decLe}
 use borrow.Author.Tests.{leb-true, ltb-true, ne-eqb, not-false}
 use Rattle.bit_order.specs.Order.{limitBits, bits-lt, bits-le-not, bits-sized}
+use Rattle.figures.specs.Figure.{negativeZeroBits}
 use Rattle.codes.specs.Code.{bitOf}
-use Rattle.layout.specs.Layout.{generalSize, recordSize, bands, segments, privileges, automatic, tables, startOf, countOf, recordOf, recordAt, recordsBefore}
+use Rattle.layout.specs.Layout.{bands, segments, privileges, automatic, tables, startOf, countOf, recordOf}
 use Rattle.layout.specs.declared.Record.{Record}
 use Rattle.coded.specs.Coded.{codedOf}
 use Rattle.scan.specs.First.{some, and-true, some-false, some-all}
-use Rattle.find.specs.Question.{soundBits, soundRecord, asks, asksAt, someIn}
+use Rattle.find.specs.Question.{soundBits, soundRecord, asks, someIn}
 use Rattle.find.specs.declared.Question.{Question}
 use Rattle.find.specs.declared.Question.the-variants.{Miscoded, Unsound, NotLengthy, NoLimit}
 use Rattle.plain.specs.Plain.{sizedOf, longer, longOf, limitedOf, plainOf, roughAt, roughFrom, roughIn, isRough}
@@ -21,7 +21,7 @@ use Rattle.plain.specs.Plain.{sizedOf, longer, longOf, limitedOf, plainO
 
 sound-plain : (b : ℕ) → b ≤ limitBits → soundBits b ≡ true
 unfolding soundBits
-sound-plain b h = rw (bits-sized b h) (rw (ne-eqb b 0x8000_0000_0000_0000 (λ e. omega arith)))
+sound-plain b h = rw (bits-sized b h) (rw (ne-eqb b negativeZeroBits (λ e. omega arith)))
 
 pub record Parts (t : ℕ) (r : Record) : Type 0 where
   pub low-le : r .low ≤ limitBits
@@ -87,6 +87,9 @@ module _ (l : List ℕ) (smooth : isRough l ≡ false) where
   pub none-miscoded : some (λ t. someIn l t (Miscoded t)) tables ≡ false
   none-miscoded = some-all (λ t. someIn l t (Miscoded t)) tables (λ t h. none-in t (Miscoded t) h (plain-coded t))
 
+  pub none-unsound : some (λ t. someIn l t Unsound) tables ≡ false
+  none-unsound = some-all (λ t. someIn l t Unsound) tables (λ t h. none-in t Unsound h (plain-sound t))
+
   pub bands-lengthy : someIn l bands NotLengthy ≡ false
   bands-lengthy = none-in bands NotLengthy (omega arith) (λ r. plain-lengthy bands r (unfold longOf in refl))
 
@@ -101,19 +104,3 @@ module _ (l : List ℕ) (smooth : isRough l ≡ false) where
 
   pub segments-limited : someIn l segments NoLimit ≡ false
   segments-limited = none-in segments NoLimit (omega arith) plain-limited
-
-  -- the records of the first t tables, one after the other
-  sound-before : (t : ℕ) → t ≤ tables → (i : ℕ) → i < recordsBefore l t → asksAt l generalSize Unsound i ≡ false
-  unfolding recordsBefore
-  sound-before zero h i k = absurd (omega arith)
-  sound-before (suc t) h i k = go (sound-before t (omega arith) i) (decLe (suc i) (recordsBefore l t))
-    where
-      go : (i < recordsBefore l t → asksAt l generalSize Unsound i ≡ false) → Dec (suc i ≤ recordsBefore l t) → asksAt l generalSize Unsound i ≡ false
-      go before (yes e) = before e
-      go before (no e) =
-          let p : generalSize + recordSize * recordsBefore l t + recordSize * (i - recordsBefore l t) ≡ generalSize + recordSize * i = omega arith in
-          subst (λ (n : ℕ). asks Unsound (recordAt l n) ≡ false) p
-          (plain-sound t (recordOf l t (i - recordsBefore l t)) (plain-at t (i - recordsBefore l t) (omega arith) (omega arith)))
-
-  pub none-unsound : some (asksAt l generalSize Unsound) (recordsBefore l tables) ≡ false
-  none-unsound = some-all (asksAt l generalSize Unsound) (recordsBefore l tables) (sound-before tables (omega arith))

@@ -1,6 +1,6 @@
 -- With room for all, rows that were offered one after the other stand in their order, and the bytes past them as they were; and rows are
 -- read back from their bytes as they were written.
-use Prim.Native.Nat.{ℕ, suc, _+_, _*_, _-_, _/_, _≤_}
+use Prim.Native.Nat.{ℕ, zero, suc, _+_, _*_, _-_, _/_, _≤_}
 use mathlib.Core.Bool.{Bool, true, false, cond}
 use mathlib.Core.List.{List, [], _∷_, _++_, append-assoc}
 use mathlib.Core.Path.{_≡_, refl, sym, ap, _∙_}
@@ -8,7 +8,7 @@ use native.Mathlib.Omega.{arith}
 use lib.Dec.{T}
 use lib.ListN.{length, take, drop, set, length-append, length-drop}
 use lib.Seq.{sets, sets-eq, drop-drop, drop-at, take-at, drop-append-add, length-take-le}
-use lib.Ieee.{Float, binary64, fits, toBits}
+use lib.Ieee.{Float, binary64, fits, isNan, toBits}
 use lib.Ieee.Bits.{ofBits-toBits, toBits-lt}
 use borrow.Author.Tests.{lt-ltb}
 use Rattle.figures.specs.Figure.{totalLess, figureOf}
@@ -18,6 +18,7 @@ use Rattle.rows.specs.Held.{placeAt, insertFrom, insertAt, offerAt}
 use Rattle.rows.specs.Turns.{u64-drop, length-little, length-row}
 use Rattle.rows.specs.Each.{Every}
 use Rattle.rows.specs.Pour.{pour, u64-little}
+use Rattle.rows.specs.Total.{below-one-way, below-trans}
 use Rattle.rows.specs.declared.SafeDial.{SafeDial}
 
 -- ---- a figure, read back
@@ -61,13 +62,79 @@ low-back x t h =
 
 -- ---- a row put in its place
 
--- a lower dial is a figure that a double holds
-abbrev pub LowFits : SafeDial → Type 0
-LowFits x = T (fits binary64 (x .«dial_low_hz»))
+-- a lower dial is a number that a double holds
+abbrev pub LowNumber : SafeDial → Type 0
+LowNumber x = T (fits binary64 (x .«dial_low_hz»)) × (isNan (x .«dial_low_hz») ≡ false)
 
 pub opened : (x : SafeDial) (ys : List SafeDial) → encodeAll (x ∷ ys) ≡ encodeRow x ++ encodeAll ys
 unfolding encodeAll
 opened x ys = refl
+
+-- no row lies below the one before it
+abbrev After : SafeDial → List SafeDial → Type 0
+After x [] = Unit
+After x (y ∷ ys) = totalLess (y .«dial_low_hz») (x .«dial_low_hz») ≡ false
+
+abbrev Rising : List SafeDial → Type 0
+Rising [] = Unit
+Rising (x ∷ xs) = After x xs × Rising xs
+
+-- a place among n rows, and one row before them that is asked where all n lie above
+abbrev behind : Bool → ℕ → ℕ
+behind b zero = cond b 0 1
+behind b (suc p) = suc (suc p)
+
+behind-false : (p : ℕ) → behind false p ≡ suc p
+behind-false zero = refl
+behind-false (suc p) = refl
+
+place-front : (key : Float) (n : ℕ) (l : List ℕ) → placeAt key (suc n) l ≡ behind (totalLess key (lowAt l 0)) (placeAt key n (drop rowSize l))
+unfolding placeAt
+place-front key zero l = refl
+place-front key (suc n) l =
+    ap (λ (b : Bool). cond b (placeAt key (suc n) l) (suc (suc n))) same
+    ∙ go (totalLess key (lowAt (drop rowSize l) (n * rowSize))) (place-front key n l)
+  where
+    same : totalLess key (lowAt l (suc n * rowSize)) ≡ totalLess key (lowAt (drop rowSize l) (n * rowSize))
+    same =
+        let e : suc n * rowSize + 16 ≡ rowSize + (n * rowSize + 16) = omega arith in
+        ap (λ (i : ℕ). totalLess key (figureOf (u64At l i))) e
+        ∙ ap (λ (v : ℕ). totalLess key (figureOf v)) (sym (u64-drop l rowSize (n * rowSize + 16)))
+
+    go :
+        (b : Bool) → placeAt key (suc n) l ≡ behind (totalLess key (lowAt l 0)) (placeAt key n (drop rowSize l))
+        → cond b (placeAt key (suc n) l) (suc (suc n)) ≡ behind (totalLess key (lowAt l 0)) (cond b (placeAt key n (drop rowSize l)) (suc n))
+    go true e = e
+    go false e = refl
+
+module _ (y : SafeDial) (ys : List SafeDial) (rest : List ℕ) where
+  bytes : encodeAll (y ∷ ys) ++ rest ≡ encodeRow y ++ (encodeAll ys ++ rest)
+  bytes = ap (λ (m : List ℕ). m ++ rest) (opened y ys) ∙ append-assoc (encodeRow y) (encodeAll ys) rest
+
+  place-more :
+      (key : Float) → LowNumber y
+      → placeAt key (suc (length ys)) (encodeAll (y ∷ ys) ++ rest)
+      ≡ behind (totalLess key (y .«dial_low_hz»)) (placeAt key (length ys) (encodeAll ys ++ rest))
+  place-more key f =
+      let low : lowAt (encodeAll (y ∷ ys) ++ rest) 0 ≡ y .«dial_low_hz» = rw bytes (low-back y (encodeAll ys ++ rest) (f .0)) in
+      let next : drop rowSize (encodeAll (y ∷ ys) ++ rest) ≡ encodeAll ys ++ rest =
+      rw bytes (drop-at (encodeRow y) (encodeAll ys ++ rest) rowSize (length-row y)) in
+      place-front key (length ys) (encodeAll (y ∷ ys) ++ rest)
+      ∙ ap (λ (d : Float). behind (totalLess key d) (placeAt key (length ys) (drop rowSize (encodeAll (y ∷ ys) ++ rest)))) low
+      ∙ ap (λ (m : List ℕ). behind (totalLess key (y .«dial_low_hz»)) (placeAt key (length ys) m)) next
+
+-- Among rows that rise, all those after one that lies above a row lie above it.
+all-above :
+    (x y : SafeDial) (ys : List SafeDial) (rest : List ℕ) → LowNumber x → Every LowNumber (y ∷ ys) → Rising (y ∷ ys)
+    → totalLess (x .«dial_low_hz») (y .«dial_low_hz») ≡ true → placeAt (x .«dial_low_hz») (length ys) (encodeAll ys ++ rest) ≡ 0
+unfolding placeAt
+all-above x y [] rest g f r e = refl
+all-above x y (z ∷ zs) rest g f r e =
+    let t : totalLess (x .«dial_low_hz») (z .«dial_low_hz») ≡ true =
+    below-trans (x .«dial_low_hz») (y .«dial_low_hz») (z .«dial_low_hz») (g .1) (f .0 .1) (f .1 .0 .1) e (r .0) in
+    place-more z zs rest (x .«dial_low_hz») (f .1 .0)
+    ∙ ap (λ (b : Bool). behind b (placeAt (x .«dial_low_hz») (length zs) (encodeAll zs ++ rest))) t
+    ∙ ap (behind true) (all-above x z zs rest g (f .1) (r .1) t)
 
 -- where a row goes among others: after some, before the rest
 record Split (x : SafeDial) (held : List SafeDial) (rest : List ℕ) : Type 0 where
@@ -77,21 +144,12 @@ record Split (x : SafeDial) (held : List SafeDial) (rest : List ℕ) : Type 0 wh
   placed : placeAt (x .«dial_low_hz») (length held) (encodeAll held ++ rest) ≡ length before
   put : insertRow x held ≡ before ++ (x ∷ after)
 
-split : (x : SafeDial) (held : List SafeDial) (rest : List ℕ) → Every LowFits held → Split x held rest
+-- Among rows that rise, the place that is found from the last one down is the one before the first that lies above.
+split : (x : SafeDial) (held : List SafeDial) (rest : List ℕ) → LowNumber x → Every LowNumber held → Rising held → Split x held rest
 unfolding placeAt insertRow
-split x [] rest f = record { before = []; after = []; whole = refl; placed = refl; put = refl }
-split x (y ∷ ys) rest f =
-    go (totalLess (x .«dial_low_hz») (y .«dial_low_hz»)) refl (split x ys rest (f .1))
+split x [] rest g f r = record { before = []; after = []; whole = refl; placed = refl; put = refl }
+split x (y ∷ ys) rest g f r = go (totalLess (x .«dial_low_hz») (y .«dial_low_hz»)) refl (split x ys rest g (f .1) (r .1))
   where
-    bytes : encodeAll (y ∷ ys) ++ rest ≡ encodeRow y ++ (encodeAll ys ++ rest)
-    bytes = ap (λ (m : List ℕ). m ++ rest) (opened y ys) ∙ append-assoc (encodeRow y) (encodeAll ys) rest
-
-    asked : lowAt (encodeAll (y ∷ ys) ++ rest) 0 ≡ y .«dial_low_hz»
-    asked = rw bytes (low-back y (encodeAll ys ++ rest) (f .0))
-
-    next : drop rowSize (encodeAll (y ∷ ys) ++ rest) ≡ encodeAll ys ++ rest
-    next = rw bytes (drop-at (encodeRow y) (encodeAll ys ++ rest) rowSize (length-row y))
-
     go :
         (b : Bool) → totalLess (x .«dial_low_hz») (y .«dial_low_hz») ≡ b → Split x ys rest
         → Split x (y ∷ ys) rest
@@ -100,7 +158,10 @@ split x (y ∷ ys) rest f =
           before = [];
           after = y ∷ ys;
           whole = refl;
-          placed = rw asked (rw e);
+          placed =
+              place-more y ys rest (x .«dial_low_hz») (f .0)
+              ∙ ap (λ (b : Bool). behind b (placeAt (x .«dial_low_hz») (length ys) (encodeAll ys ++ rest))) e
+              ∙ ap (behind true) (all-above x y ys rest g f r e);
           put = rw e;
         }
     go false e s =
@@ -108,9 +169,35 @@ split x (y ∷ ys) rest f =
           before = y ∷ s .before;
           after = s .after;
           whole = ap (λ (m : List SafeDial). y ∷ m) (s .whole);
-          placed = rw asked (rw e (rw next (ap suc (s .placed))));
+          placed =
+              place-more y ys rest (x .«dial_low_hz») (f .0)
+              ∙ ap (λ (b : Bool). behind b (placeAt (x .«dial_low_hz») (length ys) (encodeAll ys ++ rest))) e
+              ∙ ap (behind false) (s .placed)
+              ∙ behind-false (length (s .before));
           put = rw e (ap (λ (m : List SafeDial). y ∷ m) (s .put));
         }
+
+after-insert :
+    (x y : SafeDial) (ys : List SafeDial) → totalLess (x .«dial_low_hz») (y .«dial_low_hz») ≡ false → After y ys → After y (insertRow x ys)
+unfolding insertRow
+after-insert x y [] e a = e
+after-insert x y (z ∷ zs) e a = go (totalLess (x .«dial_low_hz») (z .«dial_low_hz»))
+  where
+    go : (b : Bool) → After y (cond b (x ∷ (z ∷ zs)) (z ∷ insertRow x zs))
+    go true = e
+    go false = a
+
+-- A row put in its place keeps the rows rising.
+rising-insert : (x : SafeDial) (held : List SafeDial) → LowNumber x → Every LowNumber held → Rising held → Rising (insertRow x held)
+unfolding insertRow
+rising-insert x [] g f r = (tt, tt)
+rising-insert x (y ∷ ys) g f r = go (totalLess (x .«dial_low_hz») (y .«dial_low_hz»)) refl (rising-insert x ys g (f .1) (r .1))
+  where
+    go :
+        (b : Bool) → totalLess (x .«dial_low_hz») (y .«dial_low_hz») ≡ b → Rising (insertRow x ys)
+        → Rising (cond b (x ∷ (y ∷ ys)) (y ∷ insertRow x ys))
+    go true e i = (below-one-way (x .«dial_low_hz») (y .«dial_low_hz») (g .1) (f .0 .1) e, r)
+    go false e i = (after-insert x y ys e (r .0), i)
 
 encode-append : (xs ys : List SafeDial) → encodeAll (xs ++ ys) ≡ encodeAll xs ++ encodeAll ys
 unfolding encodeAll
@@ -164,10 +251,10 @@ gap a b c v hv hc =
     ∙ ap (λ (m : List ℕ). a ++ m) (gap-front b c v hv hc)
 
 insert-held :
-    (x : SafeDial) (held : List SafeDial) (rest : List ℕ) → Every LowFits held → rowSize ≤ length rest
+    (x : SafeDial) (held : List SafeDial) (rest : List ℕ) → LowNumber x → Every LowNumber held → Rising held → rowSize ≤ length rest
     → insertAt x (length held) (encodeAll held ++ rest) ≡ encodeAll (insertRow x held) ++ drop rowSize rest
 unfolding insertAt insertFrom
-insert-held x held rest f h = go (split x held rest f)
+insert-held x held rest g f r h = go (split x held rest g f r)
   where
     go : Split x held rest → insertAt x (length held) (encodeAll held ++ rest) ≡ encodeAll (insertRow x held) ++ drop rowSize rest
     go s =
@@ -212,30 +299,30 @@ length-insert x (y ∷ ys) = go (totalLess (x .«dial_low_hz») (y .«dial_low_h
     go false r = ap suc r
 
 offer-held :
-    (x : SafeDial) (held : List SafeDial) (rest : List ℕ) → Every LowFits held → rowSize ≤ length rest
+    (x : SafeDial) (held : List SafeDial) (rest : List ℕ) → LowNumber x → Every LowNumber held → Rising held → rowSize ≤ length rest
     → offerAt x (length held) (encodeAll held ++ rest) ≡ encodeAll (insertRow x held) ++ drop rowSize rest
 unfolding offerAt
-offer-held x held rest f h =
+offer-held x held rest g f r h =
     let a : length (encodeAll held ++ rest) ≡ length (encodeAll held) + length rest = length-append (encodeAll held) rest in
     let b : length (encodeAll held) ≡ length held * rowSize = length-encode held in
-    rw (lt-ltb (length held) (length (encodeAll held ++ rest) / rowSize) (omega arith)) (insert-held x held rest f h)
+    rw (lt-ltb (length held) (length (encodeAll held ++ rest) / rowSize) (omega arith)) (insert-held x held rest g f r h)
 
 pour-held :
-    (ys held : List SafeDial) (rest : List ℕ) → Every LowFits held → Every LowFits ys → length ys * rowSize ≤ length rest
+    (ys held : List SafeDial) (rest : List ℕ) → Every LowNumber held → Rising held → Every LowNumber ys → length ys * rowSize ≤ length rest
     → pour (encodeAll held ++ rest) (length held) ys ≡ encodeAll (insertAll held ys) ++ drop (length ys * rowSize) rest
 unfolding pour insertAll
-pour-held [] held rest f g h = refl
-pour-held (y ∷ ys) held rest f g h =
+pour-held [] held rest f r g h = refl
+pour-held (y ∷ ys) held rest f r g h =
     let n : suc (length ys) * rowSize ≡ rowSize + length ys * rowSize = omega arith in
     let d : length (drop rowSize rest) ≡ length rest - rowSize = length-drop rowSize rest in
-    ap (λ (m : List ℕ). pour m (suc (length held)) ys) (offer-held y held rest f (omega arith))
+    ap (λ (m : List ℕ). pour m (suc (length held)) ys) (offer-held y held rest (g .0) f r (omega arith))
     ∙ ap (λ (k : ℕ). pour (encodeAll (insertRow y held) ++ drop rowSize rest) k ys) (sym (length-insert y held))
-    ∙ pour-held ys (insertRow y held) (drop rowSize rest) (every-insert LowFits y held (g .0) f) (g .1) (omega arith)
+    ∙ pour-held ys (insertRow y held) (drop rowSize rest) (every-insert LowNumber y held (g .0) f) (rising-insert y held (g .0) f r) (g .1) (omega arith)
     ∙ ap (λ (m : List ℕ). encodeAll (insertAll (insertRow y held) ys) ++ m) (drop-drop (length ys * rowSize) rowSize rest ∙ ap (λ (k : ℕ). drop k rest) (sym n))
 
 -- Rows that all have room: they stand first, in their order, and every byte after them is as it was.
 pub pour-all :
-    (l : List ℕ) (xs : List SafeDial) → Every LowFits xs → length xs * rowSize ≤ length l
+    (l : List ℕ) (xs : List SafeDial) → Every LowNumber xs → length xs * rowSize ≤ length l
     → pour l 0 xs ≡ encodeAll (sorted xs) ++ drop (length xs * rowSize) l
 unfolding encodeAll
-pour-all l xs f h = pour-held xs [] l tt f h
+pour-all l xs f h = pour-held xs [] l tt tt f h

@@ -10,10 +10,10 @@ use Rattle.figures.specs.Figure.{totalLess}
 use Rattle.rows.specs.Rows.{rowSize, lowAt, encodeRow}
 use Rattle.rows.specs.declared.SafeDial.{SafeDial}
 
--- the place of a lower dial among the first rows
+-- the place of a lower dial among the first rows, looked for from the last one down: after the first that does not lie above it
 unfoldable pub placeAt : Float → ℕ → List ℕ → ℕ
 placeAt key zero l = 0
-placeAt key (suc n) l = cond (totalLess key (lowAt l 0)) 0 (suc (placeAt key n (drop rowSize l)))
+placeAt key (suc n) l = cond (totalLess key (lowAt l (n * rowSize))) (placeAt key n l) (suc n)
 
 -- the bytes from a place up to the end of the first n rows, moved up by a row, and the row put into the gap
 unfoldable pub insertFrom : SafeDial → ℕ → ℕ → List ℕ → List ℕ

@@ -1,3 +1,4 @@
+pub mod Total
 pub mod Rows
 pub mod Held
 pub mod Turns

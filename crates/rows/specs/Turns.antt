@@ -6,9 +6,9 @@ use mathlib.Core.Path.{_≡_, refl, sym, ap, _∙_}
 use native.Mathlib.Omega.{arith}
 use native.Mathlib.Nat.{add-assoc}
 use lib.ListN.{length, getD, take, drop, set, length-set, length-append}
-use lib.Seq.{sets, set-comm, getD-set-other, getD-drop, drop-cons, drop-drop}
+use lib.Seq.{sets, set-comm, getD-set-other, getD-drop, drop-cons}
 use lib.Ieee.{Float}
-use Rattle.figures.specs.Figure.{totalLess, figureOf}
+use Rattle.figures.specs.Figure.{totalLess}
 use Rattle.layout.specs.Bytes.{u16At, u32At, u64At}
 use Rattle.rows.specs.Rows.{rowSize, little, figureBytes, figuresOf, encodeRow, lowAt}
 use Rattle.rows.specs.declared.SafeDial.{SafeDial}
@@ -119,55 +119,42 @@ pub u64-drop : (l : List ℕ) (m k : ℕ) → u64At (drop m l) k ≡ u64At l (m 
 unfolding u64At
 u64-drop l m k = rw (u32-drop l m k, u32-drop l m (k + 4), add-assoc m k 4)
 
-pub record Placing (key : Float) (n : ℕ) (l : List ℕ) (i : ℕ) : Type 0 where
-  pub within : i ≤ n
-  pub rest : placeAt key n l ≡ i + placeAt key (n - i) (drop (i * rowSize) l)
+pub record Placing (key : Float) (n : ℕ) (l : List ℕ) (k : ℕ) : Type 0 where
+  pub within : k ≤ n
+  pub left : placeAt key n l ≡ placeAt key k l
 
 module _ (key : Float) (n : ℕ) (l : List ℕ) where
-  pub place-none : Placing key n l 0
-  place-none =
-      let a : n - 0 ≡ n = omega arith in
-      let b : (m : ℕ) → 0 + m ≡ m = λ m. omega arith in
-      record { within = omega arith; rest = rw a (sym (b (placeAt key n l))) }
+  pub place-none : Placing key n l n
+  place-none = record { within = omega arith; left = refl }
 
-  -- the row at i, asked
-  turn :
-      (i : ℕ) → i < n
-      → placeAt key (n - i) (drop (i * rowSize) l)
-      ≡ cond (totalLess key (figureOf (u64At l (i * rowSize + 16)))) 0 (suc (placeAt key (n - (i + 1)) (drop ((i + 1) * rowSize) l)))
+  -- the row below k, asked
+  turn : (k : ℕ) → 0 < k → placeAt key k l ≡ cond (totalLess key (lowAt l ((k - 1) * rowSize))) (placeAt key (k - 1) l) k
   unfolding placeAt
-  turn i h =
-      let e : n - i ≡ suc (n - (i + 1)) = omega arith in
-      let f : (i + 1) * rowSize ≡ i * rowSize + rowSize = omega arith in
-      rw e (rw f (rw (u64-drop l (i * rowSize) 16, drop-drop rowSize (i * rowSize) l)))
+  turn zero h = absurd (omega arith)
+  turn (suc k) h = let e : suc k - 1 ≡ k = omega arith in rw e
 
-  pub place-here :
-      (i : ℕ) → i < n → Placing key n l i → totalLess key (figureOf (u64At l (i * rowSize + 16))) ≡ true → i ≡ placeAt key n l
-  place-here i h p e =
-      let t : placeAt key (n - i) (drop (i * rowSize) l) ≡ 0 =
-      turn i h ∙ ap (λ (b : Bool). cond b 0 (suc (placeAt key (n - (i + 1)) (drop ((i + 1) * rowSize) l)))) e in
-      omega (arith, p .rest)
+  pub place-here : (k : ℕ) → 0 < k → Placing key n l k → totalLess key (lowAt l ((k - 1) * rowSize)) ≡ false → k ≡ placeAt key n l
+  place-here k h p e = sym (p .left ∙ turn k h ∙ ap (λ (b : Bool). cond b (placeAt key (k - 1) l) k) e)
 
-  pub place-step :
-      (i : ℕ) → i < n → Placing key n l i → totalLess key (figureOf (u64At l (i * rowSize + 16))) ≡ false → Placing key n l (i + 1)
-  place-step i h p e =
-      let t : placeAt key (n - i) (drop (i * rowSize) l) ≡ suc (placeAt key (n - (i + 1)) (drop ((i + 1) * rowSize) l)) =
-      turn i h ∙ ap (λ (b : Bool). cond b 0 (suc (placeAt key (n - (i + 1)) (drop ((i + 1) * rowSize) l)))) e in
-      record { within = omega arith; rest = omega (arith, p .rest) }
+  pub place-step : (k : ℕ) → 0 < k → Placing key n l k → totalLess key (lowAt l ((k - 1) * rowSize)) ≡ true → Placing key n l (k - 1)
+  place-step k h p e =
+      record {
+        within = omega (arith, p .within);
+        left = p .left ∙ turn k h ∙ ap (λ (b : Bool). cond b (placeAt key (k - 1) l) k) e;
+      }
 
-  pub place-end : (i : ℕ) → n ≤ i → Placing key n l i → n ≡ placeAt key n l
+  pub place-end : (k : ℕ) → k ≤ 0 → Placing key n l k → k ≡ placeAt key n l
   unfolding placeAt
-  place-end i h p =
-      let e : n - i ≡ 0 = omega arith in
-      let t : placeAt key (n - i) (drop (i * rowSize) l) ≡ 0 = rw e in
-      omega (arith, p .rest, p .within)
+  place-end k h p =
+      let e : k ≡ 0 = omega arith in
+      rw e (sym (rw e at (p .left)))
 
 pub place-le : (key : Float) (n : ℕ) (l : List ℕ) → placeAt key n l ≤ n
 unfolding placeAt
 place-le key zero l = omega arith
-place-le key (suc n) l = go (totalLess key (lowAt l 0)) (place-le key n (drop rowSize l))
+place-le key (suc n) l = go (totalLess key (lowAt l (n * rowSize))) (place-le key n l)
   where
-    go : (b : Bool) → placeAt key n (drop rowSize l) ≤ n → cond b 0 (suc (placeAt key n (drop rowSize l))) ≤ suc n
+    go : (b : Bool) → placeAt key n l ≤ n → cond b (placeAt key n l) (suc n) ≤ suc n
     go true h = omega arith
     go false h = omega arith
 

@@ -88,19 +88,20 @@ pub fn band_at(rows: &[u8], at: usize) -> u8
     rows[at + 32]
 }
 
-// The place of a lower dial among the first count rows: before the first row that lies above it.
+// The place of a lower dial among the first count rows: after the last row that does not lie above it.
 fn place(rows: &[u8], count: usize, dial_low_hz: f64) -> usize
     requires { ⌜ count * 36 ≤ length (now rows) ⌝ }
     ensures { λ r. ⌜ r ≡ placeAt «dial_low_hz» count (now (rows .entry)) ⌝ }
 {
-    let mut i: usize = 0;
-    while i < count {
-        if figures::total_less(dial_low_hz, low_at(rows, i * ROW_SIZE)) {
-            return i;
+    let mut k = count;
+    while 0 < k {
+        let i = k - 1;
+        if !figures::total_less(dial_low_hz, low_at(rows, i * ROW_SIZE)) {
+            return k;
         }
-        i += 1;
+        k = i;
     }
-    count
+    k
 }
 
 // Moves the bytes between two places up by a row, the last first.

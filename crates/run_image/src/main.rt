@@ -1,7 +1,8 @@
 // A program of the gate: it builds the images that its input describes and writes what the check and the tidy question
-// answer of each. Input and output come from tools/reference/borders.py, which says what the bytes mean. It stops at
-// input that is malformed. It uses codes, layout, image and tidy.
+// answer of each, and where the table is wrong. Input and output come from tools/reference/borders.py, which says what
+// the bytes mean. It stops at input that is malformed. It uses codes, layout, image, tidy and fault.
 use codes::Checked;
+use fault::Fault;
 use tidy::Tidiness;
 
 // The largest image of the input.
@@ -109,6 +110,17 @@ fn tidy_number(t: Tidiness) -> u64 {
     }
 }
 
+// The place of a refusal: its number, and a record's table and index.
+fn print_fault(f: Fault) {
+    io::print_decimal(1, fault::fault_number(f) as u64);
+    if let Fault::InRecord(t, i) = f {
+        io::write_all(1, b" ");
+        io::print_decimal(1, t as u64);
+        io::write_all(1, b" ");
+        io::print_decimal(1, i as u64);
+    }
+}
+
 // The line of a case.
 fn report(number: u16, image: &[u8]) {
     io::print_decimal(1, number as u64);
@@ -116,6 +128,10 @@ fn report(number: u16, image: &[u8]) {
     io::print_decimal(1, checked_number(image::check(image)));
     io::write_all(1, b" tidy ");
     io::print_decimal(1, tidy_number(tidy::is_tidy(image)));
+    io::write_all(1, b" fault ");
+    let answer = fault::fault_of(image);
+    let f = answer.fault;
+    print_fault(f);
     io::write_all(1, b"\n");
 }
 

@@ -229,7 +229,8 @@ fn image_case(s: &[u8], at: usize, image: &[u8]) -> Told {
         return Told::Malformed;
     }
     let checked = pamuklid::pamuklid_check(image) == s[at];
-    let tidied = pamuklid::pamuklid_tidy(image) == s[at + 1];
+    let t = pamuklid::pamuklid_tidy(image);
+    let tidied = t.refusal == s[at] && t.tidy == s[at + 1];
     ended(checked && tidied, at + 2)
 }
 
@@ -275,6 +276,14 @@ fn figures_in(rungs: &mut [f64], b: &[u8]) {
     }
 }
 
+// Whether a rung is the one at a place: a mark, and its number.
+fn rung_is(rung: i32, b: &[u8], at: usize) -> bool {
+    if byte(b, at) == 0 {
+        return rung == -1;
+    }
+    rung == word(b, at + 1) as i32
+}
+
 // A ceiling against the one at a place.
 fn ceiling_told(c: FlatCeiling, s: &[u8], at: usize) -> Told {
     if s.len() < 5 {
@@ -285,7 +294,7 @@ fn ceiling_told(c: FlatCeiling, s: &[u8], at: usize) -> Told {
     }
     let end = at + 5;
     let b = &s[at..end];
-    let rung = c.rung_known == byte(b, 1) && c.rung == word(b, 2);
+    let rung = rung_is(c.rung, b, 1);
     let known = c.refusal == byte(b, 0) && c.limit_known == byte(b, 4);
     let limit = c.limit;
     match decided(limit, s, end) {
@@ -437,6 +446,21 @@ fn distance_case(s: &[u8], at: usize) -> Told {
     distance_told(answer, s, end)
 }
 
+// Where the table is wrong.
+fn fault_case(s: &[u8], at: usize, image: &[u8]) -> Told {
+    if s.len() < 5 {
+        return Told::Malformed;
+    }
+    if s.len() - 5 < at {
+        return Told::Malformed;
+    }
+    let end = at + 5;
+    let b = &s[at..end];
+    let f = pamuklid::pamuklid_fault_of(image);
+    let placed = f.refusal == byte(b, 0) && f.place == byte(b, 1);
+    ended(placed && (f.table == byte(b, 2) && f.record == word(b, 3)), end)
+}
+
 fn case(s: &[u8], at: usize, image: &[u8]) -> Told {
     if s.len() <= at {
         return Told::Malformed;
@@ -450,6 +474,7 @@ fn case(s: &[u8], at: usize, image: &[u8]) -> Told {
         3 => ceiling_case(s, from, image),
         4 => dials_case(s, from, image),
         5 => distance_case(s, from),
+        6 => fault_case(s, from, image),
         _ => Told::Malformed,
     }
 }

@@ -59,7 +59,7 @@ airOf (Known dial) (SidebandIs sideband) audio = Is (rfRangeOf dial sideband aud
 airOf (Known dial) SidebandAbsent audio = NoRange
 airOf Absent sideband audio = NoRange
 
--- the signal, before any test: "Audio edges and width are in every verdict; air edges whenever dial and sideband are known"
+-- the signal, before any test: its audio edges and width always, its edges on the air where dial and sideband are known
 unfoldable pub signalOf : Figure → SidebandSet → Range → Draft
 signalOf dial sideband audio =
     record {
@@ -160,7 +160,7 @@ evaluateOf r kind direction e l =
     unlessRefused (refusalOf (evaluateTests r kind direction e l))
     (decideOf l (situationOf r) (situationOf r .policy) (situationOf r .dial) (kindOf kind) (directionOf direction) (edgesRead e))
 
--- `unmeasured`: "the refusal of a transmission whose spectrum is not known", its edges taken as zero
+-- `unmeasured`: a signal whose spectrum is not known is blocked with code 4; its edges are taken as zero
 unfoldable pub unmeasuredOf : StationRecord → List ℕ → Decision
 unmeasuredOf r l =
     unlessRefused (refusalOf (entryTests r true l))

@@ -1,63 +1,75 @@
 -- `image::is_unsound` meets its contract: on each way to a return, the tests and what the calls ensure say which case of the definition holds.
-use Rattle.image.specs.Check.{unsound}
+use Rattle.image.specs.Check.{unsound, unsoundIn}
+use Prim.Native.Nat.{_-_}
+use Rattle.layout.specs.Layout.{tables}
+use Rattle.scan.specs.First.{Passed, passed-none, passed-step, some-here, some-none}
+use native.Mathlib.Omega.{arith}
 use borrow.Author.Needs.{needs}
 use Rattle.image.proofs.is_unsound.Statement.{statement}
 use Rattle.image.proofs.is_unsound.Tie as tie
 
-general-of-requires : tie.Need-general-of-requires
+abbrev Inv-loop : tie.InvT-loop
+Inv-loop s t₀ t = Passed (unsoundIn s) tables t
+
+abbrev μ-loop : tie.MeasureT-loop
+μ-loop s t₀ t = tables - t
+
+general-of-requires : tie.Need-general-of-requires Inv-loop μ-loop
 general-of-requires c κs = search needs
 
-sound-block-requires : tie.Need-sound-block-requires
+sound-block-requires : tie.Need-sound-block-requires Inv-loop μ-loop
 sound-block-requires c κs = search needs
 
-returns : tie.Need-returns
+returns : tie.Need-returns Inv-loop μ-loop
 unfolding unsound
 returns c =
     rw (← c .before .before .general-of .ensures)
     (rw (← c .before .sound-block .ensures) (rw (c .if1 .taken)))
 
-records-before-requires : tie.Need-records-before-requires
-records-before-requires c κs = search needs
+loop-holds : tie.Need-loop-holds Inv-loop μ-loop
+loop-holds c = passed-none _ _
 
-cast-count : tie.Need-cast-count
-cast-count c = search needs
+some-in-requires : tie.Need-some-in-requires Inv-loop μ-loop
+some-in-requires c κs = (c .before .before .before .before .before .before .pre, c .loop-test .taken)
 
-find-from-requires : tie.Need-find-from-requires
-find-from-requires c κs = search needs
-
-enum-told : tie.Need-enum-told
-enum-told c = search needs
-
-enum-told-2 : tie.Need-enum-told-2
-enum-told-2 c = search needs
-
-returns-2 : tie.Need-returns-2
+returns-2 : tie.Need-returns-2 Inv-loop μ-loop
 unfolding unsound
 returns-2 c =
     rw (← c .before .before .before .before .before .before .general-of .ensures)
     (rw (← c .before .before .before .before .before .sound-block .ensures)
     (rw (c .before .before .before .before .if1 .left)
-    (rw (← c .before .before .before .records-before .ensures) (rw (← c .before .before .find-from .ensures) (rw (c .enum-told .given .1))))))
+    (some-here _ _ _ (c .before .before .loop-test .taken) (c .before .before .before .loop .inv) (rw (← c .before .some-in .ensures) (c .if2 .taken)))))
 
-returns-3 : tie.Need-returns-3
+add-t : tie.Need-add-t Inv-loop μ-loop
+add-t c = omega arith
+
+loop-less : tie.Need-loop-less Inv-loop μ-loop
+loop-less c = omega arith
+
+loop-again : tie.Need-loop-again Inv-loop μ-loop
+loop-again c =
+    passed-step _ _ _ (c .before .before .loop-test .taken) (c .before .before .before .loop .inv) (rw (← c .before .some-in .ensures) (c .if2 .left))
+
+returns-3 : tie.Need-returns-3 Inv-loop μ-loop
 unfolding unsound
 returns-3 c =
-    rw (← c .before .before .before .before .before .before .general-of .ensures)
-    (rw (← c .before .before .before .before .before .sound-block .ensures)
-    (rw (c .before .before .before .before .if1 .left)
-    (rw (← c .before .before .before .records-before .ensures) (rw (← c .before .before .find-from .ensures) (rw (c .enum-told2 .given .1))))))
+    rw (← c .before .before .before .before .general-of .ensures)
+    (rw (← c .before .before .before .sound-block .ensures)
+    (rw (c .before .before .if1 .left) (some-none _ _ _ (c .loop-test .left) (c .before .loop .inv))))
 
 pub is-unsound-spec : {M : Type 1} → statement M
 is-unsound-spec =
     tie.close
     (tie.spec
+    Inv-loop
+    μ-loop
     general-of-requires
     sound-block-requires
     returns
-    records-before-requires
-    cast-count
-    find-from-requires
-    enum-told
-    enum-told-2
+    loop-holds
+    some-in-requires
     returns-2
+    add-t
+    loop-less
+    loop-again
     returns-3)
