@@ -26,12 +26,13 @@ where
 }
 
 fn policy() -> impl TypedValueParser<Value = Policy> {
-    let words = ["unset", "rules", "broken"].map(PossibleValue::new);
-    let none = PossibleValue::new("none").alias("no_rules");
-    PossibleValuesParser::new(words.into_iter().chain([none])).map(|word| match word.as_str() {
-        "none" => Policy::NoRules,
-        word => Policy::from_name(word).unwrap_or(Policy::NoRules),
-    })
+    let words = [
+        PossibleValue::new("unset"),
+        PossibleValue::new("none").alias("no_rules"),
+        PossibleValue::new("rules"),
+        PossibleValue::new("broken"),
+    ];
+    PossibleValuesParser::new(words).map(|word| Policy::from_name(&word).unwrap_or(Policy::NoRules))
 }
 
 fn direction() -> impl TypedValueParser<Value = Direction> {

@@ -164,6 +164,11 @@ pub fn bands(image: &[u8]) -> impl Iterator<Item = (f64, f64)> + '_ {
     })
 }
 
+/// Whether an accepted image has a band plan.
+pub fn has_plan(image: &[u8]) -> bool {
+    image.get(GENERAL_FLAGS).is_some_and(|flags| flags & 16 != 0)
+}
+
 /// The number of the channel band of an accepted image.
 pub fn channel_band(image: &[u8]) -> Option<u8> {
     let flags = *image.get(GENERAL_FLAGS)?;

@@ -1,6 +1,8 @@
 //! The dial list of a question, and what is to be remarked on it.
 
-use pamuklid::{evaluate, safe_dials, tidy, Code, Decision, DialList, DialRow, Hertz, Kind, Refusal, Station, ROW};
+use pamuklid::{
+    evaluate, safe_dials, tidy, Code, Decision, DialList, DialRow, Hertz, Kind, Policy, Refusal, Station, Table, ROW,
+};
 
 use crate::answer::Style;
 use crate::args::Asked;
@@ -149,9 +151,32 @@ fn edges(asked: &Asked) -> Option<String> {
     Some(format!("Edges are those of the audio, before the dial is added; {} is none that a radio sends.", Hertz(far)))
 }
 
+/// What was asked and is not judged here: the power off 60 m, the band plan.
+fn not_judged(asked: &Asked, decision: &Decision) -> Vec<String> {
+    let (image, station) = (&asked.table.image, &asked.station);
+    let sixty =
+        matches!(decision.code, Code::SixtyEmission | Code::SixtyOffChannel | Code::SixtyChannel | Code::SixtySegment);
+    let mut out = Vec::new();
+    if station.policy != Policy::Rules {
+        return out;
+    }
+    if station.power_w.is_some() && !sixty {
+        if image::count_of(image, Table::Power) == 0 {
+            out.push("The table has no power limits: the power is not judged off 60 m.".to_owned());
+        } else if asked.kind != Kind::Data {
+            out.push("Off 60 m the power is judged for data alone.".to_owned());
+        }
+    }
+    if station.band_plan && !image::has_plan(image) {
+        out.push("The table has no band plan: --plan changes nothing.".to_owned());
+    }
+    out
+}
+
 /// What a person should know besides the answer.
-pub fn remarks(asked: &Asked, listing: Option<&Listing>) -> Vec<String> {
+pub fn remarks(asked: &Asked, decision: Option<&Decision>, listing: Option<&Listing>) -> Vec<String> {
     let mut out: Vec<String> = unit(asked).into_iter().chain(edges(asked)).collect();
+    out.extend(decision.into_iter().flat_map(|decision| not_judged(asked, decision)));
     let Some(listing) = listing else { return out };
     let image = &asked.table.image;
     if tidy(image) == Ok(false) {

@@ -57,7 +57,7 @@ pub fn answer(args: &Args, style: Style) -> Result<Answer, Failure> {
         }
     };
     let status = Status::of(!listing.is_empty());
-    let remarks = remarks(&asked, Some(&listing));
+    let remarks = remarks(&asked, None, Some(&listing));
     text.push_str(&listing.text(style));
     text.push_str(&closing(&asked, &remarks, style));
     let json = Json {

@@ -156,7 +156,7 @@ pub fn answer(args: &Args, style: Style) -> Result<Answer, Failure> {
             }
         }
     }
-    let remarks = remarks(&asked, listing.as_ref());
+    let remarks = remarks(&asked, Some(&decision), listing.as_ref());
     text.push_str(&closing(&asked, &remarks, style));
     let json = Json {
         command: "judge",
