@@ -138,15 +138,37 @@ pub struct SignalArgs {
     pub direction: Option<Direction>,
 
     /// The audio edges in hertz, by power and by spectrum [default: 1250 1750]
-    #[arg(long, num_args = 2, value_names = ["LOW", "HIGH"], value_parser = figure, allow_negative_numbers = true, action = ArgAction::Set)]
+    #[arg(
+        long,
+        num_args = 2,
+        value_names = ["LOW", "HIGH"],
+        value_parser = figure,
+        allow_negative_numbers = true,
+        action = ArgAction::Set,
+    )]
     pub edges: Option<Vec<f64>>,
 
     /// The edges by power, where they are others
-    #[arg(long, num_args = 2, value_names = ["LOW", "HIGH"], value_parser = figure, allow_negative_numbers = true, action = ArgAction::Set)]
+    #[arg(
+        long,
+        num_args = 2,
+        value_names = ["LOW", "HIGH"],
+        value_parser = figure,
+        allow_negative_numbers = true,
+        action = ArgAction::Set,
+    )]
     pub power_edges: Option<Vec<f64>>,
 
     /// The edges by spectrum, where they are others
-    #[arg(long, visible_alias = "spectral-edges", num_args = 2, value_names = ["LOW", "HIGH"], value_parser = figure, allow_negative_numbers = true, action = ArgAction::Set)]
+    #[arg(
+        long,
+        visible_alias = "spectral-edges",
+        num_args = 2,
+        value_names = ["LOW", "HIGH"],
+        value_parser = figure,
+        allow_negative_numbers = true,
+        action = ArgAction::Set,
+    )]
     pub spectral: Option<Vec<f64>>,
 }
 

@@ -38,11 +38,26 @@ pub struct Args {
 #[command(next_help_heading = "The ceiling")]
 struct CeilingArgs {
     /// The audio edges of a rung; give it for each rung, the slowest first, up to 256
-    #[arg(long, num_args = 2, value_names = ["LOW", "HIGH"], value_parser = figure, allow_negative_numbers = true, action = ArgAction::Append)]
+    #[arg(
+        long,
+        num_args = 2,
+        value_names = ["LOW", "HIGH"],
+        value_parser = figure,
+        allow_negative_numbers = true,
+        action = ArgAction::Append,
+    )]
     rung: Option<Vec<f64>>,
 
     /// The audio edges of the control frames that go with the rungs [default: 1250 1750]
-    #[arg(long, num_args = 2, value_names = ["LOW", "HIGH"], value_parser = figure, allow_negative_numbers = true, action = ArgAction::Set, requires = "rung")]
+    #[arg(
+        long,
+        num_args = 2,
+        value_names = ["LOW", "HIGH"],
+        value_parser = figure,
+        allow_negative_numbers = true,
+        action = ArgAction::Set,
+        requires = "rung",
+    )]
     control_edges: Option<Vec<f64>>,
 }
 
