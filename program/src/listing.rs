@@ -173,11 +173,16 @@ fn not_judged(asked: &Asked, decision: &Decision) -> Vec<String> {
     out
 }
 
-/// What a person should know besides the answer.
-pub fn remarks(asked: &Asked, decision: Option<&Decision>, listing: Option<&Listing>) -> Vec<String> {
+/// What a person should know of the question: figures that look mistaken, and what is not judged.
+pub fn remarks(asked: &Asked, decision: Option<&Decision>) -> Vec<String> {
     let mut out: Vec<String> = unit(asked).into_iter().chain(edges(asked)).collect();
     out.extend(decision.into_iter().flat_map(|decision| not_judged(asked, decision)));
-    let Some(listing) = listing else { return out };
+    out
+}
+
+/// What a person should know of a list.
+pub fn list_remarks(asked: &Asked, listing: &Listing) -> Vec<String> {
+    let mut out = Vec::new();
     let image = &asked.table.image;
     if tidy(image) == Ok(false) {
         out.push(
@@ -196,9 +201,14 @@ pub fn remarks(asked: &Asked, decision: Option<&Decision>, listing: Option<&List
     out
 }
 
+/// Remarks, a line each.
+pub fn notes(remarks: &[String], style: Style) -> String {
+    remarks.iter().map(|remark| format!("{} {remark}\n", style.warning("Note:"))).collect()
+}
+
 /// The end of an answer: the remarks, and what was not given.
 pub fn closing(asked: &Asked, remarks: &[String], style: Style) -> String {
-    let mut out: String = remarks.iter().map(|remark| format!("{} {remark}\n", style.warning("Note:"))).collect();
+    let mut out = notes(remarks, style);
     out.push_str(&words::assumed(asked));
     match out.is_empty() {
         true => out,

@@ -6,7 +6,7 @@ use crate::answer::{Answer, Failure, Status, Style};
 use crate::args::{Asked, SignalArgs, StationArgs, TableArgs};
 use crate::commands::judge::fault;
 use crate::json::{Question, RefusalJson, RowJson};
-use crate::listing::{closing, list, remarks};
+use crate::listing::{closing, list, list_remarks, notes, remarks};
 use crate::words;
 
 /// Lists the dials at which data may be sent
@@ -57,9 +57,12 @@ pub fn answer(args: &Args, style: Style) -> Result<Answer, Failure> {
         }
     };
     let status = Status::of(!listing.is_empty());
-    let remarks = remarks(&asked, None, Some(&listing));
+    let mut remarks = remarks(&asked, None);
+    text.push_str(&notes(&remarks, style));
+    let on_list = list_remarks(&asked, &listing);
     text.push_str(&listing.text(style));
-    text.push_str(&closing(&asked, &remarks, style));
+    text.push_str(&closing(&asked, &on_list, style));
+    remarks.extend(on_list);
     let json = Json {
         command: "dials",
         status: status as u8,

@@ -84,7 +84,7 @@ pub fn answer(args: &Args, style: Style) -> Result<Answer, Failure> {
         _ => None,
     };
     let status = Status::of(distance_hz == Some(0.0));
-    let mut remarks = remarks(&asked, None, None);
+    let mut remarks = remarks(&asked, None);
     if decision.allowed() != (distance_hz == Some(0.0)) {
         remarks.push("The verdict is another than the list's: go by the verdict (docs/DIFFERENCES.md).".to_owned());
     }

@@ -8,7 +8,7 @@ use crate::answer::{Answer, Failure, Status, Style};
 use crate::args::{in_order, Asked, KindArgs, SignalArgs, StationArgs, TableArgs, VerdictArgs, PRACTICE_EDGES};
 use crate::image::{self, Field};
 use crate::json::{CeilingJson, DecisionJson, Question, RangeJson, RefusalJson, RowJson};
-use crate::listing::{closing, list, remarks, Listing};
+use crate::listing::{closing, list, list_remarks, notes, remarks, Listing};
 use crate::text::figure;
 use crate::words;
 
@@ -128,6 +128,8 @@ pub fn answer(args: &Args, style: Style) -> Result<Answer, Failure> {
     };
     let mut status = Status::of(decision.allowed());
     text.push_str(&words::decision(&decision, asked.station.margin_hz, style));
+    let mut remarks = remarks(&asked, Some(&decision));
+    text.push_str(&notes(&remarks, style));
 
     let climbed = rungs.map(|Rungs { rungs, control }| {
         let edges: Vec<Edges> = rungs.iter().map(|rung| Edges::both(rung[0], rung[1])).collect();
@@ -171,8 +173,9 @@ pub fn answer(args: &Args, style: Style) -> Result<Answer, Failure> {
             }
         }
     }
-    let remarks = remarks(&asked, Some(&decision), listing.as_ref());
-    text.push_str(&closing(&asked, &remarks, style));
+    let on_list = listing.as_ref().map_or_else(Vec::new, |listing| list_remarks(&asked, listing));
+    text.push_str(&closing(&asked, &on_list, style));
+    remarks.extend(on_list);
     let json = Json {
         command: "judge",
         status: status as u8,
