@@ -271,7 +271,7 @@ fn ceilings(s: &Subject, rounds: usize) -> (f64, f64) {
     let ours = || ffi::ceiling(c.station, 0, control, &s.image, &rungs, &floors);
     let theirs = || s.policy.ceiling(&c.situation, &air, Direction::Originate, &|_| false);
     let (a, b) = (ours(), theirs());
-    let rung = if a.rung_known == 1 { Some(a.rung as usize) } else { None };
+    let rung = usize::try_from(a.rung).ok();
     if a.refusal != 0 || rung != b.rung || rung != Some(RUNGS - 1) {
         differ(&format!("{}: rung {rung:?}, {:?}", s.name, b.rung));
     }

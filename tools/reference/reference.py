@@ -1,8 +1,8 @@
 """A reference for the table image and the station record, written from the papers alone.
 
 It is written for reading, not for speed, and owes nothing to the Rattle code: every function's
-comment quotes the sentence of document 01 that it turns into Python. "READINGS" marks a sentence
-of READINGS.md, "DECISION" one of the team's decisions on an open point.
+comment quotes the sentence of document 01 that it turns into Python. "READING" marks how a sentence
+of it is read, "DECISION" a decision on an open point (docs/DECISIONS.md).
 
     check_image(image)    0 if the image is accepted, else the first refusal, 1 to 14
     place_of(image)       where that refusal is met
@@ -161,7 +161,7 @@ def general_codes_right(general):
     a field of elsewhere, 2 channels, 3 60 m emissions, 4 plan)"; "44 sideband (0 upper,
     1 lower)"; "Emission bits: 0 data, 1 cw, 2 test, 3 nothing".
 
-    READINGS: "Region and band bytes have no values to be outside of". Rules are any u16: "Rules
+    READING: "Region and band bytes have no values to be outside of". Rules are any u16: "Rules
     0 to 6 mean [...]; others come from the trustee's text list"."""
     if general[41] > 2:
         return False
@@ -228,7 +228,7 @@ def record_codes_right(table, record):
     """The coded bytes of a record.
 
     "Classes: 0 Novice, 1 Technician, 2 General, 3 Advanced, 4 Extra. Emission bits: 0 data, 1 cw,
-    2 test, 3 nothing." READINGS: "Emission bits above 3, class bits above 4 and flag bits without
+    2 test, 3 nothing." READING: "Emission bits above 3, class bits above 4 and flag bits without
     a meaning are values outside." """
     if table == SEGMENTS:
         return record[27] <= 0b11
@@ -241,7 +241,7 @@ def record_codes_right(table, record):
 
 def unused_are_zero(data, used):
     """"Unused bytes and fields of absent parts are zero". All eight bytes of an unused figure,
-    so a negative zero there is not zero (READINGS: "a NaN or a negative zero in an unused figure
+    so a negative zero there is not zero (READING: "a NaN or a negative zero in an unused figure
     is 5")."""
     return all(data[i] == 0 for i in range(len(data)) if i not in used)
 
@@ -344,7 +344,7 @@ def holds(record, lo, hi):
 
 
 def refusal_12(image):
-    """"12 a segment in no band". READINGS: "12 asks only that some band holds the segment, of
+    """"12 a segment in no band". READING: "12 asks only that some band holds the segment, of
     whatever number"."""
     tables = table_records(image)
     return any(not any(holds(band, low(segment), high(segment)) for band in tables[BANDS])
@@ -369,7 +369,7 @@ IMAGE_CHECKS = [refusal_1, refusal_2, refusal_3, refusal_4, refusal_5, refusal_6
 def check_image(image):
     """"Order: 20, 21, 22, 1 to 14, 15, 16, 23." 0 if none of 1 to 14 is met, else the first.
 
-    READINGS: "Each check is made over the whole input before the next begins". DECISION: the
+    READING: "Each check is made over the whole input before the next begins". DECISION: the
     check knows no policy, so an empty image meets 1 and not 22."""
     for number, met in enumerate(IMAGE_CHECKS, start=1):
         if met(image):
@@ -491,7 +491,7 @@ def station_codes_right(station, direction, kind):
     Dial and power have a presence byte 0 or 1".
 
     The licence is a class number: "0 Novice [...] 4 Extra". Kinds are bit numbers: "0 data, 1 cw,
-    2 test, 3 nothing". The region is any byte. READINGS: direction and kind meet 20 too, and
+    2 test, 3 nothing". The region is any byte. READING: direction and kind meet 20 too, and
     "they have no absent code"."""
     return (station["policy"] in (0, 1, 2, 3)
             and station["control"] in (0, 1, 2, ABSENT)

@@ -8,14 +8,14 @@ use native.Mathlib.Omega.{arith}
 use native.Mathlib.Decide.{decLe}
 use native.Mathlib.Nat.{zero-add}
 use lib.Dec.{eqb}
-use Rattle.layout.specs.Layout.{privileges, recordOf, countOf, startOf}
+use Rattle.layout.specs.Layout.{privileges, recordAt, recordOf, countOf, startOf}
 use Rattle.layout.specs.declared.Record.{Record}
 use Rattle.profile.specs.Range.{intersectOf}
 use Rattle.profile.specs.Limit.{allowsOf}
 use Rattle.profile.specs.declared.Shared.{Shared}
 use Rattle.profile.specs.declared.Shared.the-variants.{Nothing}
 use Rattle.codes.specs.declared.EmissionKind.the-variants.{Data}
-use Rattle.table.specs.Parts.{privilegeOf}
+use Rattle.table.specs.Parts.{segmentOf, privilegeOf}
 use Rattle.table.specs.declared.Segment.{Segment}
 use Rattle.table.specs.declared.Privilege.{Privilege}
 use Rattle.rows.specs.Each.{each, each-none, each-more}
@@ -43,6 +43,10 @@ pub record Kept (l : List ℕ) (class start first end : ℕ) : Type 0 where
   pub placed : start ≡ startOf l privileges
   pub ahead : Ahead l class first
   pub past : Past l class end
+
+-- the rows of a segment's record under the privilege that begins at a place
+abbrev pub pairRows : List ℕ → Request → Record → ℕ → List SafeDial
+pairRows l q r at = privilegeRows l q (segmentOf r) (privilegeOf (recordAt l at))
 
 -- ---- the two searches
 

@@ -1,12 +1,12 @@
 -- How many rows there can be, that their dials are figures of a double and the lower one a number, and the request and its flags by cases.
 use Prim.Native.Nat.{ℕ, _*_, _≤_}
-use mathlib.Core.Bool.{Bool, true, false, not, cond, _&&_, _||_, false≢true}
+use mathlib.Core.Bool.{Bool, true, false, not, cond, _&&_, _||_}
 use mathlib.Core.List.{List, [], _∷_, _++_}
 use mathlib.Core.Path.{_≡_, refl, ap}
 use native.Mathlib.Omega.{arith}
 use lib.Dec.{T}
 use lib.ListN.{length}
-use lib.Ieee.{Float, nan, inf, fin, binary64, fits, isNan, add, sub, lt, le, eq}
+use lib.Ieee.{Float, nan, inf, fin, binary64, fits, isNan, add, sub, le}
 use lib.Ieee.Fits.{add-fits, sub-fits}
 use Rattle.codes.specs.Code.{classCode}
 use Rattle.codes.specs.declared.LicenseClass.{LicenseClass}
@@ -37,6 +37,7 @@ use Rattle.rows.specs.Each.{each, each-few, Every, every-append, every-each, ev
 use Rattle.rows.specs.Back.{LowNumber}
 use Rattle.rows.specs.declared.SafeDial.{SafeDial}
 use Rattle.dial_rows.specs.Dials.{requestOf, dialRows, pieceRows, onShared, automaticAt, automaticRows, cut, cutRows, mayUse, privilegeRows, privilegeAt, tooWide, excludedBand, privilegesRows, segmentRows, segmentAt, dataRows, channelDial, channelHolds, channelSafe, channelRow, channelAt, channelsOpen, channelFound, channelRows, openRows, bandRows, rowsOf}
+use Rattle.dial_rows.specs.Apart.{le-number}
 use Rattle.dial_rows.specs.declared.Request.{Request}
 
 -- ---- how many rows
@@ -126,13 +127,6 @@ pub ends-fit : (piece : Range) (s : Sideband) (audio : Range) (margin : Float) �
 ends-fit piece Usb audio margin = (add-fits binary64 (sub binary64 (piece .«low_hz») (audio .«low_hz»)) margin, sub-fits binary64 (sub binary64 (piece .«high_hz») (audio .«high_hz»)) margin)
 ends-fit piece Lsb audio margin = (add-fits binary64 (add binary64 (piece .«low_hz») (audio .«high_hz»)) margin, sub-fits binary64 (add binary64 (piece .«high_hz») (audio .«low_hz»)) margin)
 
--- what compares is a number
-le-number : (x y : Float) → le x y ≡ true → isNan x ≡ false
-unfolding le lt eq isNan
-le-number nan y e = absurd (false≢true e)
-le-number (inf s) y e = refl
-le-number (fin s m d) y e = refl
-
 dial-fit :
     (band rule : ℕ) (piece : Range) (ends : Range) (b : Bool) → RangeFits ends → (b ≡ true → isNan (ends .«low_hz») ≡ false)
     → Every DialsFit (dialRows band rule piece (cond b (Dials ends) NoDial))
@@ -145,7 +139,7 @@ piece-fit q band rule piece =
     dial-fit band rule piece (dialEndsOf piece (q .sideband) (q .audio) (q .«margin_hz»))
     (le (dialEndsOf piece (q .sideband) (q .audio) (q .«margin_hz») .«low_hz») (dialEndsOf piece (q .sideband) (q .audio) (q .«margin_hz») .«high_hz»))
     (ends-fit piece (q .sideband) (q .audio) (q .«margin_hz»))
-    (le-number (dialEndsOf piece (q .sideband) (q .audio) (q .«margin_hz») .«low_hz») (dialEndsOf piece (q .sideband) (q .audio) (q .«margin_hz») .«high_hz»))
+    (λ e. le-number (dialEndsOf piece (q .sideband) (q .audio) (q .«margin_hz») .«low_hz») _ e .0)
 
 shared-fit : (s : Shared) (f : Range → List SafeDial) → ((r : Range) → Every DialsFit (f r)) → Every DialsFit (onShared s f)
 shared-fit (Stretch piece) f h = h piece
@@ -185,19 +179,17 @@ one-fit : (b : Bool) (x : SafeDial) → (b ≡ true → DialsFit x) → Every Di
 one-fit true x h = (h refl, tt)
 one-fit false x h = tt
 
-le-nan : (x : Float) → le x nan ≡ false
-unfolding le lt eq
-le-nan nan = refl
-le-nan (inf s) = refl
-le-nan (fin s m d) = refl
+and-left : (a b : Bool) → (a && b) ≡ true → a ≡ true
+and-left true b e = refl
+and-left false b e = e
 
 -- at a dial that is no number the signal lies in no range
 held-number :
     (dial : Float) (s : Sideband) (audio : Range) (margin : Float) (r : Range)
     → holdsOf r (guardedOf margin (rfRangeOf dial s audio)) ≡ true → isNan dial ≡ false
 unfolding isNan add sub
-held-number nan Usb audio margin r e = absurd (false≢true (rw (le-nan (r .«low_hz»)) at e))
-held-number nan Lsb audio margin r e = absurd (false≢true (rw (le-nan (r .«low_hz»)) at e))
+held-number nan Usb audio margin r e = le-number (r .«low_hz») nan (and-left (le (r .«low_hz») nan) _ e) .1
+held-number nan Lsb audio margin r e = le-number (r .«low_hz») nan (and-left (le (r .«low_hz») nan) _ e) .1
 held-number (inf t) s audio margin r e = refl
 held-number (fin t m d) s audio margin r e = refl
 
@@ -275,3 +267,19 @@ module _ (l : List ℕ) (q : Request) (s : Segment) (piece : Range) where
 
   pub cut-none : q .automatic ≡ false → cutRows l q s piece ≡ pieceRows q (s .band) (s .rule) piece
   cut-none e = cut-by false (and-not-left (q .automatic) (q .«elsewhere_ok») e)
+
+-- ---- by cases of what passes over a segment
+
+module _ (l : List ℕ) (q : Request) (s : Segment) where
+  passed-by : (b : Bool) → (tooWide q s || excludedBand l q s) ≡ b → segmentRows l q s ≡ cond b [] (privilegesRows l q s)
+  unfolding segmentRows
+  passed-by b e = ap (λ (b : Bool). cond b [] (privilegesRows l q s)) e
+
+  pub wide-none : tooWide q s ≡ true → segmentRows l q s ≡ []
+  wide-none e = passed-by true (rw e)
+
+  pub excluded-none : tooWide q s ≡ false → excludedBand l q s ≡ true → segmentRows l q s ≡ []
+  excluded-none e f = passed-by true (rw e (rw f))
+
+  pub not-passed : tooWide q s ≡ false → excludedBand l q s ≡ false → segmentRows l q s ≡ privilegesRows l q s
+  not-passed e f = passed-by false (rw e (rw f))

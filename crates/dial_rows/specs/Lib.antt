@@ -1,3 +1,4 @@
+pub mod Apart
 pub mod Class
 pub mod Dials
 pub mod Laws

@@ -1,5 +1,6 @@
 // The rows of a dial list, segment by segment, privilege by privilege, automatic segment by automatic segment, and then the 60 m
-// channels: each offered to lent bytes, and counted. It uses codes, profile, air, layout, table, find, automatic_97_221 and rows.
+// channels: each offered to lent bytes, and counted. It uses codes, profile, air, layout, table, find, automatic_97_221 and
+// rows; its laws use bit_order.
 use air::DialRange;
 use codes::ControlMode;
 use codes::Direction;
@@ -12,7 +13,6 @@ use layout::Record;
 use profile::DataLimit;
 use profile::Range;
 use profile::Shared;
-use rows::SafeDial;
 use table::Channels;
 use table::Privilege;
 use table::Segment;
@@ -22,10 +22,14 @@ ghost use Rattle.profile.specs.Range.{holdsOf};
 ghost use lib.ListN.{length};
 ghost use Rattle.layout.specs.Form.{Whole};
 ghost use Rattle.layout.specs.Layout.{recordAt};
-ghost use Rattle.table.specs.Parts.{privilegeOf};
+ghost use Rattle.table.specs.Parts.{segmentOf};
 ghost use Rattle.rows.specs.Pour.{Poured};
-ghost use Rattle.dial_rows.specs.Class.{Ahead, Past, Kept};
+ghost use Rattle.dial_rows.specs.Apart.{belowBits, apartOf};
+ghost use Rattle.dial_rows.specs.Class.{Ahead, Past, Kept, pairRows};
 ghost use Rattle.dial_rows.specs.Dials.{requestOf, pieceRows, onShared, automaticRows, cutRows, mayUse, privilegeRows, tooWide, excludedBand, privilegesRows, segmentRows, dataRows, centreSpan, channelFound, isUpper, channelsOpen, channelRow, channelRows, openRows};
+
+// The bits of 2^40.
+const LIMIT_BITS: u64 = 0x4270_0000_0000_0000;
 
 // What a list is made for: the signal as it is read, and what the general block says of it.
 pub struct Request {
@@ -79,14 +83,16 @@ fn piece_row(rows: &mut [u8], n: usize, q: Request, band: u8, rule: u16, piece: 
     let audio = q.audio;
     match air::dial_range(piece, sideband, audio, q.margin_hz) {
         DialRange::Dials(ends) => {
-            let row = SafeDial {
+            rows::offer(
+                rows,
+                n,
                 band,
-                segment: piece,
                 rule,
-                dial_low_hz: ends.low_hz,
-                dial_high_hz: ends.high_hz,
-            };
-            rows::offer(rows, n, row);
+                piece.low_hz,
+                piece.high_hz,
+                ends.low_hz,
+                ends.high_hz,
+            );
             n + 1
         }
         DialRange::NoDial => n,
@@ -232,14 +238,33 @@ fn class_end(image: &[u8], class: u8) -> usize
     k
 }
 
-// The rows of a segment under the privilege that begins at a place: its class is asked before the rest is read.
-fn record_rows(image: &[u8], rows: &mut [u8], n: usize, q: Request, s: Segment, at: usize) -> usize
+// Whether a range that ends at high lies below one that begins at low, by their bits.
+fn below(high: u64, low: u64) -> bool
+    ensures { λ x. ⌜ x ≡ belowBits high low ⌝ }
+{
+    high <= low && low <= LIMIT_BITS
+}
+
+// Whether a record's range lies apart from that of the record which begins at a place, by their bits.
+fn apart(image: &[u8], at: usize, r: Record) -> bool
+    requires { ⌜ at + 32 ≤ length (now image) ⌝ }
+    ensures { λ x. ⌜ x ≡ apartOf r (recordAt (now (image .entry)) at) ⌝ }
+{
+    below(r.high, layout::low_at(image, at)) || below(layout::high_at(image, at), r.low)
+}
+
+// The rows of a segment under the privilege that begins at a place: its class and its range's bits are asked before the rest is read.
+fn record_rows(image: &[u8], rows: &mut [u8], n: usize, q: Request, r: Record, at: usize) -> usize
     requires { ⌜ (Whole (now image)) × (at + 32 ≤ length (now image)) × (n + 256 ≤ 0x1_0000_0000) ⌝ }
-    ensures { λ r. ⌜ Poured (now (rows .entry)) n (now (rows .exit)) r (privilegeRows (now (image .entry)) q s (privilegeOf (recordAt (now (image .entry)) at))) ⌝ }
+    ensures { λ x. ⌜ Poured (now (rows .entry)) n (now (rows .exit)) x (pairRows (now (image .entry)) q r at) ⌝ }
 {
     if layout::class_at(image, at) == q.class {
-        let r = layout::record_at(image, at);
-        return privilege_rows(image, rows, n, q, s, table::privilege_of(r));
+        if apart(image, at, r) {
+            return n;
+        }
+        let s = table::segment_of(r);
+        let p = table::privilege_of(layout::record_at(image, at));
+        return privilege_rows(image, rows, n, q, s, p);
     }
     n
 }
@@ -250,18 +275,18 @@ fn privileges_rows(
     rows: &mut [u8],
     n: usize,
     q: Request,
-    s: Segment,
+    r: Record,
     start: usize,
     first: usize,
     end: usize,
 ) -> usize
     requires { ⌜ (Whole (now image)) × (n + 65536 ≤ 0x1_0000_0000) × (Kept (now image) (q .class) start first end) ⌝ }
-    ensures { λ r. ⌜ Poured (now (rows .entry)) n (now (rows .exit)) r (privilegesRows (now (image .entry)) q s) ⌝ }
+    ensures { λ x. ⌜ Poured (now (rows .entry)) n (now (rows .exit)) x (privilegesRows (now (image .entry)) q (segmentOf r)) ⌝ }
 {
     let mut held = n;
     let mut i = first;
     while i < end {
-        held = record_rows(image, rows, held, q, s, start + layout::RECORD_SIZE * i);
+        held = record_rows(image, rows, held, q, r, start + layout::RECORD_SIZE * i);
         i += 1;
     }
     held
@@ -273,21 +298,22 @@ fn segment_rows(
     rows: &mut [u8],
     n: usize,
     q: Request,
-    s: Segment,
+    r: Record,
     start: usize,
     first: usize,
     end: usize,
 ) -> usize
     requires { ⌜ (Whole (now image)) × (n + 65536 ≤ 0x1_0000_0000) × (Kept (now image) (q .class) start first end) ⌝ }
-    ensures { λ r. ⌜ Poured (now (rows .entry)) n (now (rows .exit)) r (segmentRows (now (image .entry)) q s) ⌝ }
+    ensures { λ x. ⌜ Poured (now (rows .entry)) n (now (rows .exit)) x (segmentRows (now (image .entry)) q (segmentOf r)) ⌝ }
 {
+    let s = table::segment_of(r);
     if too_wide(q, s) {
         return n;
     }
     if excluded(image, q, s) {
         return n;
     }
-    privileges_rows(image, rows, n, q, s, start, first, end)
+    privileges_rows(image, rows, n, q, r, start, first, end)
 }
 
 // The rows of every data segment, with the same three numbers.
@@ -308,16 +334,7 @@ fn segments_rows(
     let mut i: usize = 0;
     while i < count {
         let r = layout::record_at(image, start + layout::RECORD_SIZE * i);
-        held = segment_rows(
-            image,
-            rows,
-            held,
-            q,
-            table::segment_of(r),
-            privileges,
-            first,
-            end,
-        );
+        held = segment_rows(image, rows, held, q, r, privileges, first, end);
         i += 1;
     }
     held
@@ -410,14 +427,16 @@ fn channel_row(rows: &mut [u8], n: usize, q: Request, c: Channels, center_hz: f6
     let range = profile::channel_range(c.width_hz, center_hz);
     let guarded = air::guarded(q.margin_hz, air::rf_range(dial, sideband, audio));
     if range.holds(guarded) {
-        let row = SafeDial {
-            band: c.band,
-            segment: range,
-            rule: c.rule,
-            dial_low_hz: dial,
-            dial_high_hz: dial,
-        };
-        rows::offer(rows, n, row);
+        rows::offer(
+            rows,
+            n,
+            c.band,
+            c.rule,
+            range.low_hz,
+            range.high_hz,
+            dial,
+            dial,
+        );
         return n + 1;
     }
     n

@@ -18,7 +18,7 @@ use Rattle.rows.specs.Held.{placeAt, insertFrom, insertAt, offerAt}
 use Rattle.rows.specs.Turns.{u64-drop, length-little, length-row}
 use Rattle.rows.specs.Each.{Every}
 use Rattle.rows.specs.Pour.{pour, u64-little}
-use Rattle.rows.specs.Total.{below-one-way, below-trans}
+use Rattle.rows.specs.Total.{total-one-way, total-trans}
 use Rattle.rows.specs.declared.SafeDial.{SafeDial}
 
 -- ---- a figure, read back
@@ -131,7 +131,7 @@ unfolding placeAt
 all-above x y [] rest g f r e = refl
 all-above x y (z ∷ zs) rest g f r e =
     let t : totalLess (x .«dial_low_hz») (z .«dial_low_hz») ≡ true =
-    below-trans (x .«dial_low_hz») (y .«dial_low_hz») (z .«dial_low_hz») (g .1) (f .0 .1) (f .1 .0 .1) e (r .0) in
+    total-trans (x .«dial_low_hz») (y .«dial_low_hz») (z .«dial_low_hz») (g .1) (f .0 .1) (f .1 .0 .1) e (r .0) in
     place-more z zs rest (x .«dial_low_hz») (f .1 .0)
     ∙ ap (λ (b : Bool). behind b (placeAt (x .«dial_low_hz») (length zs) (encodeAll zs ++ rest))) t
     ∙ ap (behind true) (all-above x z zs rest g (f .1) (r .1) t)
@@ -196,7 +196,7 @@ rising-insert x (y ∷ ys) g f r = go (totalLess (x .«dial_low_hz») (y .«dial
     go :
         (b : Bool) → totalLess (x .«dial_low_hz») (y .«dial_low_hz») ≡ b → Rising (insertRow x ys)
         → Rising (cond b (x ∷ (y ∷ ys)) (y ∷ insertRow x ys))
-    go true e i = (below-one-way (x .«dial_low_hz») (y .«dial_low_hz») (g .1) (f .0 .1) e, r)
+    go true e i = (total-one-way (x .«dial_low_hz») (y .«dial_low_hz») (g .1) (f .0 .1) e, r)
     go false e i = (after-insert x y ys e (r .0), i)
 
 encode-append : (xs ys : List SafeDial) → encodeAll (xs ++ ys) ≡ encodeAll xs ++ encodeAll ys

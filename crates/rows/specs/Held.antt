@@ -7,6 +7,7 @@ use lib.Dec.{ltb}
 use lib.Seq.{sets}
 use lib.Ieee.{Float}
 use Rattle.figures.specs.Figure.{totalLess}
+use Rattle.profile.specs.Range.{range}
 use Rattle.rows.specs.Rows.{rowSize, lowAt, encodeRow}
 use Rattle.rows.specs.declared.SafeDial.{SafeDial}
 
@@ -21,6 +22,17 @@ insertFrom x at to l = sets (sets l (at + rowSize) (take (to - at) (drop at l)))
 
 unfoldable pub insertAt : SafeDial → ℕ → List ℕ → List ℕ
 insertAt x n l = insertFrom x (placeAt (x .«dial_low_hz») n l * rowSize) (n * rowSize) l
+
+-- a row of its parts
+abbrev pub rowOf : ℕ → ℕ → Float → Float → Float → Float → SafeDial
+rowOf band rule low high dialLow dialHigh =
+    record {
+      band = band;
+      segment = range low high;
+      rule = rule;
+      «dial_low_hz» = dialLow;
+      «dial_high_hz» = dialHigh;
+    }
 
 -- where there is room for one row more
 unfoldable pub offerAt : SafeDial → ℕ → List ℕ → List ℕ

@@ -1,12 +1,12 @@
 -- Of figures that are numbers, `totalLess` is an order: each has a weight, a whole number, and the lesser figure is the one of less weight.
 -- For a NaN this fails, since it compares with nothing.
 use Prim.Native.Nat.{ℕ, suc, _+_, _*_, _-_, _<_, _≤_}
-use mathlib.Core.Bool.{Bool, true, false, not, _&&_, _||_, true≢false}
+use mathlib.Core.Bool.{Bool, true, false, not, _&&_, _||_, true≢false, false≢true}
 use mathlib.Core.Path.{_≡_, refl, sym, ap, subst, _∙_}
 use native.Mathlib.Nat.{mul-right-comm, zero-mul, add-mul, mul-lt-mul-of-pos-right, lt-of-mul-lt-mul-right, eq-of-mul-eq-mul-right}
 use native.Mathlib.Omega.{arith}
 use lib.Dec.{T, ltb, eqb, ltb→lt, lt→ltb, nltb→le, eqb→eq, eqb-refl}
-use lib.Ieee.{Float, nan, inf, fin, up, down, below, level, lt, eq, isNan}
+use lib.Ieee.{Float, nan, inf, fin, up, down, below, level, lt, le, eq, isNan}
 use lib.Ieee.Positive.{num, den, den-pos}
 use borrow.Author.Tests.{ltb-true, ltb-false, eqb-true, eqb-false, lt-ltb, le-ltb, eq-eqb, ne-eqb}
 use Rattle.figures.specs.Figure.{negative, totalLess}
@@ -91,9 +91,6 @@ abbrev tip : Bool → ℕ
 tip true = 0
 tip false = 1
 
-abbrev weight : ℕ → Float → ℕ → ℕ
-weight middle x a = 2 * stand middle x a + tip (negative x)
-
 small : (p : Bool) → tip p ≤ 1
 small true = omega arith
 small false = omega arith
@@ -163,41 +160,104 @@ module _ (middle a b k : ℕ) (K : 0 < k) (A : a < middle) (B : b < middle) wher
       ∙ ap (λ (j : ℕ). level s a t j) q
       ∙ level-rank middle a b A B s t
 
-  weighed :
-      (x y : Float) → isNan x ≡ false → isNan y ≡ false → num x * den y * k ≡ a → num y * den x * k ≡ b
-      → totalLess x y ≡ ltb (weight middle x a) (weight middle y b)
-  weighed x y n o p q =
-      rw (lt-stand x y n o p q)
-      (rw (eq-stand x y n o p q)
-      (tipped (stand middle x a) (stand middle y b) (negative x) (negative y)))
+-- two figures compare as two whole numbers do
+record Ordered (x y : Float) (a b : ℕ) : Type 0 where
+  less : lt x y ≡ ltb a b
+  alike : eq x y ≡ eqb a b
 
--- ---- the order
+-- and so do three that are numbers, each with a whole number of its own
+record Ranks (x y z : Float) : Type 0 where
+  first : ℕ
+  second : ℕ
+  third : ℕ
+  xy : Ordered x y first second
+  yx : Ordered y x second first
+  yz : Ordered y z second third
+  zy : Ordered z y third second
+  xz : Ordered x z first third
 
--- Of two figures that are numbers, at most one is below the other.
-pub below-one-way : (x y : Float) → isNan x ≡ false → isNan y ≡ false → totalLess x y ≡ true → totalLess y x ≡ false
-below-one-way x y X Y h =
-    let a = num x * den y * 1 in
-    let b = num y * den x * 1 in
-    let m = suc (a + b) in
-    let xy : totalLess x y ≡ ltb (weight m x a) (weight m y b) = weighed m a b 1 (omega arith) (omega arith) (omega arith) x y X Y refl refl in
-    let yx : totalLess y x ≡ ltb (weight m y b) (weight m x a) = weighed m b a 1 (omega arith) (omega arith) (omega arith) y x Y X refl refl in
-    yx ∙ le-ltb (weight m y b) (weight m x a) (omega (arith, ltb-true (weight m x a) (weight m y b) (sym xy ∙ h)))
+ranks : (x y z : Float) → isNan x ≡ false → isNan y ≡ false → isNan z ≡ false → Ranks x y z
+ranks x y z X Y Z =
+    record {
+      first = stand m x a;
+      second = stand m y b;
+      third = stand m z c;
+      xy = two a b (den z) (den-pos z) (omega arith) (omega arith) x y X Y refl refl;
+      yx = two b a (den z) (den-pos z) (omega arith) (omega arith) y x Y X refl refl;
+      yz = two b c (den x) (den-pos x) (omega arith) (omega arith) y z Y Z (mul-right-comm (num y) (den z) (den x)) (mul-right-comm (num z) (den y) (den x));
+      zy = two c b (den x) (den-pos x) (omega arith) (omega arith) z y Z Y (mul-right-comm (num z) (den y) (den x)) (mul-right-comm (num y) (den z) (den x));
+      xz = two a c (den y) (den-pos y) (omega arith) (omega arith) x z X Z (mul-right-comm (num x) (den z) (den y)) refl;
+    }
+  where
+    a : ℕ
+    a = num x * den y * den z
 
--- Of three, what is below one is below any that is not below that one.
-pub below-trans :
-    (x y z : Float) → isNan x ≡ false → isNan y ≡ false → isNan z ≡ false → totalLess x y ≡ true → totalLess z y ≡ false
-    → totalLess x z ≡ true
-below-trans x y z X Y Z h k =
-    let a = num x * den y * den z in
-    let b = num y * den x * den z in
-    let c = num z * den x * den y in
-    let m = suc (a + b + c) in
-    let xy : totalLess x y ≡ ltb (weight m x a) (weight m y b) =
-    weighed m a b (den z) (den-pos z) (omega arith) (omega arith) x y X Y refl refl in
-    let zy : totalLess z y ≡ ltb (weight m z c) (weight m y b) =
-    weighed m c b (den x) (den-pos x) (omega arith) (omega arith) z y Z Y (mul-right-comm (num z) (den y) (den x)) (mul-right-comm (num y) (den z) (den x)) in
-    let xz : totalLess x z ≡ ltb (weight m x a) (weight m z c) =
-    weighed m a c (den y) (den-pos y) (omega arith) (omega arith) x z X Z (mul-right-comm (num x) (den z) (den y)) refl in
-    xz
-    ∙ lt-ltb (weight m x a) (weight m z c)
-    (omega (arith, ltb-true (weight m x a) (weight m y b) (sym xy ∙ h), ltb-false (weight m z c) (weight m y b) (sym zy ∙ k)))
+    b : ℕ
+    b = num y * den x * den z
+
+    c : ℕ
+    c = num z * den x * den y
+
+    m : ℕ
+    m = suc (a + b + c)
+
+    two :
+        (i j k : ℕ) → 0 < k → i < m → j < m → (u v : Float) → isNan u ≡ false → isNan v ≡ false → num u * den v * k ≡ i
+        → num v * den u * k ≡ j → Ordered u v (stand m u i) (stand m v j)
+    two i j k K I J u v e f p q = record { less = lt-stand m i j k K I J u v e f p q; alike = eq-stand m i j k K I J u v e f p q }
+
+-- `totalLess` too goes by whole numbers
+total : (x y : Float) (a b : ℕ) → Ordered x y a b → totalLess x y ≡ ltb (2 * a + tip (negative x)) (2 * b + tip (negative y))
+total x y a b o = rw (o .less) (rw (o .alike) (tipped a b (negative x) (negative y)))
+
+-- ---- the order of figures that are numbers
+
+module _ (x y : Float) (X : isNan x ≡ false) (Y : isNan y ≡ false) where
+  -- at most one of two is below the other
+  pub total-one-way : totalLess x y ≡ true → totalLess y x ≡ false
+  total-one-way h =
+      let r = ranks x y y X Y Y in
+      let a = 2 * r .first + tip (negative x) in
+      let b = 2 * r .second + tip (negative y) in
+      total y x (r .second) (r .first) (r .yx)
+      ∙ le-ltb b a (omega (arith, ltb-true a b (sym (total x y (r .first) (r .second) (r .xy)) ∙ h)))
+
+  pub lt-one-way : lt x y ≡ true → lt y x ≡ false
+  lt-one-way h =
+      let r = ranks x y y X Y Y in
+      r .yx .less ∙ le-ltb (r .second) (r .first) (omega (arith, ltb-true (r .first) (r .second) (sym (r .xy .less) ∙ h)))
+
+  pub le-not-above : le x y ≡ true → lt y x ≡ false
+  unfolding le
+  le-not-above h = go (lt x y) (eq x y) refl refl h
+    where
+      go : (l e : Bool) → lt x y ≡ l → eq x y ≡ e → (l || e) ≡ true → lt y x ≡ false
+      go true e p q t = lt-one-way p
+      go false true p q t =
+          let r = ranks x y y X Y Y in
+          r .yx .less ∙ le-ltb (r .second) (r .first) (omega (arith, eqb-true (r .first) (r .second) (sym (r .xy .alike) ∙ q)))
+      go false false p q t = absurd (false≢true t)
+
+module _ (x y z : Float) (X : isNan x ≡ false) (Y : isNan y ≡ false) (Z : isNan z ≡ false) where
+  -- what is below one is below any that is not below that one
+  pub total-trans : totalLess x y ≡ true → totalLess z y ≡ false → totalLess x z ≡ true
+  total-trans h k =
+      let r = ranks x y z X Y Z in
+      let a = 2 * r .first + tip (negative x) in
+      let b = 2 * r .second + tip (negative y) in
+      let c = 2 * r .third + tip (negative z) in
+      total x z (r .first) (r .third) (r .xz)
+      ∙ lt-ltb a c
+      (omega (
+        arith,
+        ltb-true a b (sym (total x y (r .first) (r .second) (r .xy)) ∙ h),
+        ltb-false c b (sym (total z y (r .third) (r .second) (r .zy)) ∙ k),
+      ))
+
+  -- at least one that is at least a third: at least that
+  pub not-lt-trans : lt x y ≡ false → lt y z ≡ false → lt x z ≡ false
+  not-lt-trans h k =
+      let r = ranks x y z X Y Z in
+      r .xz .less
+      ∙ le-ltb (r .first) (r .third)
+      (omega (arith, ltb-false (r .first) (r .second) (sym (r .xy .less) ∙ h), ltb-false (r .second) (r .third) (sym (r .yz .less) ∙ k)))

@@ -7,7 +7,7 @@ ghost use lib.ListN.{length, take, drop};
 ghost use lib.Seq.{sets};
 ghost use lib.Ieee.{binary64, toBits};
 ghost use Rattle.rows.specs.Rows.{little, figuresOf, encodeRow, lowAt, highAt, bandAt};
-ghost use Rattle.rows.specs.Held.{placeAt, insertAt, offerAt};
+ghost use Rattle.rows.specs.Held.{placeAt, insertAt, rowOf, offerAt};
 
 pub const ROW_SIZE: usize = 36;
 
@@ -127,11 +127,28 @@ fn insert(rows: &mut [u8], count: usize, row: SafeDial)
     put_row(rows, at, row);
 }
 
-// The same where there is room for one row more than count; else nothing.
-pub fn offer(rows: &mut [u8], count: usize, row: SafeDial)
-    ensures { λ r. ⌜ now (rows .exit) ≡ offerAt row count (now (rows .entry)) ⌝ }
+// The same where there is room for one row more than count; else nothing. The row comes in its parts, which pass in registers.
+pub fn offer(
+    rows: &mut [u8],
+    count: usize,
+    band: u8,
+    rule: u16,
+    low_hz: f64,
+    high_hz: f64,
+    dial_low_hz: f64,
+    dial_high_hz: f64,
+)
+    ensures { λ r. ⌜ now (rows .exit) ≡ offerAt (rowOf band rule «low_hz» «high_hz» «dial_low_hz» «dial_high_hz») count (now (rows .entry)) ⌝ }
 {
     if count < rows.len() / ROW_SIZE {
+        let segment = Range { low_hz, high_hz };
+        let row = SafeDial {
+            band,
+            segment,
+            rule,
+            dial_low_hz,
+            dial_high_hz,
+        };
         insert(rows, count, row);
     }
 }

@@ -276,12 +276,12 @@ fn figures_in(rungs: &mut [f64], b: &[u8]) {
     }
 }
 
-// Whether a rung is the one at a place: a mark, and its number.
-fn rung_is(rung: i32, b: &[u8], at: usize) -> bool {
-    if byte(b, at) == 0 {
+// Whether a rung is the one told: a mark, and its number.
+fn rung_is(rung: i32, mark: u8, number: u16) -> bool {
+    if mark == 0 {
         return rung == -1;
     }
-    rung == word(b, at + 1) as i32
+    rung == number as i32
 }
 
 // A ceiling against the one at a place.
@@ -294,7 +294,7 @@ fn ceiling_told(c: FlatCeiling, s: &[u8], at: usize) -> Told {
     }
     let end = at + 5;
     let b = &s[at..end];
-    let rung = rung_is(c.rung, b, 1);
+    let rung = rung_is(c.rung, byte(b, 1), word(b, 2));
     let known = c.refusal == byte(b, 0) && c.limit_known == byte(b, 4);
     let limit = c.limit;
     match decided(limit, s, end) {

@@ -5,6 +5,7 @@ use lib.ListN.{length}
 use native.Mathlib.Omega.{arith}
 use Rattle.layout.specs.Layout.{recordSize, trailerSize, privileges, countOf, startOf}
 use Rattle.layout.specs.Form.{table-within}
+use Rattle.table.specs.Parts.{segmentOf}
 use Rattle.rows.specs.Each.{each-few}
 use Rattle.rows.specs.Pour.{Poured, Pouring, pouring-step}
 use Rattle.dial_rows.specs.Dials.{privilegeAt}
@@ -14,10 +15,11 @@ use Rattle.dial_rows.proofs.privileges_rows.Statement.{statement}
 use Rattle.dial_rows.proofs.privileges_rows.Tie as tie
 
 abbrev Inv-loop : tie.InvT-loop
-Inv-loop image rows₀ n q s start first end held₀ i₀ rows held i = Pouring rows₀ n (privilegeAt image q s) (countOf image privileges) i rows held × (length rows ≡ length rows₀)
+Inv-loop image rows₀ n q r start first end held₀ i₀ rows held i =
+    Pouring rows₀ n (privilegeAt image q (segmentOf r)) (countOf image privileges) i rows held × (length rows ≡ length rows₀)
 
 abbrev μ-loop : tie.MeasureT-loop
-μ-loop image rows₀ n q s start first end held₀ i₀ rows held i = end - i
+μ-loop image rows₀ n q r start first end held₀ i₀ rows held i = end - i
 
 within : (c : tie.Start Inv-loop μ-loop) → startOf (c .args .image .now) privileges + recordSize * countOf (c .args .image .now) privileges + trailerSize ≤ length (c .args .image .now)
 within c = table-within (c .args .image .now) (c .pre .0) privileges (omega arith)
@@ -36,16 +38,21 @@ placed c = omega (arith, below c, within (c .before .before .before .before), c 
 -- at most 256 for each record passed
 so-far : (c : tie.In-loop Inv-loop μ-loop) → c .before .loop .held ≤ c .before .before .before .before .args .n + 256 * c .before .loop .i
 so-far c =
+    let a = c .before .before .before .before .args in
     omega (
       arith,
       c .before .loop .inv .0 .so-far .counted,
-      each-few (c .before .loop .i) 256 (privilegeAt (c .before .before .before .before .args .image .now) (c .before .before .before .before .args .q) (c .before .before .before .before .args .s)) (λ i. privilege-few _ (c .before .before .before .before .pre .0) _ _ _),
+      each-few (c .before .loop .i) 256 (privilegeAt (a .image .now) (a .q) (segmentOf (a .r)))
+          (λ i. privilege-few _ (c .before .before .before .before .pre .0) _ _ _),
     )
 
 -- what a turn did
 asked :
     (c : tie.After-record-rows Inv-loop μ-loop)
-    → Poured (c .before .before .before .loop .rows) (c .before .before .before .loop .held) (c .record-rows .last .1 .0) (c .record-rows .result) (privilegeAt (c .before .before .before .before .before .before .args .image .now) (c .before .before .before .before .before .before .args .q) (c .before .before .before .before .before .before .args .s) (c .before .before .before .loop .i))
+    → let a = c .before .before .before .before .before .before .args in
+    let t = c .before .before .before .loop in
+    Poured (t .rows) (t .held) (c .record-rows .last .1 .0) (c .record-rows .result)
+    (privilegeAt (a .image .now) (a .q) (segmentOf (a .r)) (t .i))
 asked c = rw (c .before .before .before .before .before .before .pre .2 .placed) at (c .record-rows .ensures)
 
 loop-holds : tie.Need-loop-holds Inv-loop μ-loop

@@ -3,7 +3,6 @@ use Prim.Native.Nat.{_+_, _*_, _-_, _≤_}
 use mathlib.Core.Path.{_≡_, _∙_}
 use lib.ListN.{length}
 use native.Mathlib.Omega.{arith}
-use borrow.Author.Needs.{needs}
 use Rattle.layout.specs.Layout.{recordSize, trailerSize, segments, countOf, startOf}
 use Rattle.layout.specs.Form.{table-within}
 use Rattle.rows.specs.Each.{each-few}
@@ -37,12 +36,12 @@ so-far c =
 -- what a turn did
 asked :
     (c : tie.After-segment-rows Inv-loop μ-loop)
-    → Poured (c .before .before .before .before .before .loop .rows) (c .before .before .before .before .before .loop .held) (c .segment-rows .last .1 .0) (c .segment-rows .result) (segmentAt (c .before .before .before .before .before .before .before .before .before .before .args .image .now) (c .before .before .before .before .before .before .before .before .before .before .args .q) (c .before .before .before .before .before .loop .i))
+    → let a = c .before .before .before .before .before .before .before .before .before .args in let t = c .before .before .before .before .loop in
+    Poured (t .rows) (t .held) (c .segment-rows .last .1 .0) (c .segment-rows .result) (segmentAt (a .image .now) (a .q) (t .i))
 asked c =
-    rw (c .before .before .before .before .before .before .before .start-of .ensures) at
-    (rw (c .before .before .before .record-at .ensures) at
-    (rw (c .before .segment-of .ensures) at
-    (c .segment-rows .ensures)))
+    rw (c .before .before .before .before .before .before .start-of .ensures) at
+    (rw (c .before .before .record-at .ensures) at
+    (c .segment-rows .ensures))
 
 start-of-requires : tie.Need-start-of-requires Inv-loop μ-loop
 start-of-requires c κs = omega (arith, c .before .before .pre .0 .sized)
@@ -65,11 +64,10 @@ add-record-at c = omega (arith, within (c .before .before .before .before .befor
 record-at-requires : tie.Need-record-at-requires Inv-loop μ-loop
 record-at-requires c κs = omega (arith, within (c .before .before .before .before .before .before))
 
-segment-of-requires : tie.Need-segment-of-requires Inv-loop μ-loop
-segment-of-requires c κs = search needs
-
 segment-rows-requires : tie.Need-segment-rows-requires Inv-loop μ-loop
-segment-rows-requires c κs = (c .before .before .before .before .before .before .before .before .before .pre .0, omega (arith, so-far (c .before .before .before), few (c .before .before .before .before .before .before .before .before .before), c .before .before .before .before .before .count-of .ensures), c .before .before .before .before .before .before .before .before .before .pre .1)
+segment-rows-requires c κs =
+    let s = c .before .before .before .before .before .before .before .before in
+    (s .pre .0, omega (arith, so-far (c .before .before), few s, c .before .before .before .before .count-of .ensures), s .pre .1)
 
 add-i : tie.Need-add-i Inv-loop μ-loop
 add-i c = omega arith
@@ -78,7 +76,10 @@ loop-less : tie.Need-loop-less Inv-loop μ-loop
 loop-less c = omega arith
 
 loop-again : tie.Need-loop-again Inv-loop μ-loop
-loop-again c = (pouring-step _ _ _ _ _ _ _ _ _ (c .before .before .before .before .before .before .loop-test .taken) (c .before .before .before .before .before .before .before .loop .inv .0) (asked (c .before .before)), c .before .before .segment-rows .kept .1 .0 ∙ c .before .before .before .before .before .before .before .loop .inv .1)
+loop-again c =
+    let t = c .before .before .before .before .before .before .loop in
+    let p = pouring-step _ _ _ _ _ _ _ _ _ (c .before .before .before .before .before .loop-test .taken) (t .inv .0) (asked (c .before .before)) in
+    (p, c .before .before .segment-rows .kept .1 .0 ∙ t .inv .1)
 
 same-length : tie.Need-same-length Inv-loop μ-loop
 same-length c = c .before .loop .inv .1
@@ -100,7 +101,6 @@ segments-rows-spec =
     mul-record-at
     add-record-at
     record-at-requires
-    segment-of-requires
     segment-rows-requires
     add-i
     loop-less

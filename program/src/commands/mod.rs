@@ -1,0 +1,36 @@
+//! The commands, a module each: its arguments, and `answer`. A new one is a module, a case of `Command` and a line in
+//! `Command::answer`.
+
+mod check;
+mod completions;
+mod dials;
+mod distance;
+mod judge;
+mod man;
+
+use clap::Subcommand;
+
+use crate::answer::{Answer, Failure, Style};
+
+#[derive(Subcommand, Debug)]
+pub enum Command {
+    Judge(judge::Args),
+    Check(check::Args),
+    Dials(dials::Args),
+    Distance(distance::Args),
+    Completions(completions::Args),
+    Man(man::Args),
+}
+
+impl Command {
+    pub fn answer(&self, style: Style) -> Result<Answer, Failure> {
+        match self {
+            Self::Judge(args) => judge::answer(args, style),
+            Self::Check(args) => check::answer(args, style),
+            Self::Dials(args) => dials::answer(args, style),
+            Self::Distance(args) => distance::answer(args, style),
+            Self::Completions(args) => completions::answer(args),
+            Self::Man(args) => man::answer(args),
+        }
+    }
+}
