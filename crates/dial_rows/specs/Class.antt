@@ -15,6 +15,7 @@ use Rattle.profile.specs.Limit.{allowsOf}
 use Rattle.profile.specs.declared.Shared.{Shared}
 use Rattle.profile.specs.declared.Shared.the-variants.{Nothing}
 use Rattle.codes.specs.declared.EmissionKind.the-variants.{Data}
+use Rattle.table.specs.Table.{recordIn, tableOf, at-in}
 use Rattle.table.specs.Parts.{segmentOf, privilegeOf}
 use Rattle.table.specs.declared.Segment.{Segment}
 use Rattle.table.specs.declared.Privilege.{Privilege}
@@ -26,7 +27,11 @@ use Rattle.dial_rows.specs.declared.Request.{Request}
 
 -- privilege i is the class's
 abbrev pub isOf : List ℕ → ℕ → ℕ → Bool
-isOf l class i = eqb (recordOf l privileges i .class) class
+isOf l class i = eqb (recordIn l privileges i .class) class
+
+-- The same of an image's bytes.
+pub of-in : (l : List ℕ) (class i : ℕ) → i < countOf l privileges → isOf l class i ≡ eqb (recordOf l privileges i .class) class
+of-in l class i h = ap (λ (r : Record). eqb (r .class) class) (at-in l privileges i (omega arith) h)
 
 -- no privilege before place k is the class's
 pub record Ahead (l : List ℕ) (class k : ℕ) : Type 0 where
@@ -46,7 +51,7 @@ pub record Kept (l : List ℕ) (class start first end : ℕ) : Type 0 where
 
 -- the rows of a segment's record under the privilege that begins at a place
 abbrev pub pairRows : List ℕ → Request → Record → ℕ → List SafeDial
-pairRows l q r at = privilegeRows l q (segmentOf r) (privilegeOf (recordAt l at))
+pairRows l q r at = privilegeRows (tableOf l) q (segmentOf r) (privilegeOf (recordAt l at))
 
 -- ---- the two searches
 
@@ -93,7 +98,7 @@ each-past f i (suc k) h =
 and-none : (a b : Bool) → a ≡ false → (a && b) ≡ false
 and-none a b e = rw e
 
-pub other-class : (l : List ℕ) (q : Request) (s : Segment) (r : Record) → eqb (r .class) (q .class) ≡ false → privilegeRows l q s (privilegeOf r) ≡ []
+pub other-class : (l : List ℕ) (q : Request) (s : Segment) (r : Record) → eqb (r .class) (q .class) ≡ false → privilegeRows (tableOf l) q s (privilegeOf r) ≡ []
 unfolding privilegeRows
 other-class l q s r e = rw (and-none (eqb (r .class) (q .class)) (allowsOf (privilegeOf r .emissions) Data) e)
 
@@ -101,32 +106,32 @@ none-either-way : (b : Bool) (xs : List SafeDial) → xs ≡ [] → cond b xs []
 none-either-way true xs e = e
 none-either-way false xs e = refl
 
-pub nothing-shared : (l : List ℕ) (q : Request) (s : Segment) (p : Privilege) → intersectOf (s .range) (p .range) ≡ Nothing → privilegeRows l q s p ≡ []
+pub nothing-shared : (l : List ℕ) (q : Request) (s : Segment) (p : Privilege) → intersectOf (s .range) (p .range) ≡ Nothing → privilegeRows (tableOf l) q s p ≡ []
 unfolding privilegeRows
-nothing-shared l q s p e = none-either-way (mayUse q p) (onShared (intersectOf (s .range) (p .range)) (cutRows l q s)) (ap (λ (x : Shared). onShared x (cutRows l q s)) e)
+nothing-shared l q s p e = none-either-way (mayUse q p) (onShared (intersectOf (s .range) (p .range)) (cutRows (tableOf l) q s)) (ap (λ (x : Shared). onShared x (cutRows (tableOf l) q s)) e)
 
 module _ (l : List ℕ) (q : Request) (s : Segment) where
   -- nothing before the first
-  pub ahead-bare : (k : ℕ) → Ahead l (q .class) k → each k (privilegeAt l q s) ≡ []
+  pub ahead-bare : (k : ℕ) → Ahead l (q .class) k → each k (privilegeAt (tableOf l) q s) ≡ []
   ahead-bare k a =
       let e : k + 0 ≡ k = omega arith in
-      ap (λ (n : ℕ). each n (privilegeAt l q s)) (sym e)
-      ∙ each-past (privilegeAt l q s) 0 k (λ j b c. other-class l q s (recordOf l privileges j) (a .none j (omega arith)))
-      ∙ each-none (privilegeAt l q s)
+      ap (λ (n : ℕ). each n (privilegeAt (tableOf l) q s)) (sym e)
+      ∙ each-past (privilegeAt (tableOf l) q s) 0 k (λ j b c. other-class l q s (recordIn l privileges j) (a .none j (omega arith)))
+      ∙ each-none (privilegeAt (tableOf l) q s)
 
   -- nothing from the end on
-  pub past-bare : (end k : ℕ) → Past l (q .class) end → end ≤ k → k ≤ countOf l privileges → privilegesRows l q s ≡ each k (privilegeAt l q s)
+  pub past-bare : (end k : ℕ) → Past l (q .class) end → end ≤ k → k ≤ countOf l privileges → privilegesRows (tableOf l) q s ≡ each k (privilegeAt (tableOf l) q s)
   unfolding privilegesRows
   past-bare end k p a b =
       let d = countOf l privileges - k in
       let e : d + k ≡ countOf l privileges = omega arith in
-      ap (λ (n : ℕ). each n (privilegeAt l q s)) (sym e)
-      ∙ each-past (privilegeAt l q s) k d (λ j c h. other-class l q s (recordOf l privileges j) (p .none j (omega arith) (omega arith)))
+      ap (λ (n : ℕ). each n (privilegeAt (tableOf l) q s)) (sym e)
+      ∙ each-past (privilegeAt (tableOf l) q s) k d (λ j c h. other-class l q s (recordIn l privileges j) (p .none j (omega arith) (omega arith)))
 
-  pub pouring-first : (rows : List ℕ) (n k : ℕ) → Ahead l (q .class) k → Pouring rows n (privilegeAt l q s) (countOf l privileges) k rows n
+  pub pouring-first : (rows : List ℕ) (n k : ℕ) → Ahead l (q .class) k → Pouring rows n (privilegeAt (tableOf l) q s) (countOf l privileges) k rows n
   pouring-first rows n k a = record { within = a .within; so-far = rw (ahead-bare k a) (poured-none rows n) }
 
   pub pouring-last :
       (rows₀ : List ℕ) (n₀ end k : ℕ) (rows : List ℕ) (n : ℕ) → Past l (q .class) end → end ≤ k
-      → Pouring rows₀ n₀ (privilegeAt l q s) (countOf l privileges) k rows n → Poured rows₀ n₀ rows n (privilegesRows l q s)
+      → Pouring rows₀ n₀ (privilegeAt (tableOf l) q s) (countOf l privileges) k rows n → Poured rows₀ n₀ rows n (privilegesRows (tableOf l) q s)
   pouring-last rows₀ n₀ end k rows n p a h = rw (past-bare end k p a (h .within)) (h .so-far)

@@ -21,9 +21,10 @@ use Rattle.air.specs.Air.{rfRangeOf, guardedOf, widthOf, wider, dialRangeOf}
 use Rattle.air.specs.declared.DialRange.{DialRange}
 use Rattle.air.specs.declared.DialRange.the-variants.{Dials, NoDial}
 use Rattle.scan.specs.First.{some}
-use Rattle.layout.specs.Layout.{segments, channels, privileges, automatic, excluded, generalOf, recordOf, countOf}
+use Rattle.layout.specs.Layout.{segments, channels, privileges, automatic, excluded}
 use Rattle.layout.specs.declared.General.{General}
 use Rattle.layout.specs.declared.Record.{Record}
+use Rattle.table.specs.Table.{Table}
 use Rattle.table.specs.Parts.{spanOf, segmentOf, centreOf, privilegeOf, dataOf, elsewhereOf, channelsOf}
 use Rattle.table.specs.declared.Segment.{Segment}
 use Rattle.table.specs.declared.Privilege.{Privilege}
@@ -82,52 +83,52 @@ onShared Nothing f = []
 -- ---- data segments
 
 -- 97.221(b): a piece inside each automatic segment, with the rule for these
-abbrev pub automaticAt : List ℕ → Request → ℕ → Range → ℕ → List SafeDial
-automaticAt l q band piece a = onShared (intersectOf piece (spanOf (recordOf l automatic a))) (pieceRows q band (q .«segments_rule»))
+abbrev pub automaticAt : Table → Request → ℕ → Range → ℕ → List SafeDial
+automaticAt table q band piece a = onShared (intersectOf piece (spanOf (table .at automatic a))) (pieceRows q band (q .«segments_rule»))
 
-unfoldable pub automaticRows : List ℕ → Request → ℕ → Range → List SafeDial
-automaticRows l q band piece = each (countOf l automatic) (automaticAt l q band piece)
+unfoldable pub automaticRows : Table → Request → ℕ → Range → List SafeDial
+automaticRows table q band piece = each (table .count automatic) (automaticAt table q band piece)
 
 -- 97.221: cut to the automatic segments where it applies and 97.221(c) does not help; else whole, with the segment's rule
 abbrev pub cut : Request → Bool
 cut q = q .automatic && not (q .«elsewhere_ok»)
 
-unfoldable pub cutRows : List ℕ → Request → Segment → Range → List SafeDial
-cutRows l q s piece = cond (cut q) (automaticRows l q (s .band) piece) (pieceRows q (s .band) (s .rule) piece)
+unfoldable pub cutRows : Table → Request → Segment → Range → List SafeDial
+cutRows table q s piece = cond (cut q) (automaticRows table q (s .band) piece) (pieceRows q (s .band) (s .rule) piece)
 
 -- 97.301, 97.307(f)(9): a privilege of the class, with data among its emissions
 abbrev pub mayUse : Request → Privilege → Bool
 mayUse q p = eqb (p .class) (q .class) && allowsOf (p .emissions) Data
 
 -- 97.307(b): the signal stays inside the piece that a segment and a privilege share
-unfoldable pub privilegeRows : List ℕ → Request → Segment → Privilege → List SafeDial
-privilegeRows l q s p = cond (mayUse q p) (onShared (intersectOf (s .range) (p .range)) (cutRows l q s)) []
+unfoldable pub privilegeRows : Table → Request → Segment → Privilege → List SafeDial
+privilegeRows table q s p = cond (mayUse q p) (onShared (intersectOf (s .range) (p .range)) (cutRows table q s)) []
 
-abbrev pub privilegeAt : List ℕ → Request → Segment → ℕ → List SafeDial
-privilegeAt l q s p = privilegeRows l q s (privilegeOf (recordOf l privileges p))
+abbrev pub privilegeAt : Table → Request → Segment → ℕ → List SafeDial
+privilegeAt table q s p = privilegeRows table q s (privilegeOf (table .at privileges p))
 
 -- each privilege of the class, in table order
-unfoldable pub privilegesRows : List ℕ → Request → Segment → List SafeDial
-privilegesRows l q s = each (countOf l privileges) (privilegeAt l q s)
+unfoldable pub privilegesRows : Table → Request → Segment → List SafeDial
+privilegesRows table q s = each (table .count privileges) (privilegeAt table q s)
 
 -- 97.307(f)(2), (3), (5): the signal is wider than the segment's limit, its own or the general one
 abbrev pub tooWide : Request → Segment → Bool
 tooWide q s = wider (q .«width_hz») (dataLimitOf (s .own) (s .second) (q .«data») .«max_bandwidth_hz»)
 
 -- 97.221: automatic control is not allowed in the segment's band
-abbrev pub excludedBand : List ℕ → Request → Segment → Bool
-excludedBand l q s = q .automatic && someIn l excluded (OfBand (s .band))
+abbrev pub excludedBand : Table → Request → Segment → Bool
+excludedBand table q s = q .automatic && someIn table excluded (OfBand (s .band))
 
 -- a segment that is passed over gives no row
-unfoldable pub segmentRows : List ℕ → Request → Segment → List SafeDial
-segmentRows l q s = cond (tooWide q s || excludedBand l q s) [] (privilegesRows l q s)
+unfoldable pub segmentRows : Table → Request → Segment → List SafeDial
+segmentRows table q s = cond (tooWide q s || excludedBand table q s) [] (privilegesRows table q s)
 
 -- 97.305(c): each data segment, in table order
-abbrev pub segmentAt : List ℕ → Request → ℕ → List SafeDial
-segmentAt l q s = segmentRows l q (segmentOf (recordOf l segments s))
+abbrev pub segmentAt : Table → Request → ℕ → List SafeDial
+segmentAt table q s = segmentRows table q (segmentOf (table .at segments s))
 
-unfoldable pub dataRows : List ℕ → Request → List SafeDial
-dataRows l q = each (countOf l segments) (segmentAt l q)
+unfoldable pub dataRows : Table → Request → List SafeDial
+dataRows table q = each (table .count segments) (segmentAt table q)
 
 -- ---- 60 m channels (97.303(h)(3))
 
@@ -135,18 +136,18 @@ dataRows l q = each (countOf l segments) (segmentAt l q)
 abbrev pub centreSpan : Record → Range
 centreSpan r = range (centreOf r) (centreOf r)
 
-abbrev pub centreHeld : List ℕ → Range → ℕ → Bool
-centreHeld l r c = holdsOf r (centreSpan (recordOf l channels c))
+abbrev pub centreHeld : Table → Range → ℕ → Bool
+centreHeld table r c = holdsOf r (centreSpan (table .at channels c))
 
-abbrev pub someCentre : List ℕ → Request → Privilege → Bool
-someCentre l q p = mayUse q p && some (centreHeld l (p .range)) (countOf l channels)
+abbrev pub someCentre : Table → Request → Privilege → Bool
+someCentre table q p = mayUse q p && some (centreHeld table (p .range)) (table .count channels)
 
-abbrev pub someCentreAt : List ℕ → Request → ℕ → Bool
-someCentreAt l q p = someCentre l q (privilegeOf (recordOf l privileges p))
+abbrev pub someCentreAt : Table → Request → ℕ → Bool
+someCentreAt table q p = someCentre table q (privilegeOf (table .at privileges p))
 
 -- "as soon as one channel under one privilege that allows data is found"
-unfoldable pub channelFound : List ℕ → Request → Bool
-channelFound l q = some (someCentreAt l q) (countOf l privileges)
+unfoldable pub channelFound : Table → Request → Bool
+channelFound table q = some (someCentreAt table q) (table .count privileges)
 
 abbrev pub isUpper : Sideband → Bool
 isUpper Usb = true
@@ -171,22 +172,22 @@ channelSafe c centre =
 unfoldable pub channelRow : Request → Channels → Float → List SafeDial
 channelRow q c centre = cond (channelHolds q c centre) (channelSafe c centre ∷ []) []
 
-abbrev pub channelAt : List ℕ → Request → Channels → ℕ → List SafeDial
-channelAt l q c i = channelRow q c (centreOf (recordOf l channels i))
+abbrev pub channelAt : Table → Request → Channels → ℕ → List SafeDial
+channelAt table q c i = channelRow q c (centreOf (table .at channels i))
 
 -- every channel, once one is found
-unfoldable pub channelRows : List ℕ → Request → Channels → List SafeDial
-channelRows l q c = each (countOf l channels) (channelAt l q c)
+unfoldable pub channelRows : Table → Request → Channels → List SafeDial
+channelRows table q c = each (table .count channels) (channelAt table q c)
 
-unfoldable pub openRows : List ℕ → Request → Channels → List SafeDial
-openRows l q c = cond (channelsOpen q && channelFound l q) (channelRows l q c) []
+unfoldable pub openRows : Table → Request → Channels → List SafeDial
+openRows table q c = cond (channelsOpen q && channelFound table q) (channelRows table q c) []
 
-abbrev pub bandRows : List ℕ → Request → ChannelBand → List SafeDial
-bandRows l q (On c) = openRows l q c
-bandRows l q NoChannels = []
+abbrev pub bandRows : Table → Request → ChannelBand → List SafeDial
+bandRows table q (On c) = openRows table q c
+bandRows table q NoChannels = []
 
 -- ---- the whole list
 
 -- every row, in the order of the Rust before it sorts: the data segments, then the channels
-unfoldable pub rowsOf : List ℕ → Request → List SafeDial
-rowsOf l q = dataRows l q ++ bandRows l q (channelsOf (generalOf l))
+unfoldable pub rowsOf : Table → Request → List SafeDial
+rowsOf table q = dataRows table q ++ bandRows table q (channelsOf (table .general))

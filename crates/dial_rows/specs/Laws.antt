@@ -22,9 +22,10 @@ use Rattle.profile.specs.declared.DataLimit.{DataLimit}
 use Rattle.air.specs.Air.{rfRangeOf, guardedOf, widthOf, dialRangeOf, dialEndsOf}
 use Rattle.air.specs.declared.DialRange.{DialRange}
 use Rattle.air.specs.declared.DialRange.the-variants.{Dials, NoDial}
-use Rattle.layout.specs.Layout.{segments, channels, privileges, automatic, recordOf, countOf, generalOf}
+use Rattle.layout.specs.Layout.{segments, channels, privileges, automatic, countOf, generalOf}
 use Rattle.layout.specs.declared.General.{General}
 use Rattle.layout.specs.Form.{Whole}
+use Rattle.table.specs.Table.{recordIn, tableOf}
 use Rattle.table.specs.Parts.{spanOf, segmentOf, centreOf, privilegeOf, dataOf, elsewhereOf, channelsOf}
 use Rattle.table.specs.declared.Segment.{Segment}
 use Rattle.table.specs.declared.Privilege.{Privilege}
@@ -62,48 +63,48 @@ shared-few : (s : Shared) (f : Range → List SafeDial) (k : ℕ) → ((r : Rang
 shared-few (Stretch piece) f k h = h piece
 shared-few Nothing f k h = omega arith
 
-pub automatic-at-few : (l : List ℕ) (q : Request) (band : ℕ) (piece : Range) (a : ℕ) → length (automaticAt l q band piece a) ≤ 1
-automatic-at-few l q band piece a = shared-few (intersectOf piece (spanOf (recordOf l automatic a))) (pieceRows q band (q .«segments_rule»)) 1 (piece-few q band (q .«segments_rule»))
+pub automatic-at-few : (l : List ℕ) (q : Request) (band : ℕ) (piece : Range) (a : ℕ) → length (automaticAt (tableOf l) q band piece a) ≤ 1
+automatic-at-few l q band piece a = shared-few (intersectOf piece (spanOf (recordIn l automatic a))) (pieceRows q band (q .«segments_rule»)) 1 (piece-few q band (q .«segments_rule»))
 
-pub automatic-few : (l : List ℕ) → Whole l → (q : Request) (band : ℕ) (piece : Range) → length (automaticRows l q band piece) ≤ 256
+pub automatic-few : (l : List ℕ) → Whole l → (q : Request) (band : ℕ) (piece : Range) → length (automaticRows (tableOf l) q band piece) ≤ 256
 unfolding automaticRows
 automatic-few l w q band piece =
-    let a : length (each (countOf l automatic) (automaticAt l q band piece)) ≤ countOf l automatic * 1 =
-    each-few (countOf l automatic) 1 (automaticAt l q band piece) (automatic-at-few l q band piece) in
+    let a : length (each (countOf l automatic) (automaticAt (tableOf l) q band piece)) ≤ countOf l automatic * 1 =
+    each-few (countOf l automatic) 1 (automaticAt (tableOf l) q band piece) (automatic-at-few l q band piece) in
     let b : countOf l automatic ≤ 256 = w .few automatic (omega arith) in
     omega arith
 
-pub cut-few : (l : List ℕ) → Whole l → (q : Request) (s : Segment) (piece : Range) → length (cutRows l q s piece) ≤ 256
+pub cut-few : (l : List ℕ) → Whole l → (q : Request) (s : Segment) (piece : Range) → length (cutRows (tableOf l) q s piece) ≤ 256
 unfolding cutRows
 cut-few l w q s piece =
     let a : length (pieceRows q (s .band) (s .rule) piece) ≤ 1 = piece-few q (s .band) (s .rule) piece in
-    cond-few (cut q) (automaticRows l q (s .band) piece) (pieceRows q (s .band) (s .rule) piece) 256 (automatic-few l w q (s .band) piece) (omega arith)
+    cond-few (cut q) (automaticRows (tableOf l) q (s .band) piece) (pieceRows q (s .band) (s .rule) piece) 256 (automatic-few l w q (s .band) piece) (omega arith)
 
-pub privilege-few : (l : List ℕ) → Whole l → (q : Request) (s : Segment) (p : Privilege) → length (privilegeRows l q s p) ≤ 256
+pub privilege-few : (l : List ℕ) → Whole l → (q : Request) (s : Segment) (p : Privilege) → length (privilegeRows (tableOf l) q s p) ≤ 256
 unfolding privilegeRows
 privilege-few l w q s p =
-    cond-few (mayUse q p) (onShared (intersectOf (s .range) (p .range)) (cutRows l q s)) [] 256
-    (shared-few (intersectOf (s .range) (p .range)) (cutRows l q s) 256 (cut-few l w q s))
+    cond-few (mayUse q p) (onShared (intersectOf (s .range) (p .range)) (cutRows (tableOf l) q s)) [] 256
+    (shared-few (intersectOf (s .range) (p .range)) (cutRows (tableOf l) q s) 256 (cut-few l w q s))
     (omega arith)
 
-privileges-few : (l : List ℕ) → Whole l → (q : Request) (s : Segment) → length (privilegesRows l q s) ≤ 65536
+privileges-few : (l : List ℕ) → Whole l → (q : Request) (s : Segment) → length (privilegesRows (tableOf l) q s) ≤ 65536
 unfolding privilegesRows
 privileges-few l w q s =
-    let a : length (each (countOf l privileges) (privilegeAt l q s)) ≤ countOf l privileges * 256 =
-    each-few (countOf l privileges) 256 (privilegeAt l q s) (λ i. privilege-few l w q s (privilegeOf (recordOf l privileges i))) in
+    let a : length (each (countOf l privileges) (privilegeAt (tableOf l) q s)) ≤ countOf l privileges * 256 =
+    each-few (countOf l privileges) 256 (privilegeAt (tableOf l) q s) (λ i. privilege-few l w q s (privilegeOf (recordIn l privileges i))) in
     let b : countOf l privileges ≤ 256 = w .few privileges (omega arith) in
     omega arith
 
-pub segment-few : (l : List ℕ) → Whole l → (q : Request) (s : Segment) → length (segmentRows l q s) ≤ 65536
+pub segment-few : (l : List ℕ) → Whole l → (q : Request) (s : Segment) → length (segmentRows (tableOf l) q s) ≤ 65536
 unfolding segmentRows
 segment-few l w q s =
-    cond-few (tooWide q s || excludedBand l q s) [] (privilegesRows l q s) 65536 (omega arith) (privileges-few l w q s)
+    cond-few (tooWide q s || excludedBand (tableOf l) q s) [] (privilegesRows (tableOf l) q s) 65536 (omega arith) (privileges-few l w q s)
 
-pub data-few : (l : List ℕ) → Whole l → (q : Request) → length (dataRows l q) ≤ 16777216
+pub data-few : (l : List ℕ) → Whole l → (q : Request) → length (dataRows (tableOf l) q) ≤ 16777216
 unfolding dataRows
 data-few l w q =
-    let a : length (each (countOf l segments) (segmentAt l q)) ≤ countOf l segments * 65536 =
-    each-few (countOf l segments) 65536 (segmentAt l q) (λ i. segment-few l w q (segmentOf (recordOf l segments i))) in
+    let a : length (each (countOf l segments) (segmentAt (tableOf l) q)) ≤ countOf l segments * 65536 =
+    each-few (countOf l segments) 65536 (segmentAt (tableOf l) q) (λ i. segment-few l w q (segmentOf (recordIn l segments i))) in
     let b : countOf l segments ≤ 256 = w .few segments (omega arith) in
     omega arith
 
@@ -145,35 +146,35 @@ shared-fit : (s : Shared) (f : Range → List SafeDial) → ((r : Range) → Eve
 shared-fit (Stretch piece) f h = h piece
 shared-fit Nothing f h = tt
 
-automatic-fit : (l : List ℕ) (q : Request) (band : ℕ) (piece : Range) → Every DialsFit (automaticRows l q band piece)
+automatic-fit : (l : List ℕ) (q : Request) (band : ℕ) (piece : Range) → Every DialsFit (automaticRows (tableOf l) q band piece)
 unfolding automaticRows
 automatic-fit l q band piece =
-    every-each DialsFit (countOf l automatic) (automaticAt l q band piece)
-    (λ a. shared-fit (intersectOf piece (spanOf (recordOf l automatic a))) (pieceRows q band (q .«segments_rule»)) (piece-fit q band (q .«segments_rule»)))
+    every-each DialsFit (countOf l automatic) (automaticAt (tableOf l) q band piece)
+    (λ a. shared-fit (intersectOf piece (spanOf (recordIn l automatic a))) (pieceRows q band (q .«segments_rule»)) (piece-fit q band (q .«segments_rule»)))
 
-cut-fit : (l : List ℕ) (q : Request) (s : Segment) (piece : Range) → Every DialsFit (cutRows l q s piece)
+cut-fit : (l : List ℕ) (q : Request) (s : Segment) (piece : Range) → Every DialsFit (cutRows (tableOf l) q s piece)
 unfolding cutRows
 cut-fit l q s piece =
-    cond-fit (cut q) (automaticRows l q (s .band) piece) (pieceRows q (s .band) (s .rule) piece)
+    cond-fit (cut q) (automaticRows (tableOf l) q (s .band) piece) (pieceRows q (s .band) (s .rule) piece)
     (automatic-fit l q (s .band) piece)
     (piece-fit q (s .band) (s .rule) piece)
 
-privilege-fit : (l : List ℕ) (q : Request) (s : Segment) (p : Privilege) → Every DialsFit (privilegeRows l q s p)
+privilege-fit : (l : List ℕ) (q : Request) (s : Segment) (p : Privilege) → Every DialsFit (privilegeRows (tableOf l) q s p)
 unfolding privilegeRows
 privilege-fit l q s p =
-    cond-fit (mayUse q p) (onShared (intersectOf (s .range) (p .range)) (cutRows l q s)) []
-    (shared-fit (intersectOf (s .range) (p .range)) (cutRows l q s) (cut-fit l q s))
+    cond-fit (mayUse q p) (onShared (intersectOf (s .range) (p .range)) (cutRows (tableOf l) q s)) []
+    (shared-fit (intersectOf (s .range) (p .range)) (cutRows (tableOf l) q s) (cut-fit l q s))
     tt
 
-segment-fit : (l : List ℕ) (q : Request) (s : Segment) → Every DialsFit (segmentRows l q s)
+segment-fit : (l : List ℕ) (q : Request) (s : Segment) → Every DialsFit (segmentRows (tableOf l) q s)
 unfolding segmentRows privilegesRows
 segment-fit l q s =
-    cond-fit (tooWide q s || excludedBand l q s) [] (privilegesRows l q s) tt
-    (every-each DialsFit (countOf l privileges) (privilegeAt l q s) (λ p. privilege-fit l q s (privilegeOf (recordOf l privileges p))))
+    cond-fit (tooWide q s || excludedBand (tableOf l) q s) [] (privilegesRows (tableOf l) q s) tt
+    (every-each DialsFit (countOf l privileges) (privilegeAt (tableOf l) q s) (λ p. privilege-fit l q s (privilegeOf (recordIn l privileges p))))
 
-data-fit : (l : List ℕ) (q : Request) → Every DialsFit (dataRows l q)
+data-fit : (l : List ℕ) (q : Request) → Every DialsFit (dataRows (tableOf l) q)
 unfolding dataRows
-data-fit l q = every-each DialsFit (countOf l segments) (segmentAt l q) (λ s. segment-fit l q (segmentOf (recordOf l segments s)))
+data-fit l q = every-each DialsFit (countOf l segments) (segmentAt (tableOf l) q) (λ s. segment-fit l q (segmentOf (recordIn l segments s)))
 
 one-fit : (b : Bool) (x : SafeDial) → (b ≡ true → DialsFit x) → Every DialsFit (cond b (x ∷ []) [])
 one-fit true x h = (h refl, tt)
@@ -200,22 +201,22 @@ channel-fit q c centre =
     one-fit (channelHolds q c centre) (channelSafe c centre)
     (λ e. (f, f, held-number (channelDial c centre) (q .sideband) (q .audio) (q .«margin_hz») (channelRangeOf (c .«width_hz») centre) e))
 
-band-fit : (l : List ℕ) (q : Request) (b : ChannelBand) → Every DialsFit (bandRows l q b)
+band-fit : (l : List ℕ) (q : Request) (b : ChannelBand) → Every DialsFit (bandRows (tableOf l) q b)
 unfolding openRows channelRows
 band-fit l q (On c) =
-    cond-fit (channelsOpen q && channelFound l q) (channelRows l q c) []
-    (every-each DialsFit (countOf l channels) (channelAt l q c) (λ i. channel-fit q c (centreOf (recordOf l channels i))))
+    cond-fit (channelsOpen q && channelFound (tableOf l) q) (channelRows (tableOf l) q c) []
+    (every-each DialsFit (countOf l channels) (channelAt (tableOf l) q c) (λ i. channel-fit q c (centreOf (recordIn l channels i))))
     tt
 band-fit l q NoChannels = tt
 
-pub gathered-fit : (l : List ℕ) (q : Request) (b : ChannelBand) → Every DialsFit (dataRows l q ++ bandRows l q b)
-gathered-fit l q b = every-append DialsFit (dataRows l q) (bandRows l q b) (data-fit l q) (band-fit l q b)
+pub gathered-fit : (l : List ℕ) (q : Request) (b : ChannelBand) → Every DialsFit (dataRows (tableOf l) q ++ bandRows (tableOf l) q b)
+gathered-fit l q b = every-append DialsFit (dataRows (tableOf l) q) (bandRows (tableOf l) q b) (data-fit l q) (band-fit l q b)
 
 -- each lower dial alone, which the insertion reads back and compares
-pub gathered-low : (l : List ℕ) (q : Request) (b : ChannelBand) → Every LowNumber (dataRows l q ++ bandRows l q b)
-gathered-low l q b = every-map DialsFit LowNumber (λ x h. (h .0, h .2)) (dataRows l q ++ bandRows l q b) (gathered-fit l q b)
+pub gathered-low : (l : List ℕ) (q : Request) (b : ChannelBand) → Every LowNumber (dataRows (tableOf l) q ++ bandRows (tableOf l) q b)
+gathered-low l q b = every-map DialsFit LowNumber (λ x h. (h .0, h .2)) (dataRows (tableOf l) q ++ bandRows (tableOf l) q b) (gathered-fit l q b)
 
-pub rows-fit : (l : List ℕ) (q : Request) → Every DialsFit (rowsOf l q)
+pub rows-fit : (l : List ℕ) (q : Request) → Every DialsFit (rowsOf (tableOf l) q)
 unfolding rowsOf
 rows-fit l q = gathered-fit l q (channelsOf (generalOf l))
 
@@ -255,31 +256,31 @@ and-not-right : (a b : Bool) → a ≡ true → b ≡ true → (a && not b) ≡ 
 and-not-right a b e f = rw e (rw f)
 
 module _ (l : List ℕ) (q : Request) (s : Segment) (piece : Range) where
-  cut-by : (b : Bool) → cut q ≡ b → cutRows l q s piece ≡ cond b (automaticRows l q (s .band) piece) (pieceRows q (s .band) (s .rule) piece)
+  cut-by : (b : Bool) → cut q ≡ b → cutRows (tableOf l) q s piece ≡ cond b (automaticRows (tableOf l) q (s .band) piece) (pieceRows q (s .band) (s .rule) piece)
   unfolding cutRows
-  cut-by b e = ap (λ (b : Bool). cond b (automaticRows l q (s .band) piece) (pieceRows q (s .band) (s .rule) piece)) e
+  cut-by b e = ap (λ (b : Bool). cond b (automaticRows (tableOf l) q (s .band) piece) (pieceRows q (s .band) (s .rule) piece)) e
 
-  pub cut-automatic : q .automatic ≡ true → q .«elsewhere_ok» ≡ false → cutRows l q s piece ≡ automaticRows l q (s .band) piece
+  pub cut-automatic : q .automatic ≡ true → q .«elsewhere_ok» ≡ false → cutRows (tableOf l) q s piece ≡ automaticRows (tableOf l) q (s .band) piece
   cut-automatic e f = cut-by true (and-not-yes (q .automatic) (q .«elsewhere_ok») e f)
 
-  pub cut-elsewhere : q .automatic ≡ true → q .«elsewhere_ok» ≡ true → cutRows l q s piece ≡ pieceRows q (s .band) (s .rule) piece
+  pub cut-elsewhere : q .automatic ≡ true → q .«elsewhere_ok» ≡ true → cutRows (tableOf l) q s piece ≡ pieceRows q (s .band) (s .rule) piece
   cut-elsewhere e f = cut-by false (and-not-right (q .automatic) (q .«elsewhere_ok») e f)
 
-  pub cut-none : q .automatic ≡ false → cutRows l q s piece ≡ pieceRows q (s .band) (s .rule) piece
+  pub cut-none : q .automatic ≡ false → cutRows (tableOf l) q s piece ≡ pieceRows q (s .band) (s .rule) piece
   cut-none e = cut-by false (and-not-left (q .automatic) (q .«elsewhere_ok») e)
 
 -- ---- by cases of what passes over a segment
 
 module _ (l : List ℕ) (q : Request) (s : Segment) where
-  passed-by : (b : Bool) → (tooWide q s || excludedBand l q s) ≡ b → segmentRows l q s ≡ cond b [] (privilegesRows l q s)
+  passed-by : (b : Bool) → (tooWide q s || excludedBand (tableOf l) q s) ≡ b → segmentRows (tableOf l) q s ≡ cond b [] (privilegesRows (tableOf l) q s)
   unfolding segmentRows
-  passed-by b e = ap (λ (b : Bool). cond b [] (privilegesRows l q s)) e
+  passed-by b e = ap (λ (b : Bool). cond b [] (privilegesRows (tableOf l) q s)) e
 
-  pub wide-none : tooWide q s ≡ true → segmentRows l q s ≡ []
+  pub wide-none : tooWide q s ≡ true → segmentRows (tableOf l) q s ≡ []
   wide-none e = passed-by true (rw e)
 
-  pub excluded-none : tooWide q s ≡ false → excludedBand l q s ≡ true → segmentRows l q s ≡ []
+  pub excluded-none : tooWide q s ≡ false → excludedBand (tableOf l) q s ≡ true → segmentRows (tableOf l) q s ≡ []
   excluded-none e f = passed-by true (rw e (rw f))
 
-  pub not-passed : tooWide q s ≡ false → excludedBand l q s ≡ false → segmentRows l q s ≡ privilegesRows l q s
+  pub not-passed : tooWide q s ≡ false → excludedBand (tableOf l) q s ≡ false → segmentRows (tableOf l) q s ≡ privilegesRows (tableOf l) q s
   not-passed e f = passed-by false (rw e (rw f))

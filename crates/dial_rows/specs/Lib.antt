@@ -2,4 +2,3 @@ pub mod Apart
 pub mod Class
 pub mod Dials
 pub mod Laws
-pub mod Sound

@@ -21,6 +21,7 @@ ghost use Prim.Native.Nat.{_+_, _≤_, _<_};
 ghost use Rattle.profile.specs.Range.{holdsOf};
 ghost use lib.ListN.{length};
 ghost use Rattle.layout.specs.Form.{Whole};
+ghost use Rattle.table.specs.Table.{tableOf};
 ghost use Rattle.layout.specs.Layout.{recordAt};
 ghost use Rattle.table.specs.Parts.{segmentOf};
 ghost use Rattle.rows.specs.Pour.{Poured};
@@ -120,7 +121,7 @@ fn automatic_rows(
     piece: Range,
 ) -> usize
     requires { ⌜ (Whole (now image)) × (n + 256 ≤ 0x1_0000_0000) ⌝ }
-    ensures { λ r. ⌜ Poured (now (rows .entry)) n (now (rows .exit)) r (automaticRows (now (image .entry)) q band piece) ⌝ }
+    ensures { λ r. ⌜ Poured (now (rows .entry)) n (now (rows .exit)) r (automaticRows (tableOf (now (image .entry))) q band piece) ⌝ }
 {
     let start = layout::start_of(image, layout::AUTOMATIC);
     let count = layout::count_of(image, layout::AUTOMATIC) as usize;
@@ -139,7 +140,7 @@ fn automatic_rows(
 // The rows of the piece that a segment and a privilege share.
 fn cut_rows(image: &[u8], rows: &mut [u8], n: usize, q: Request, s: Segment, piece: Range) -> usize
     requires { ⌜ (Whole (now image)) × (n + 256 ≤ 0x1_0000_0000) ⌝ }
-    ensures { λ r. ⌜ Poured (now (rows .entry)) n (now (rows .exit)) r (cutRows (now (image .entry)) q s piece) ⌝ }
+    ensures { λ r. ⌜ Poured (now (rows .entry)) n (now (rows .exit)) r (cutRows (tableOf (now (image .entry))) q s piece) ⌝ }
 {
     if q.automatic {
         if q.elsewhere_ok {
@@ -168,7 +169,7 @@ fn privilege_rows(
     p: Privilege,
 ) -> usize
     requires { ⌜ (Whole (now image)) × (n + 256 ≤ 0x1_0000_0000) ⌝ }
-    ensures { λ r. ⌜ Poured (now (rows .entry)) n (now (rows .exit)) r (privilegeRows (now (image .entry)) q s p) ⌝ }
+    ensures { λ r. ⌜ Poured (now (rows .entry)) n (now (rows .exit)) r (privilegeRows (tableOf (now (image .entry))) q s p) ⌝ }
 {
     let a = s.range;
     let b = p.range;
@@ -197,7 +198,7 @@ fn too_wide(q: Request, s: Segment) -> bool
 // Whether 97.221 keeps the signal out of a segment's band.
 fn excluded(image: &[u8], q: Request, s: Segment) -> bool
     requires { ⌜ Whole (now image) ⌝ }
-    ensures { λ r. ⌜ r ≡ excludedBand (now (image .entry)) q s ⌝ }
+    ensures { λ r. ⌜ r ≡ excludedBand (tableOf (now (image .entry))) q s ⌝ }
 {
     if q.automatic {
         return find::some_in(image, layout::EXCLUDED, Question::OfBand(s.band));
@@ -281,7 +282,7 @@ fn privileges_rows(
     end: usize,
 ) -> usize
     requires { ⌜ (Whole (now image)) × (n + 65536 ≤ 0x1_0000_0000) × (Kept (now image) (q .class) start first end) ⌝ }
-    ensures { λ x. ⌜ Poured (now (rows .entry)) n (now (rows .exit)) x (privilegesRows (now (image .entry)) q (segmentOf r)) ⌝ }
+    ensures { λ x. ⌜ Poured (now (rows .entry)) n (now (rows .exit)) x (privilegesRows (tableOf (now (image .entry))) q (segmentOf r)) ⌝ }
 {
     let mut held = n;
     let mut i = first;
@@ -304,7 +305,7 @@ fn segment_rows(
     end: usize,
 ) -> usize
     requires { ⌜ (Whole (now image)) × (n + 65536 ≤ 0x1_0000_0000) × (Kept (now image) (q .class) start first end) ⌝ }
-    ensures { λ x. ⌜ Poured (now (rows .entry)) n (now (rows .exit)) x (segmentRows (now (image .entry)) q (segmentOf r)) ⌝ }
+    ensures { λ x. ⌜ Poured (now (rows .entry)) n (now (rows .exit)) x (segmentRows (tableOf (now (image .entry))) q (segmentOf r)) ⌝ }
 {
     let s = table::segment_of(r);
     if too_wide(q, s) {
@@ -326,7 +327,7 @@ fn segments_rows(
     end: usize,
 ) -> usize
     requires { ⌜ (Whole (now image)) × (Kept (now image) (q .class) privileges first end) ⌝ }
-    ensures { λ r. ⌜ Poured (now (rows .entry)) 0 (now (rows .exit)) r (dataRows (now (image .entry)) q) ⌝ }
+    ensures { λ r. ⌜ Poured (now (rows .entry)) 0 (now (rows .exit)) r (dataRows (tableOf (now (image .entry))) q) ⌝ }
 {
     let start = layout::start_of(image, layout::SEGMENTS);
     let count = layout::count_of(image, layout::SEGMENTS) as usize;
@@ -343,7 +344,7 @@ fn segments_rows(
 // The rows of every data segment.
 pub fn data_rows(image: &[u8], rows: &mut [u8], q: Request) -> usize
     requires { ⌜ Whole (now image) ⌝ }
-    ensures { λ r. ⌜ Poured (now (rows .entry)) 0 (now (rows .exit)) r (dataRows (now (image .entry)) q) ⌝ }
+    ensures { λ r. ⌜ Poured (now (rows .entry)) 0 (now (rows .exit)) r (dataRows (tableOf (now (image .entry))) q) ⌝ }
 {
     let start = layout::start_of(image, layout::PRIVILEGES);
     let first = class_first(image, q.class);
@@ -388,7 +389,7 @@ fn centre_held(range: Range, r: Record) -> bool
 // Whether one channel lies under one privilege of the class that allows data.
 fn channel_found(image: &[u8], q: Request) -> bool
     requires { ⌜ Whole (now image) ⌝ }
-    ensures { λ r. ⌜ r ≡ channelFound (now (image .entry)) q ⌝ }
+    ensures { λ r. ⌜ r ≡ channelFound (tableOf (now (image .entry))) q ⌝ }
 {
     let from = layout::start_of(image, layout::PRIVILEGES);
     let privileges = layout::count_of(image, layout::PRIVILEGES) as usize;
@@ -445,7 +446,7 @@ fn channel_row(rows: &mut [u8], n: usize, q: Request, c: Channels, center_hz: f6
 // The rows of every channel.
 fn channel_rows(image: &[u8], rows: &mut [u8], n: usize, q: Request, c: Channels) -> usize
     requires { ⌜ (Whole (now image)) × (n + 256 ≤ 0x1_0000_0000) ⌝ }
-    ensures { λ r. ⌜ Poured (now (rows .entry)) n (now (rows .exit)) r (channelRows (now (image .entry)) q c) ⌝ }
+    ensures { λ r. ⌜ Poured (now (rows .entry)) n (now (rows .exit)) r (channelRows (tableOf (now (image .entry))) q c) ⌝ }
 {
     let start = layout::start_of(image, layout::CHANNELS);
     let count = layout::count_of(image, layout::CHANNELS) as usize;
@@ -462,7 +463,7 @@ fn channel_rows(image: &[u8], rows: &mut [u8], n: usize, q: Request, c: Channels
 // The same where channels are asked for and one is found.
 pub fn open_rows(image: &[u8], rows: &mut [u8], n: usize, q: Request, c: Channels) -> usize
     requires { ⌜ (Whole (now image)) × (n + 256 ≤ 0x1_0000_0000) ⌝ }
-    ensures { λ r. ⌜ Poured (now (rows .entry)) n (now (rows .exit)) r (openRows (now (image .entry)) q c) ⌝ }
+    ensures { λ r. ⌜ Poured (now (rows .entry)) n (now (rows .exit)) r (openRows (tableOf (now (image .entry))) q c) ⌝ }
 {
     if channels_open(q) {
         if channel_found(image, q) {

@@ -8,13 +8,14 @@ use Rattle.layout.specs.Layout.{recordSize, trailerSize, automatic, countOf, st
 use Rattle.layout.specs.Form.{table-within}
 use Rattle.rows.specs.Each.{each-few}
 use Rattle.rows.specs.Pour.{Poured, Pouring, pouring-none, pouring-step, pouring-done}
+use Rattle.table.specs.Table.{tableOf, read-in}
 use Rattle.dial_rows.specs.Dials.{automaticAt, automaticRows}
 use Rattle.dial_rows.specs.Laws.{automatic-at-few}
 use Rattle.dial_rows.proofs.automatic_rows.Statement.{statement}
 use Rattle.dial_rows.proofs.automatic_rows.Tie as tie
 
 abbrev Inv-loop : tie.InvT-loop
-Inv-loop image rows₀ n q band piece start count rule held₀ i₀ rows held i = Pouring rows₀ n (automaticAt image q band piece) count i rows held × (length rows ≡ length rows₀)
+Inv-loop image rows₀ n q band piece start count rule held₀ i₀ rows held i = Pouring rows₀ n (automaticAt (tableOf image) q band piece) count i rows held × (length rows ≡ length rows₀)
 
 abbrev μ-loop : tie.MeasureT-loop
 μ-loop image rows₀ n q band piece start count rule held₀ i₀ rows held i = count - i
@@ -31,19 +32,19 @@ so-far c =
     omega (
       arith,
       c .before .loop .inv .0 .so-far .counted,
-      each-few (c .before .loop .i) 1 (automaticAt (c .before .before .before .before .before .before .args .image .now) (c .before .before .before .before .before .before .args .q) (c .before .before .before .before .before .before .args .band) (c .before .before .before .before .before .before .args .piece)) (automatic-at-few _ _ _ _),
+      each-few (c .before .loop .i) 1 (automaticAt (tableOf (c .before .before .before .before .before .before .args .image .now)) (c .before .before .before .before .before .before .args .q) (c .before .before .before .before .before .before .args .band) (c .before .before .before .before .before .before .args .piece)) (automatic-at-few _ _ _ _),
     )
 
 -- what a turn did
 asked :
     (c : tie.After-shared-row Inv-loop μ-loop)
-    → Poured (c .before .before .before .before .before .before .loop .rows) (c .before .before .before .before .before .before .loop .held) (c .shared-row .last .0) (c .shared-row .result) (automaticAt (c .before .before .before .before .before .before .before .before .before .before .before .args .image .now) (c .before .before .before .before .before .before .before .before .before .before .before .args .q) (c .before .before .before .before .before .before .before .before .before .before .before .args .band) (c .before .before .before .before .before .before .before .before .before .before .before .args .piece) (c .before .before .before .before .before .before .loop .i))
+    → Poured (c .before .before .before .before .before .before .loop .rows) (c .before .before .before .before .before .before .loop .held) (c .shared-row .last .0) (c .shared-row .result) (automaticAt (tableOf (c .before .before .before .before .before .before .before .before .before .before .before .args .image .now)) (c .before .before .before .before .before .before .before .before .before .before .before .args .q) (c .before .before .before .before .before .before .before .before .before .before .before .args .band) (c .before .before .before .before .before .before .before .before .before .before .before .args .piece) (c .before .before .before .before .before .before .loop .i))
 asked c =
-    rw (c .before .before .before .before .before .before .before .before .start-of .ensures) at
-    (rw (c .before .before .before .before .record-at .ensures) at
-    (rw (c .before .before .before .span-of .ensures) at
-    (rw (c .before .before .intersect .ensures) at
-    (c .shared-row .ensures))))
+    rw
+    (read-in _ automatic _ _ _ (omega arith)
+    (omega (arith, c .before .before .before .before .before .loop-test .taken, c .before .before .before .before .before .before .before .count-of .ensures))
+    (c .before .before .before .before .before .before .before .before .start-of .ensures) (c .before .before .before .before .record-at .ensures)) at
+    (rw (c .before .before .before .span-of .ensures) at (rw (c .before .before .intersect .ensures) at (c .shared-row .ensures)))
 
 start-of-requires : tie.Need-start-of-requires Inv-loop μ-loop
 start-of-requires c κs = omega (arith, c .before .before .pre .0 .sized)

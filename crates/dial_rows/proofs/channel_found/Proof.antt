@@ -10,18 +10,19 @@ use Rattle.layout.specs.Layout as layout
 use Rattle.layout.specs.Layout.{recordSize, trailerSize, countOf, startOf}
 use Rattle.layout.specs.Form.{table-within}
 use Rattle.scan.specs.First.{Passed, some, passed-none, passed-step, some-here, some-none}
+use Rattle.table.specs.Table.{tableOf, read-in}
 use Rattle.dial_rows.specs.Dials.{centreHeld, someCentreAt, channelFound}
 use Rattle.dial_rows.proofs.channel_found.Statement.{statement}
 use Rattle.dial_rows.proofs.channel_found.Tie as tie
 
 abbrev Inv-loop : tie.InvT-loop
-Inv-loop image q from privileges start channels found₀ i range k₀ found k = (found ≡ false) × Passed (centreHeld image range) channels k
+Inv-loop image q from privileges start channels found₀ i range k₀ found k = (found ≡ false) × Passed (centreHeld (tableOf image) range) channels k
 
 abbrev μ-loop : tie.MeasureT-loop
 μ-loop image q from privileges start channels found₀ i range k₀ found k = channels - k
 
 abbrev Inv-search : tie.InvT-search
-Inv-search image q from privileges start channels found₀ i₀ found i = (found ≡ false) × Passed (someCentreAt image q) privileges i
+Inv-search image q from privileges start channels found₀ i₀ found i = (found ≡ false) × Passed (someCentreAt (tableOf image) q) privileges i
 
 abbrev μ-search : tie.MeasureT-search
 μ-search image q from privileges start channels found₀ i₀ found i = privileges - i
@@ -36,23 +37,27 @@ within c =
 -- what is asked of privilege i
 asked :
     (c : tie.After-may-use Inv-loop μ-loop Inv-search μ-search)
-    → (c .may-use .result && some (centreHeld (c .before .before .before .before .before .before .before .before .before .before .args .image .now) (c .before .privilege-of .result .range)) (c .before .before .before .before .before .count-of2 .result))
-    ≡ someCentreAt (c .before .before .before .before .before .before .before .before .before .before .args .image .now) (c .before .before .before .before .before .before .before .before .before .before .args .q) (c .before .before .before .before .search .i)
+    → (c .may-use .result && some (centreHeld (tableOf (c .before .before .before .before .before .before .before .before .before .before .args .image .now)) (c .before .privilege-of .result .range)) (c .before .before .before .before .before .count-of2 .result))
+    ≡ someCentreAt (tableOf (c .before .before .before .before .before .before .before .before .before .before .args .image .now)) (c .before .before .before .before .before .before .before .before .before .before .args .q) (c .before .before .before .before .search .i)
 asked c =
     rw (c .may-use .ensures)
     (rw (c .before .privilege-of .ensures)
-    (rw (c .before .before .record-at .ensures)
-    (rw (c .before .before .before .before .before .before .before .before .start-of .ensures)
-    (rw (c .before .before .before .before .before .count-of2 .ensures)))))
+    (rw
+    (read-in _ layout.privileges _ _ _ (omega arith)
+    (omega (arith, c .before .before .before .search-test .taken, c .before .before .before .before .before .before .before .count-of .ensures))
+    (c .before .before .before .before .before .before .before .before .start-of .ensures) (c .before .before .record-at .ensures))
+    (rw (c .before .before .before .before .before .count-of2 .ensures))))
 
 -- and of channel k under it
 asked-channel :
     (c : tie.After-centre-held Inv-loop μ-loop Inv-search μ-search)
-    → c .centre-held .result ≡ centreHeld (c .before .before .before .before .before .before .before .before .before .before .before .before .before .before .before .before .args .image .now) (c .before .before .before .before .before .before .before .privilege-of .result .range) (c .before .before .before .loop .k)
+    → c .centre-held .result ≡ centreHeld (tableOf (c .before .before .before .before .before .before .before .before .before .before .before .before .before .before .before .before .args .image .now)) (c .before .before .before .before .before .before .before .privilege-of .result .range) (c .before .before .before .loop .k)
 asked-channel c =
     rw (c .centre-held .ensures)
-    (rw (c .before .record-at2 .ensures)
-    (rw (c .before .before .before .before .before .before .before .before .before .before .before .before .start-of2 .ensures)))
+    (rw
+    (read-in _ layout.channels _ _ _ (omega arith)
+    (omega (arith, c .before .before .loop-test .taken, c .before .before .before .before .before .before .before .before .before .before .before .count-of2 .ensures))
+    (c .before .before .before .before .before .before .before .before .before .before .before .before .start-of2 .ensures) (c .before .record-at2 .ensures)))
 
 either : {A B C : Type 0} → A ⊎ B → (A → C) → (B → C) → C
 either s f g = ⊎-elim f g s

@@ -8,13 +8,14 @@ use Rattle.layout.specs.Layout.{recordSize, trailerSize, channels, countOf, sta
 use Rattle.layout.specs.Form.{table-within}
 use Rattle.rows.specs.Each.{each-few}
 use Rattle.rows.specs.Pour.{Poured, Pouring, pouring-none, pouring-step, pouring-done}
+use Rattle.table.specs.Table.{tableOf, read-in}
 use Rattle.dial_rows.specs.Dials.{channelAt, channelRows}
 use Rattle.dial_rows.specs.Laws.{channel-few}
 use Rattle.dial_rows.proofs.channel_rows.Statement.{statement}
 use Rattle.dial_rows.proofs.channel_rows.Tie as tie
 
 abbrev Inv-loop : tie.InvT-loop
-Inv-loop image rows₀ n q c start count held₀ i₀ rows held i = Pouring rows₀ n (channelAt image q c) count i rows held × (length rows ≡ length rows₀)
+Inv-loop image rows₀ n q c start count held₀ i₀ rows held i = Pouring rows₀ n (channelAt (tableOf image) q c) count i rows held × (length rows ≡ length rows₀)
 
 abbrev μ-loop : tie.MeasureT-loop
 μ-loop image rows₀ n q c start count held₀ i₀ rows held i = count - i
@@ -31,18 +32,19 @@ so-far c =
     omega (
       arith,
       c .before .loop .inv .0 .so-far .counted,
-      each-few (c .before .loop .i) 1 (channelAt (c .before .before .before .before .before .before .args .image .now) (c .before .before .before .before .before .before .args .q) (c .before .before .before .before .before .before .args .c)) (λ i. channel-few _ _ _),
+      each-few (c .before .loop .i) 1 (channelAt (tableOf (c .before .before .before .before .before .before .args .image .now)) (c .before .before .before .before .before .before .args .q) (c .before .before .before .before .before .before .args .c)) (λ i. channel-few _ _ _),
     )
 
 -- what a turn did
 asked :
     (c : tie.After-channel-row Inv-loop μ-loop)
-    → Poured (c .before .before .before .before .before .loop .rows) (c .before .before .before .before .before .loop .held) (c .channel-row .last .0) (c .channel-row .result) (channelAt (c .before .before .before .before .before .before .before .before .before .before .args .image .now) (c .before .before .before .before .before .before .before .before .before .before .args .q) (c .before .before .before .before .before .before .before .before .before .before .args .c) (c .before .before .before .before .before .loop .i))
+    → Poured (c .before .before .before .before .before .loop .rows) (c .before .before .before .before .before .loop .held) (c .channel-row .last .0) (c .channel-row .result) (channelAt (tableOf (c .before .before .before .before .before .before .before .before .before .before .args .image .now)) (c .before .before .before .before .before .before .before .before .before .before .args .q) (c .before .before .before .before .before .before .before .before .before .before .args .c) (c .before .before .before .before .before .loop .i))
 asked c =
-    rw (c .before .before .before .before .before .before .before .start-of .ensures) at
-    (rw (c .before .before .before .record-at .ensures) at
-    (rw (c .before .centre-of .ensures) at
-    (c .channel-row .ensures)))
+    rw
+    (read-in _ channels _ _ _ (omega arith)
+    (omega (arith, c .before .before .before .before .loop-test .taken, c .before .before .before .before .before .before .count-of .ensures))
+    (c .before .before .before .before .before .before .before .start-of .ensures) (c .before .before .before .record-at .ensures)) at
+    (rw (c .before .centre-of .ensures) at (c .channel-row .ensures))
 
 start-of-requires : tie.Need-start-of-requires Inv-loop μ-loop
 start-of-requires c κs = omega (arith, c .before .before .pre .0 .sized)

@@ -1,13 +1,13 @@
 -- `dial_rows::class_end` meets its contract: a loop invariant, and a law for the first turn, each turn and the end.
 use Prim.Native.Nat.{_+_, _*_, _-_, _≤_}
 use mathlib.Core.Bool.{false}
-use mathlib.Core.Path.{_≡_}
+use mathlib.Core.Path.{_≡_, _∙_}
 use lib.ListN.{length}
 use native.Mathlib.Omega.{arith}
 use borrow.Author.Tests.{ne-eqb}
 use Rattle.layout.specs.Layout.{recordSize, trailerSize, privileges, countOf, startOf}
 use Rattle.layout.specs.Form.{table-within}
-use Rattle.dial_rows.specs.Class.{isOf, Past, past-none, past-step}
+use Rattle.dial_rows.specs.Class.{isOf, of-in, Past, past-none, past-step}
 use Rattle.dial_rows.proofs.class_end.Statement.{statement}
 use Rattle.dial_rows.proofs.class_end.Tie as tie
 
@@ -24,7 +24,9 @@ within c = table-within (c .args .image .now) (c .pre) privileges (omega arith)
 asked :
     (c : tie.Else1 Inv-loop μ-loop)
     → isOf (c .before .before .before .before .before .before .before .args .image .now) (c .before .before .before .before .before .before .before .args .class) (c .before .before .before .loop .k - 1) ≡ false
-asked c = rw (c .before .before .before .before .before .start-of .ensures) at (rw (c .before .class-at .ensures) at (ne-eqb _ _ (c .if1 .left)))
+asked c =
+    of-in _ _ _ (omega (arith, c .before .before .loop-test .taken, c .before .before .before .loop .inv .within))
+    ∙ (rw (c .before .before .before .before .before .start-of .ensures) at (rw (c .before .class-at .ensures) at (ne-eqb _ _ (c .if1 .left))))
 
 start-of-requires : tie.Need-start-of-requires Inv-loop μ-loop
 start-of-requires c κs = omega (arith, c .before .pre .sized)

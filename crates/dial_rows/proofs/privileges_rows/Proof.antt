@@ -1,13 +1,14 @@
 -- `dial_rows::privileges_rows` meets its contract: a loop invariant, and a law for the first turn, each turn and the end.
 use Prim.Native.Nat.{_+_, _*_, _-_, _<_, _≤_}
-use mathlib.Core.Path.{_≡_, _∙_}
+use mathlib.Core.Path.{_≡_, refl, _∙_}
 use lib.ListN.{length}
 use native.Mathlib.Omega.{arith}
-use Rattle.layout.specs.Layout.{recordSize, trailerSize, privileges, countOf, startOf}
+use Rattle.layout.specs.Layout.{recordSize, trailerSize, privileges, recordAt, countOf, startOf}
 use Rattle.layout.specs.Form.{table-within}
 use Rattle.table.specs.Parts.{segmentOf}
 use Rattle.rows.specs.Each.{each-few}
 use Rattle.rows.specs.Pour.{Poured, Pouring, pouring-step}
+use Rattle.table.specs.Table.{tableOf, read-in}
 use Rattle.dial_rows.specs.Dials.{privilegeAt}
 use Rattle.dial_rows.specs.Laws.{privilege-few}
 use Rattle.dial_rows.specs.Class.{pouring-first, pouring-last}
@@ -16,7 +17,7 @@ use Rattle.dial_rows.proofs.privileges_rows.Tie as tie
 
 abbrev Inv-loop : tie.InvT-loop
 Inv-loop image rows₀ n q r start first end held₀ i₀ rows held i =
-    Pouring rows₀ n (privilegeAt image q (segmentOf r)) (countOf image privileges) i rows held × (length rows ≡ length rows₀)
+    Pouring rows₀ n (privilegeAt (tableOf image) q (segmentOf r)) (countOf image privileges) i rows held × (length rows ≡ length rows₀)
 
 abbrev μ-loop : tie.MeasureT-loop
 μ-loop image rows₀ n q r start first end held₀ i₀ rows held i = end - i
@@ -42,7 +43,7 @@ so-far c =
     omega (
       arith,
       c .before .loop .inv .0 .so-far .counted,
-      each-few (c .before .loop .i) 256 (privilegeAt (a .image .now) (a .q) (segmentOf (a .r)))
+      each-few (c .before .loop .i) 256 (privilegeAt (tableOf (a .image .now)) (a .q) (segmentOf (a .r)))
           (λ i. privilege-few _ (c .before .before .before .before .pre .0) _ _ _),
     )
 
@@ -52,8 +53,13 @@ asked :
     → let a = c .before .before .before .before .before .before .args in
     let t = c .before .before .before .loop in
     Poured (t .rows) (t .held) (c .record-rows .last .1 .0) (c .record-rows .result)
-    (privilegeAt (a .image .now) (a .q) (segmentOf (a .r)) (t .i))
-asked c = rw (c .before .before .before .before .before .before .pre .2 .placed) at (c .record-rows .ensures)
+    (privilegeAt (tableOf (a .image .now)) (a .q) (segmentOf (a .r)) (t .i))
+asked c =
+    let a = c .before .before .before .before .before .before in
+    let i = c .before .before .before .loop .i in
+    rw (read-in (a .args .image .now) privileges i (a .args .start) (recordAt (a .args .image .now) (a .args .start + recordSize * i)) (omega arith)
+    (below (c .before .before)) (a .pre .2 .placed) refl) at
+    (c .record-rows .ensures)
 
 loop-holds : tie.Need-loop-holds Inv-loop μ-loop
 loop-holds c = (pouring-first _ _ _ _ _ _ (c .before .before .pre .2 .ahead), omega arith)

@@ -2,6 +2,7 @@
 use mathlib.Core.Path.{_≡_, sym, _∙_}
 use Rattle.table.specs.Parts.{segmentOf}
 use Rattle.rows.specs.Pour.{poured-none}
+use Rattle.table.specs.Table.{tableOf, read-in}
 use Rattle.dial_rows.specs.Dials.{tooWide, excludedBand}
 use Rattle.dial_rows.specs.Laws.{wide-none, excluded-none, not-passed}
 use borrow.Author.Needs.{needs}
@@ -15,7 +16,7 @@ wide c = sym (rw (c .before .segment-of .ensures) at (c .too-wide .ensures))
 kept-out :
     (c : tie.After-excluded)
     → let a = c .before .before .before .before .before .before .args in
-    excludedBand (a .image .now) (a .q) (segmentOf (a .r)) ≡ c .excluded .result
+    excludedBand (tableOf (a .image .now)) (a .q) (segmentOf (a .r)) ≡ c .excluded .result
 kept-out c = sym (rw (c .before .before .before .segment-of .ensures) at (c .excluded .ensures))
 
 segment-of-requires : tie.Need-segment-of-requires

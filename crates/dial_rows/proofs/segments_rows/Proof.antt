@@ -7,13 +7,14 @@ use Rattle.layout.specs.Layout.{recordSize, trailerSize, segments, countOf, sta
 use Rattle.layout.specs.Form.{table-within}
 use Rattle.rows.specs.Each.{each-few}
 use Rattle.rows.specs.Pour.{Poured, Pouring, pouring-none, pouring-step, pouring-done}
+use Rattle.table.specs.Table.{tableOf, read-in}
 use Rattle.dial_rows.specs.Dials.{segmentAt, dataRows}
 use Rattle.dial_rows.specs.Laws.{segment-few}
 use Rattle.dial_rows.proofs.segments_rows.Statement.{statement}
 use Rattle.dial_rows.proofs.segments_rows.Tie as tie
 
 abbrev Inv-loop : tie.InvT-loop
-Inv-loop image rows₀ q privileges first end start count held₀ i₀ rows held i = Pouring rows₀ 0 (segmentAt image q) count i rows held × (length rows ≡ length rows₀)
+Inv-loop image rows₀ q privileges first end start count held₀ i₀ rows held i = Pouring rows₀ 0 (segmentAt (tableOf image) q) count i rows held × (length rows ≡ length rows₀)
 
 abbrev μ-loop : tie.MeasureT-loop
 μ-loop image rows₀ q privileges first end start count held₀ i₀ rows held i = count - i
@@ -30,18 +31,20 @@ so-far c =
     omega (
       arith,
       c .before .loop .inv .0 .so-far .counted,
-      each-few (c .before .loop .i) 65536 (segmentAt (c .before .before .before .before .before .before .args .image .now) (c .before .before .before .before .before .before .args .q)) (λ i. segment-few _ (c .before .before .before .before .before .before .pre .0) _ _),
+      each-few (c .before .loop .i) 65536 (segmentAt (tableOf (c .before .before .before .before .before .before .args .image .now)) (c .before .before .before .before .before .before .args .q)) (λ i. segment-few _ (c .before .before .before .before .before .before .pre .0) _ _),
     )
 
 -- what a turn did
 asked :
     (c : tie.After-segment-rows Inv-loop μ-loop)
     → let a = c .before .before .before .before .before .before .before .before .before .args in let t = c .before .before .before .before .loop in
-    Poured (t .rows) (t .held) (c .segment-rows .last .1 .0) (c .segment-rows .result) (segmentAt (a .image .now) (a .q) (t .i))
+    Poured (t .rows) (t .held) (c .segment-rows .last .1 .0) (c .segment-rows .result) (segmentAt (tableOf (a .image .now)) (a .q) (t .i))
 asked c =
-    rw (c .before .before .before .before .before .before .start-of .ensures) at
-    (rw (c .before .before .record-at .ensures) at
-    (c .segment-rows .ensures))
+    rw
+    (read-in _ segments _ _ _ (omega arith)
+    (omega (arith, c .before .before .before .loop-test .taken, c .before .before .before .before .before .count-of .ensures))
+    (c .before .before .before .before .before .before .start-of .ensures) (c .before .before .record-at .ensures)) at
+    (c .segment-rows .ensures)
 
 start-of-requires : tie.Need-start-of-requires Inv-loop μ-loop
 start-of-requires c κs = omega (arith, c .before .before .pre .0 .sized)
