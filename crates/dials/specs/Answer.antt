@@ -22,6 +22,7 @@ use Rattle.occupancy.specs.declared.Edges.{Edges}
 use Rattle.station.specs.Station.{underRules, situationOf}
 use Rattle.station.specs.declared.StationRecord.{StationRecord}
 use Rattle.station.specs.declared.Situation.{Situation}
+use Rattle.table.specs.Table.{Table, tableOf}
 use Rattle.entry.specs.Entry.{entryTests, entryOf, edgesValid, edgesRead}
 use Rattle.rows.specs.Rows.{rowSize, insertAll, sorted, encodeAll}
 use Rattle.rows.specs.Each.{Every}
@@ -132,44 +133,44 @@ module _ (lent own : List ℕ) (room : ℕ) where
 
 -- ---- a station as it is read
 
-module _ (l : List ℕ) (s : Situation) (d : Direction) (e : Edges) where
-  pub no-sideband : s .sideband ≡ NoSideband → situationRows l s d e ≡ []
+module _ (table : Table) (s : Situation) (d : Direction) (e : Edges) where
+  pub no-sideband : s .sideband ≡ NoSideband → situationRows table s d e ≡ []
   unfolding situationRows
   no-sideband p =
       ap
       (λ x. withSideband x
       (λ sideband. withLicense (s .license)
       (λ license. withControl (s .control)
-      (λ control. knownRows l s d e sideband license control)))) p
+      (λ control. knownRows table s d e sideband license control)))) p
 
   with-sideband :
       (x : Sideband) → s .sideband ≡ SidebandIs x
-      → situationRows l s d e ≡ withLicense (s .license) (λ license. withControl (s .control) (λ control. knownRows l s d e x license control))
+      → situationRows table s d e ≡ withLicense (s .license) (λ license. withControl (s .control) (λ control. knownRows table s d e x license control))
   unfolding situationRows
   with-sideband x p =
       ap
       (λ y. withSideband y
       (λ sideband. withLicense (s .license)
       (λ license. withControl (s .control)
-      (λ control. knownRows l s d e sideband license control)))) p
+      (λ control. knownRows table s d e sideband license control)))) p
 
-  pub no-license : (x : Sideband) → s .sideband ≡ SidebandIs x → s .license ≡ NoLicense → situationRows l s d e ≡ []
-  no-license x p q = with-sideband x p ∙ ap (λ y. withLicense y (λ license. withControl (s .control) (λ control. knownRows l s d e x license control))) q
+  pub no-license : (x : Sideband) → s .sideband ≡ SidebandIs x → s .license ≡ NoLicense → situationRows table s d e ≡ []
+  no-license x p q = with-sideband x p ∙ ap (λ y. withLicense y (λ license. withControl (s .control) (λ control. knownRows table s d e x license control))) q
 
   with-license :
       (x : Sideband) (c : LicenseClass) → s .sideband ≡ SidebandIs x → s .license ≡ LicenseIs c
-      → situationRows l s d e ≡ withControl (s .control) (λ control. knownRows l s d e x c control)
-  with-license x c p q = with-sideband x p ∙ ap (λ y. withLicense y (λ license. withControl (s .control) (λ control. knownRows l s d e x license control))) q
+      → situationRows table s d e ≡ withControl (s .control) (λ control. knownRows table s d e x c control)
+  with-license x c p q = with-sideband x p ∙ ap (λ y. withLicense y (λ license. withControl (s .control) (λ control. knownRows table s d e x license control))) q
 
   pub no-control :
       (x : Sideband) (c : LicenseClass) → s .sideband ≡ SidebandIs x → s .license ≡ LicenseIs c → s .control ≡ NoControl
-      → situationRows l s d e ≡ []
-  no-control x c p q r = with-license x c p q ∙ ap (λ y. withControl y (λ control. knownRows l s d e x c control)) r
+      → situationRows table s d e ≡ []
+  no-control x c p q r = with-license x c p q ∙ ap (λ y. withControl y (λ control. knownRows table s d e x c control)) r
 
   pub all-known :
       (x : Sideband) (c : LicenseClass) (m : ControlMode) → s .sideband ≡ SidebandIs x → s .license ≡ LicenseIs c → s .control ≡ ControlIs m
-      → situationRows l s d e ≡ knownRows l s d e x c m
-  all-known x c m p q r = with-license x c p q ∙ ap (λ y. withControl y (λ control. knownRows l s d e x c control)) r
+      → situationRows table s d e ≡ knownRows table s d e x c m
+  all-known x c m p q r = with-license x c p q ∙ ap (λ y. withControl y (λ control. knownRows table s d e x c control)) r
 
 pub filled-empty : (xs : List SafeDial) (lent : List ℕ) → xs ≡ [] → Filled xs lent lent (Rows 0)
 filled-empty xs lent e = rw e (filled-none lent)
@@ -217,8 +218,8 @@ module _ (r : StationRecord) (direction : ℕ) (e : Edges) (l lent : List ℕ) w
 
   pub rows-free : underRules r ≡ false → listRows r direction e l ≡ []
   unfolding listRows
-  rows-free u = ap (λ (b : Bool). cond b (situationRows l (situationOf r) (directionOf direction) (edgesRead e)) []) u
+  rows-free u = ap (λ (b : Bool). cond b (situationRows (tableOf l) (situationOf r) (directionOf direction) (edgesRead e)) []) u
 
-  pub rows-rules : underRules r ≡ true → listRows r direction e l ≡ situationRows l (situationOf r) (directionOf direction) (edgesRead e)
+  pub rows-rules : underRules r ≡ true → listRows r direction e l ≡ situationRows (tableOf l) (situationOf r) (directionOf direction) (edgesRead e)
   unfolding listRows
-  rows-rules u = ap (λ (b : Bool). cond b (situationRows l (situationOf r) (directionOf direction) (edgesRead e)) []) u
+  rows-rules u = ap (λ (b : Bool). cond b (situationRows (tableOf l) (situationOf r) (directionOf direction) (edgesRead e)) []) u

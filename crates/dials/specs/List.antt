@@ -24,8 +24,8 @@ use Rattle.occupancy.specs.declared.Edges.{Edges}
 use Rattle.station.specs.Station.{underRules, situationOf}
 use Rattle.station.specs.declared.StationRecord.{StationRecord}
 use Rattle.station.specs.declared.Situation.{Situation}
-use Rattle.layout.specs.Layout.{generalOf}
 use Rattle.table.specs.Parts.{readingOf}
+use Rattle.table.specs.Table.{Table, tableOf}
 use Rattle.entry.specs.Entry.{entryTests, edgesValid, edgesRead}
 use Rattle.rows.specs.Rows.{rowSize, sorted, encodeAll}
 use Rattle.rows.specs.declared.SafeDial.{SafeDial}
@@ -47,20 +47,20 @@ withControl (ControlIs c) f = f c
 withControl NoControl f = []
 
 -- the rows for a station as it is read, and edges as they are read
-abbrev pub knownRows : List ℕ → Situation → Direction → Edges → Sideband → LicenseClass → ControlMode → List SafeDial
-knownRows l s direction e sideband license control =
-    rowsOf l (requestOf (generalOf l) license sideband control direction (s .«margin_hz») (rangeOf e (readingOf (generalOf l))))
+abbrev pub knownRows : Table → Situation → Direction → Edges → Sideband → LicenseClass → ControlMode → List SafeDial
+knownRows table s direction e sideband license control =
+    rowsOf table (requestOf (table .general) license sideband control direction (s .«margin_hz») (rangeOf e (readingOf (table .general))))
 
-unfoldable pub situationRows : List ℕ → Situation → Direction → Edges → List SafeDial
-situationRows l s direction e =
+unfoldable pub situationRows : Table → Situation → Direction → Edges → List SafeDial
+situationRows table s direction e =
     withSideband (s .sideband)
     (λ sideband. withLicense (s .license)
     (λ license. withControl (s .control)
-    (λ control. knownRows l s direction e sideband license control)))
+    (λ control. knownRows table s direction e sideband license control)))
 
 -- the rows of the list, before they are sorted. Without Rules there are none: "Images are read only under Rules."
 unfoldable pub listRows : StationRecord → ℕ → Edges → List ℕ → List SafeDial
-listRows r direction e l = cond (underRules r) (situationRows l (situationOf r) (directionOf direction) (edgesRead e)) []
+listRows r direction e l = cond (underRules r) (situationRows (tableOf l) (situationOf r) (directionOf direction) (edgesRead e)) []
 
 -- 23 "the dial list longer than the whole rows lent"
 abbrev pub lentTests : List SafeDial → List ℕ → List Test

@@ -17,6 +17,7 @@ ghost use lib.ListN.{length, drop};
 ghost use lib.Seq.{paste};
 ghost use Rattle.rows.specs.Rows.{sorted, encodeAll};
 ghost use Rattle.layout.specs.Form.{Whole};
+ghost use Rattle.table.specs.Table.{tableOf};
 ghost use Rattle.rows.specs.Pour.{Poured};
 ghost use Rattle.dial_rows.specs.Dials.{dataRows, bandRows};
 ghost use Rattle.dials.specs.List.{situationRows, Begun, Filled, SafeDials};
@@ -33,7 +34,7 @@ const OWN: usize = 2304;
 // Every row, one after the other, into bytes that may have room for them or not; and their count.
 fn gather(image: &[u8], rows: &mut [u8], q: Request, band: ChannelBand) -> usize
     requires { ⌜ Whole (now image) ⌝ }
-    ensures { λ r. ⌜ Poured (now (rows .entry)) 0 (now (rows .exit)) r (dataRows (now (image .entry)) q ++ bandRows (now (image .entry)) q band) ⌝ }
+    ensures { λ r. ⌜ Poured (now (rows .entry)) 0 (now (rows .exit)) r (dataRows (tableOf (now (image .entry))) q ++ bandRows (tableOf (now (image .entry))) q band) ⌝ }
 {
     let n = dial_rows::data_rows(image, rows, q);
     match band {
@@ -56,8 +57,8 @@ fn copy(rows: &mut [u8], own: &[u8], room: usize)
 
 // Writes the rows, which fit: from the bytes that they were counted on, where these had room for all, and else by one more pass.
 fn settle(image: &[u8], rows: &mut [u8], q: Request, band: ChannelBand, own: &[u8], count: usize)
-    requires { ⌜ (Whole (now image)) × (Begun (dataRows (now image) q ++ bandRows (now image) q band) (now own)) × (count ≡ length (dataRows (now image) q ++ bandRows (now image) q band)) × (count * 36 ≤ length (now rows)) ⌝ }
-    ensures { λ r. ⌜ now (rows .exit) ≡ encodeAll (sorted (dataRows (now (image .entry)) q ++ bandRows (now (image .entry)) q band)) ++ drop (count * 36) (now (rows .entry)) ⌝ }
+    requires { ⌜ (Whole (now image)) × (Begun (dataRows (tableOf (now image)) q ++ bandRows (tableOf (now image)) q band) (now own)) × (count ≡ length (dataRows (tableOf (now image)) q ++ bandRows (tableOf (now image)) q band)) × (count * 36 ≤ length (now rows)) ⌝ }
+    ensures { λ r. ⌜ now (rows .exit) ≡ encodeAll (sorted (dataRows (tableOf (now (image .entry))) q ++ bandRows (tableOf (now (image .entry))) q band)) ++ drop (count * 36) (now (rows .entry)) ⌝ }
 {
     let room = count * rows::ROW_SIZE;
     if room <= own.len() {
@@ -76,7 +77,7 @@ fn fill_from(
     band: ChannelBand,
 ) -> DialList
     requires { ⌜ Whole (now image) ⌝ }
-    ensures { λ a. ⌜ Filled (dataRows (now (image .entry)) q ++ bandRows (now (image .entry)) q band) (now (rows .entry)) (now (rows .exit)) a ⌝ }
+    ensures { λ a. ⌜ Filled (dataRows (tableOf (now (image .entry))) q ++ bandRows (tableOf (now (image .entry))) q band) (now (rows .entry)) (now (rows .exit)) a ⌝ }
 {
     let count = gather(image, own, q, band);
     if rows.len() / rows::ROW_SIZE < count {
@@ -89,7 +90,7 @@ fn fill_from(
 // The same with bytes made for it.
 fn fill(image: &[u8], rows: &mut [u8], q: Request, band: ChannelBand) -> DialList
     requires { ⌜ Whole (now image) ⌝ }
-    ensures { λ a. ⌜ Filled (dataRows (now (image .entry)) q ++ bandRows (now (image .entry)) q band) (now (rows .entry)) (now (rows .exit)) a ⌝ }
+    ensures { λ a. ⌜ Filled (dataRows (tableOf (now (image .entry))) q ++ bandRows (tableOf (now (image .entry))) q band) (now (rows .entry)) (now (rows .exit)) a ⌝ }
 {
     let mut own = [0u8; OWN];
     fill_from(image, rows, &mut own, q, band)
@@ -104,7 +105,7 @@ fn situation_list(
     e: Edges,
 ) -> DialList
     requires { ⌜ Whole (now image) ⌝ }
-    ensures { λ a. ⌜ Filled (situationRows (now (image .entry)) s direction e) (now (rows .entry)) (now (rows .exit)) a ⌝ }
+    ensures { λ a. ⌜ Filled (situationRows (tableOf (now (image .entry))) s direction e) (now (rows .entry)) (now (rows .exit)) a ⌝ }
 {
     let sideband_set = s.sideband;
     let SidebandSet::SidebandIs(sideband) = sideband_set else {

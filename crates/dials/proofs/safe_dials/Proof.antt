@@ -7,6 +7,7 @@ use mathlib.Core.List.{[]}
 use Rattle.codes.specs.Read.{directionValid, directionOf}
 use Rattle.station.specs.Station.{situationOf}
 use Rattle.entry.specs.Entry.{edgesRead}
+use Rattle.table.specs.Table.{tableOf}
 use Rattle.dials.specs.List.{situationRows, listRows, Filled}
 use Rattle.dials.specs.Answer.{filled-none, safe-refused, safe-edges, safe-filled, rows-free, rows-rules}
 use borrow.Author.Needs.{needs}
@@ -16,7 +17,7 @@ use Rattle.dials.proofs.safe_dials.Tie as tie
 -- the list of the station and the edges as they are read
 asked :
     (c : tie.After-situation-list)
-    → Filled (situationRows (c .before .before .before .before .before .before .before .before .before .before .before .before .before .before .args .image .now) (situationOf (c .before .before .before .before .before .before .before .before .before .before .before .before .before .before .args .r)) (directionOf (c .before .before .before .before .before .before .before .before .before .before .before .before .before .before .args .direction)) (edgesRead (c .before .before .before .before .before .before .before .before .before .before .before .before .before .before .args .e))) (c .before .before .before .before .before .before .before .before .before .before .before .before .before .before .args .rows .now) (c .situation-list .last .1 .0) (c .situation-list .result)
+    → Filled (situationRows (tableOf (c .before .before .before .before .before .before .before .before .before .before .before .before .before .before .args .image .now)) (situationOf (c .before .before .before .before .before .before .before .before .before .before .before .before .before .before .args .r)) (directionOf (c .before .before .before .before .before .before .before .before .before .before .before .before .before .before .args .direction)) (edgesRead (c .before .before .before .before .before .before .before .before .before .before .before .before .before .before .args .e))) (c .before .before .before .before .before .before .before .before .before .before .before .before .before .before .args .rows .now) (c .situation-list .last .1 .0) (c .situation-list .result)
 asked c =
     rw (c .before .before .before .before .situation-of .ensures) at
     (rw (c .before .before .before .edges-read .ensures) at
