@@ -20,6 +20,7 @@ use Rattle.coded.specs.Coded.{codedOf, codedGeneral}
 use Rattle.find.specs.Question.{asks, soundBits, soundRecord}
 use Rattle.profile.specs.Range.{range}
 use Rattle.image.specs.Check.{codedBlock, miscoded, soundBlock, unsound, bare, unlimited, checkOf}
+use Rattle.table.specs.Table.{recordIn, tableOf}
 use Rattle.tidy.specs.Tidy.{twoShare, tidyTable, tidyOf}
 use Rattle.tidy.specs.declared.Tidiness.{Tidiness}
 use Rattle.tidy.specs.declared.Tidiness.the-variants.{Tidy, Untidy, NotJudged}
@@ -29,7 +30,7 @@ use Rattle.entry.specs.Entry.{edgesValid, edgesRead}
 use Rattle.occupancy.specs.declared.Edges.{Edges}
 use Rattle.decision.specs.Decision.{noAdvice, finishOf, simpleOf, refusedOf}
 use Rattle.part97.specs.Part97.{draftOf, draftInside, draftAutomatic, privilegedOf, noted, notesUpTo, anyNote, planSays, wantsPlan, guidanceOf, adviceOf, adviceWarns, advised, automaticElsewhere, automaticData, considered, nearestUpTo, overshootOf, outsideSegments, insideSegment, judgeData, allowedOnSixty, sixtyChannel, sixtySegment, sixtyPlace, sixtyEmission, sixtyKind, sixty, judgeOnBand, judgeInBand, touching, judge}
-use Rattle.verdict.specs.Verdict.{airOf, signalOf, caseOf, ruledOf, underRulesOf, unruledOf, decideOf, evaluateOf}
+use Rattle.verdict.specs.Verdict.{airOf, signalOf, caseOf, readyOf, underRulesOf, unruledOf, decideOf, evaluateOf}
 use Rattle.dials.specs.List.{situationRows, listRows, listTests, answerOf, bytesOf, SafeDials}
 use Rattle.dials.specs.declared.DialList.{DialList}
 use Rattle.dials.specs.declared.DialList.the-variants.{Rows}
@@ -40,7 +41,7 @@ use Rattle.eighths.specs.Grid.{inEighths}
 use Rattle.distance.specs.Distance.{isOutside, consideredAt, leastUpTo, distanceOf}
 use Rattle.distance.specs.declared.Distance.{Distance}
 use Rattle.distance.specs.declared.Distance.the-variants.{Hertz, NoneListed}
-use Rattle.demand_3.specs.Words.{recordInEighths, blockInEighths, imageInEighths, edgesInEighths, stationInEighths, hertzInEighths, tuned, accepted, inForce, prerequisitesMet, guardedWidth, positiveWidth, channelBandHolds, onChannelBand, verdictAt, allows, distanceAt, Demand3}
+use Rattle.demand_3.specs.Words.{recordInEighths, blockInEighths, tableInEighths, edgesInEighths, stationInEighths, hertzInEighths, tuned, accepted, inForce, prerequisitesMet, guardedWidth, positiveWidth, channelBandHolds, onChannelBand, verdictAt, allows, distanceAt, Demand3}
 use Rattle.demand_3.specs.Theorem.{demand-3}
 
 -- ---- small tables, put together field by field
@@ -171,8 +172,8 @@ module _ (r : StationRecord) (e : Edges) (l : List ℕ) where
   -- tidy, in force, eighths, prerequisites, width, not refused, off the channel band
   abbrev premises : Float → List Bool
   premises dial =
-      isTidy (tidyOf l) ∷ inForce r l ∷ hertzInEighths r e l dial ∷ prerequisitesMet l (situationOf (tuned r dial)) ∷ positiveWidth r e l
-      ∷ accepted (verdictAt r 0 e l dial .refusal) ∷ not (onChannelBand r e l dial) ∷ []
+      isTidy (tidyOf l) ∷ inForce r l ∷ hertzInEighths r e (tableOf l) dial ∷ prerequisitesMet (tableOf l) (situationOf (tuned r dial)) ∷ positiveWidth r e (tableOf l)
+      ∷ accepted (verdictAt r 0 e l dial .refusal) ∷ not (onChannelBand r e (tableOf l) dial) ∷ []
 
   -- what an input comes to
   record Outcome (dial : Float) (count : ℕ) (met : List Bool) (distance : Distance) (allowed : Bool) : Type 0 where
@@ -212,7 +213,7 @@ holds r e l dial count distance allowed o =
       width = ap (at 4) (o .premises-are);
       fitted = o .fitted;
       not-refused = accepted-yes (verdictAt r 0 e l dial .refusal) (ap (at 5) (o .premises-are));
-      off-channels = not-true (onChannelBand r e l dial) (ap (at 6) (o .premises-are));
+      off-channels = not-true (onChannelBand r e (tableOf l) dial) (ap (at 6) (o .premises-are));
     })
 
 -- ---- computed
@@ -222,12 +223,12 @@ opened : Unit {0}
 unfolding
     situationRows listRows requestOf pieceRows automaticRows cutRows privilegeRows privilegesRows segmentRows dataRows channelFound channelRow
     channelRows openRows rowsOf insertRow insertAll little figuresOf encodeRow encodeAll each toBits evaluateOf decideOf unruledOf underRulesOf
-    ruledOf caseOf signalOf airOf judge touching judgeInBand judgeOnBand sixty sixtyKind sixtyEmission sixtyPlace sixtySegment sixtyChannel
+    readyOf caseOf signalOf airOf judge touching judgeInBand judgeOnBand sixty sixtyKind sixtyEmission sixtyPlace sixtySegment sixtyChannel
     allowedOnSixty judgeData insideSegment outsideSegments overshootOf nearestUpTo considered automaticData automaticElsewhere advised
     adviceWarns adviceOf guidanceOf planSays wantsPlan notesUpTo anyNote noted privilegedOf draftAutomatic draftInside draftOf refusedOf
     simpleOf finishOf noAdvice edgesRead edgesValid situationOf codesValid figuresValid checkOf codedBlock miscoded soundBlock unsound bare
     unlimited asks soundBits soundRecord codedOf codedGeneral recordsBefore recordAt generalOf u16At u32At u64At firstFrom lt le eq ne neg add
-    sub mul div ofInt ofBits tidyTable twoShare inEighths recordInEighths blockInEighths imageInEighths edgesInEighths stationInEighths
+    sub mul div ofInt ofBits recordIn tidyTable twoShare inEighths recordInEighths blockInEighths tableInEighths edgesInEighths stationInEighths
     hertzInEighths tuned inForce prerequisitesMet guardedWidth positiveWidth channelBandHolds onChannelBand isOutside consideredAt leastUpTo
     distanceOf
 opened = tt

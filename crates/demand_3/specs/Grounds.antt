@@ -19,9 +19,10 @@ use Rattle.occupancy.specs.declared.Reading.the-variants.{Power, Spectral, Wide
 use Rattle.air.specs.Air.{widthOf}
 use Rattle.scan.specs.First.{some, some-false}
 use Rattle.layout.specs.Form.{formTests}
-use Rattle.layout.specs.Layout.{tables, power, generalOf, recordOf, countOf}
+use Rattle.layout.specs.Layout.{tables, power, generalOf}
 use Rattle.layout.specs.declared.General.{General}
 use Rattle.table.specs.Parts.{elsewhereOf}
+use Rattle.table.specs.Table.{countIn, recordIn, tableOf}
 use Rattle.table.specs.declared.ElsewhereRule.the-variants.{Under, Nowhere}
 use Rattle.find.specs.Question.{asks, soundBits, soundRecord}
 use Rattle.find.specs.declared.Question.the-variants.{Unsound}
@@ -30,7 +31,7 @@ use Rattle.entry.specs.Entry.{edgesValid, edgesRead}
 use Rattle.eighths.specs.Grid.{Figure, Eighths, inEighths}
 use Rattle.eighths.specs.Laws.{eighths-of, in-eighths, zero-eighths, neg-eighths, eq-eighths, figure-of}
 use Rattle.exact.specs.Air.{width}
-use Rattle.demand_3.specs.Words.{recordInEighths, blockInEighths, offGridAt, offGridIn, imageInEighths, edgesInEighths}
+use Rattle.demand_3.specs.Words.{recordInEighths, blockInEighths, offGridAt, offGridIn, tableInEighths, edgesInEighths}
 use Rattle.demand_3.specs.Tests.{and-left, and-right}
 use Rattle.demand_3.specs.Order.{Grid, grid, le-true, le-of, lt-true, lt-false, le-by-lt, by-max, by-min, figure-grid, Figures}
 use Rattle.demand_3.specs.Listed.{Spans}
@@ -95,32 +96,32 @@ or-false-right : (a b : Bool) → (a || b) ≡ false → b ≡ false
 or-false-right true b e = absurd (true≢false e)
 or-false-right false b e = e
 
-module _ (l : List ℕ) (C : checkOf l ≡ Accepted) (E : imageInEighths l ≡ true) where
+module _ (l : List ℕ) (C : checkOf l ≡ Accepted) (E : tableInEighths (tableOf l) ≡ true) where
   -- refusal 6 met nothing
-  sound : unsound l ≡ false
+  sound : unsound (tableOf l) ≡ false
   unfolding checkOf
-  sound = none-fails (contentTests l) (refusal-both (formTests l) (contentTests l) C .1) .1 .0
+  sound = none-fails (contentTests (tableOf l)) (refusal-both (formTests l) (contentTests (tableOf l)) C .1) .1 .0
 
-  record-sound : (t i : ℕ) → t < tables → i < countOf l t → soundRecord (recordOf l t i) ≡ true
+  record-sound : (t i : ℕ) → t < tables → i < countIn l t → soundRecord (recordIn l t i) ≡ true
   unfolding unsound asks
   record-sound t i ht hi =
-      not-false (soundRecord (recordOf l t i))
-      (some-false (λ k. asks Unsound (recordOf l t k)) (countOf l t)
-      (some-false (unsoundIn l) tables (or-false-right (not (soundBlock (generalOf l))) (some (unsoundIn l) tables) sound) t ht) i hi)
+      not-false (soundRecord (recordIn l t i))
+      (some-false (λ k. asks Unsound (recordIn l t k)) (countIn l t)
+      (some-false (unsoundIn (tableOf l)) tables (or-false-right (not (soundBlock (generalOf l))) (some (unsoundIn (tableOf l)) tables) sound) t ht) i hi)
 
-  record-on : (t i : ℕ) → t < tables → i < countOf l t → recordInEighths t (recordOf l t i) ≡ true
-  unfolding imageInEighths
+  record-on : (t i : ℕ) → t < tables → i < countIn l t → recordInEighths t (recordIn l t i) ≡ true
+  unfolding tableInEighths
   record-on t i ht hi =
-      not-false (recordInEighths t (recordOf l t i))
-      (some-false (offGridAt l t) (countOf l t)
-      (some-false (offGridIn l) tables (not-true (some (offGridIn l) tables) (and-right (blockInEighths (generalOf l)) (not (some (offGridIn l) tables)) E)) t ht) i hi)
+      not-false (recordInEighths t (recordIn l t i))
+      (some-false (offGridAt (tableOf l) t) (countIn l t)
+      (some-false (offGridIn (tableOf l)) tables (not-true (some (offGridIn (tableOf l)) tables) (and-right (blockInEighths (generalOf l)) (not (some (offGridIn (tableOf l)) tables)) E)) t ht) i hi)
 
-  pub spans : Spans l
+  pub spans : Spans (tableOf l)
   unfolding soundRecord recordInEighths
   spans =
       record {
         span = λ t i ht hi.
-            let r = recordOf l t i in
+            let r = recordIn l t i in
             let s = all-three (soundBits (r .low)) (soundBits (r .high)) (soundBits (r .figure)) (record-sound t i ht hi) in
             let o =
             all-three (inEighths (figureOf (r .low))) (inEighths (figureOf (r .high))) (eqb t power || inEighths (figureOf (r .figure))) (record-on t i ht hi) in
@@ -129,7 +130,7 @@ module _ (l : List ℕ) (C : checkOf l ≡ Accepted) (E : imageInEighths l ≡ t
 
   -- the limit of 97.221(c)
   elsewhere-figure : Figure (figureOf (generalOf l .«elsewhere_limit»))
-  unfolding unsound soundBlock imageInEighths blockInEighths
+  unfolding unsound soundBlock tableInEighths blockInEighths
   elsewhere-figure =
       let g = generalOf l in
       let rest = soundBits (g .«channel_width») && (soundBits (g .«carrier_offset») && soundBits (g .«carrier_tolerance»)) in
@@ -137,10 +138,10 @@ module _ (l : List ℕ) (C : checkOf l ≡ Accepted) (E : imageInEighths l ≡ t
       inEighths (figureOf (g .«channel_width»)) && (inEighths (figureOf (g .«carrier_offset»)) && inEighths (figureOf (g .«carrier_tolerance»))) in
       let s =
       all-three (soundBits (g .«data_limit»)) (soundBits (g .«elsewhere_limit»)) rest
-      (not-false (soundBlock g) (or-false-left (not (soundBlock g)) (some (unsoundIn l) tables) sound)) in
+      (not-false (soundBlock g) (or-false-left (not (soundBlock g)) (some (unsoundIn (tableOf l)) tables) sound)) in
       let o =
       all-three (inEighths (figureOf (g .«data_limit»))) (inEighths (figureOf (g .«elsewhere_limit»))) on
-      (and-left (blockInEighths g) (not (some (offGridIn l) tables)) E) in
+      (and-left (blockInEighths g) (not (some (offGridIn (tableOf l)) tables)) E) in
       bits-figure (g .«elsewhere_limit») (s .1) (o .1)
 
   -- It compares with the width of figures both ways.

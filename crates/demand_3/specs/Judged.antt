@@ -12,12 +12,12 @@ use Rattle.codes.specs.Code.{bitOf}
 use Rattle.codes.specs.declared.EmissionKind.{EmissionKind}
 use Rattle.codes.specs.declared.EmissionKind.the-variants.{Data}
 use Rattle.profile.specs.declared.Range.{Range}
-use Rattle.air.specs.Air.{unguardedOf}
 use Rattle.scan.specs.First.{isAt, onFound}
 use Rattle.scan.specs.declared.Found.{Found}
 use Rattle.scan.specs.declared.Found.the-variants.{At, Nothing}
-use Rattle.layout.specs.Layout.{bands, segments, automatic, excluded, generalOf, recordOf, countOf}
+use Rattle.layout.specs.Layout.{bands, segments, automatic, excluded}
 use Rattle.layout.specs.declared.General.{General}
+use Rattle.table.specs.Table.{Table}
 use Rattle.table.specs.Parts.{spanOf, excludedOf, elsewhereOf, channelsOf, channelSidebandOf}
 use Rattle.table.specs.declared.Segment.{Segment}
 use Rattle.table.specs.declared.ElsewhereRule.{ElsewhereRule}
@@ -50,7 +50,7 @@ simple-blocked : (d : Draft) (code : Code) (rule : ℕ) → allows (simpleOf d B
 unfolding simpleOf finishOf
 simple-blocked d code rule = refl
 
-advised-sent : (table : List ℕ) (c : Case) (r : Range) (d : Draft) (code : Code) (rule : ℕ) → allows (advised table c r d code rule) ≡ true
+advised-sent : (table : Table) (c : Case) (r : Range) (d : Draft) (code : Code) (rule : ℕ) → allows (advised table c r d code rule) ≡ true
 unfolding advised finishOf
 advised-sent table c r d code rule = go (adviceWarns table c r)
   where
@@ -66,7 +66,7 @@ abbrev pub Comparable : ElsewhereRule → Float → Type 0
 Comparable (Under e) width = le width (e .«max_bandwidth_hz») ≡ not (lt (e .«max_bandwidth_hz») width)
 Comparable Nowhere width = Unit
 
-module _ (table : List ℕ) (c : Case) where
+module _ (table : Table) (c : Case) where
   -- ---- 97.221
 
   elsewhere-allows :
@@ -81,19 +81,19 @@ module _ (table : List ℕ) (c : Case) where
           → allows (cond a (simpleOf draft Blocked AutomaticBandwidth (e .rule)) (cond (b && not r) (simpleOf draft Blocked AutomaticOriginate (e .rule)) (advisedAutomatic table c draft AutomaticResponse (e .rule))))
           ≡ (not a && (r || not b))
       go true b r = simple-blocked draft _ (e .rule)
-      go false true true = advised-sent table c (unguardedOf (c .«margin_hz») (c .guarded)) draft AutomaticResponse (e .rule)
+      go false true true = advised-sent table c (c .advised) draft AutomaticResponse (e .rule)
       go false true false = simple-blocked draft _ (e .rule)
-      go false false true = advised-sent table c (unguardedOf (c .«margin_hz») (c .guarded)) draft AutomaticResponse (e .rule)
-      go false false false = advised-sent table c (unguardedOf (c .«margin_hz») (c .guarded)) draft AutomaticResponse (e .rule)
+      go false false true = advised-sent table c (c .advised) draft AutomaticResponse (e .rule)
+      go false false false = advised-sent table c (c .advised) draft AutomaticResponse (e .rule)
   elsewhere-allows draft Nowhere k = simple-blocked draft _ (automaticRule table)
 
   -- 97.221(b), or (c)
   abbrev pub automaticMet : Bool
   automaticMet =
-      someIn table automatic (Holds (c .guarded)) || elsewhereAllows (elsewhereOf (generalOf table)) (c .width) (c .direction)
+      someIn table automatic (Holds (c .guarded)) || elsewhereAllows (elsewhereOf (table .general)) (c .width) (c .direction)
 
   automatic-allows :
-      (band : ℕ) (segment : Range) (rule : ℕ) → Comparable (elsewhereOf (generalOf table)) (c .width)
+      (band : ℕ) (segment : Range) (rule : ℕ) → Comparable (elsewhereOf (table .general)) (c .width)
       → allows (automaticData table c band segment rule) ≡ automaticMet
   unfolding automaticData
   automatic-allows band segment rule k = go (firstIn table automatic (Holds (c .guarded)))
@@ -103,13 +103,13 @@ module _ (table : List ℕ) (c : Case) where
           → allows
           (onFound f
           (λ a.
-          advisedAutomatic table c (draftAutomatic c band segment rule (spanOf (recordOf table automatic a))) AutomaticSegment (automaticRule table))
-          (automaticElsewhere table c (draftInside c band segment rule) (elsewhereOf (generalOf table))))
-          ≡ (isAt f || elsewhereAllows (elsewhereOf (generalOf table)) (c .width) (c .direction))
+          advisedAutomatic table c (draftAutomatic c band segment rule (spanOf (table .at automatic a))) AutomaticSegment (automaticRule table))
+          (automaticElsewhere table c (draftInside c band segment rule) (elsewhereOf (table .general))))
+          ≡ (isAt f || elsewhereAllows (elsewhereOf (table .general)) (c .width) (c .direction))
       go (At a) =
-          advised-sent table c (unguardedOf (c .«margin_hz») (c .guarded)) (draftAutomatic c band segment rule (spanOf (recordOf table automatic a))) AutomaticSegment
+          advised-sent table c (c .advised) (draftAutomatic c band segment rule (spanOf (table .at automatic a))) AutomaticSegment
           (automaticRule table)
-      go Nothing = elsewhere-allows (draftInside c band segment rule) (elsewhereOf (generalOf table)) k
+      go Nothing = elsewhere-allows (draftInside c band segment rule) (elsewhereOf (table .general)) k
 
   -- ---- inside a segment
 
@@ -118,7 +118,7 @@ module _ (table : List ℕ) (c : Case) where
     pub granted : privilegedOf table c Data ≡ Granted
     pub met : c .automatic ≡ true → automaticMet ≡ true
 
-  module _ (K : Comparable (elsewhereOf (generalOf table)) (c .width)) (band : ℕ) (s : Segment) where
+  module _ (K : Comparable (elsewhereOf (table .general)) (c .width)) (band : ℕ) (s : Segment) where
     abbrev controlled : Bool → Decision
     controlled b =
         cond b (automaticData table c band (s .range) (s .rule))
@@ -153,7 +153,7 @@ module _ (table : List ℕ) (c : Case) where
 
   outside-blocked : (band : ℕ) → allows (outsideSegments table c band) ≡ false
   unfolding outsideSegments finishOf
-  outside-blocked band = go (nearestUpTo table c (countOf table segments))
+  outside-blocked band = go (nearestUpTo table c (table .count segments))
     where
       go :
           (n : Nearest)
@@ -174,7 +174,7 @@ module _ (table : List ℕ) (c : Case) where
     pub narrow : lt (limitFor table (At segment) .«max_bandwidth_hz») (c .width) ≡ false
     pub inside : Inside
 
-  module _ (K : Comparable (elsewhereOf (generalOf table)) (c .width)) (band : ℕ) where
+  module _ (K : Comparable (elsewhereOf (table .general)) (c .width)) (band : ℕ) where
     abbrev placed : Found → Bool → Decision
     placed f b =
         cond b (tooWide c band (limitFor table f))
@@ -244,17 +244,17 @@ module _ (table : List ℕ) (c : Case) where
   abbrev excludedHere : ℕ → Bool
   excludedHere band = c .automatic && someIn table excluded (OfBand band)
 
-  in-band : (band : ℕ) → excludedHere band ≡ false → judgeInBand table c band ≡ judgeOnBand table c band (channelsOf (generalOf table))
+  in-band : (band : ℕ) → excludedHere band ≡ false → judgeInBand table c band ≡ judgeOnBand table c band (channelsOf (table .general))
   unfolding judgeInBand
   in-band band e = go (c .automatic) (firstIn table excluded (OfBand band)) e
     where
       go :
           (a : Bool) (f : Found) → (a && isAt f) ≡ false
           → cond a
-          (onFound f (λ x. simpleOf (draftOf c (Band band)) Blocked AutomaticExcluded (excludedOf (recordOf table excluded x) .rule))
-          (judgeOnBand table c band (channelsOf (generalOf table))))
-          (judgeOnBand table c band (channelsOf (generalOf table)))
-          ≡ judgeOnBand table c band (channelsOf (generalOf table))
+          (onFound f (λ x. simpleOf (draftOf c (Band band)) Blocked AutomaticExcluded (excludedOf (table .at excluded x) .rule))
+          (judgeOnBand table c band (channelsOf (table .general))))
+          (judgeOnBand table c band (channelsOf (table .general)))
+          ≡ judgeOnBand table c band (channelsOf (table .general))
       go true (At i) e = absurd (true≢false e)
       go true Nothing e = refl
       go false f e = refl
@@ -267,13 +267,13 @@ module _ (table : List ℕ) (c : Case) where
           (a : Bool) (f : Found)
           → allows
           (cond a
-          (onFound f (λ x. simpleOf (draftOf c (Band band)) Blocked AutomaticExcluded (excludedOf (recordOf table excluded x) .rule))
-          (judgeOnBand table c band (channelsOf (generalOf table))))
-          (judgeOnBand table c band (channelsOf (generalOf table))))
+          (onFound f (λ x. simpleOf (draftOf c (Band band)) Blocked AutomaticExcluded (excludedOf (table .at excluded x) .rule))
+          (judgeOnBand table c band (channelsOf (table .general))))
+          (judgeOnBand table c band (channelsOf (table .general))))
           ≡ true
           → (a && isAt f) ≡ false
       go true (At i) e =
-          absurd (false≢true (sym (simple-blocked (draftOf c (Band band)) AutomaticExcluded (excludedOf (recordOf table excluded i) .rule)) ∙ e))
+          absurd (false≢true (sym (simple-blocked (draftOf c (Band band)) AutomaticExcluded (excludedOf (table .at excluded i) .rule)) ∙ e))
       go true Nothing e = refl
       go false f e = refl
 
@@ -288,16 +288,16 @@ module _ (table : List ℕ) (c : Case) where
   abbrev pub OffChannels : Type 0
   OffChannels =
       (b : ℕ) → firstIn table bands (Holds (c .guarded)) ≡ At b
-      → isOutside (generalOf table .flags) (generalOf table .«channel_band») (bandAt table b .band) ≡ true
+      → isOutside (table .general .flags) (table .general .«channel_band») (bandAt table b .band) ≡ true
 
-  module _ (K : Comparable (elsewhereOf (generalOf table)) (c .width)) (off : OffChannels) (kind : c .kind ≡ Data) where
+  module _ (K : Comparable (elsewhereOf (table .general)) (c .width)) (off : OffChannels) (kind : c .kind ≡ Data) where
     abbrev judgedAt : Found → Decision
     judgedAt f =
         onFound f (λ b. judgeInBand table c (bandAt table b .band)) (simpleOf (draftOf c (touching table c)) Blocked OutOfBand §97-301)
 
     off-band : (b : ℕ) → firstIn table bands (Holds (c .guarded)) ≡ At b → excludedHere (bandAt table b .band) ≡ false → judgeInBand table c (bandAt table b .band) ≡ offSixty table c (bandAt table b .band) Data
     off-band b f x =
-        in-band (bandAt table b .band) x ∙ on-band (generalOf table) (bandAt table b .band) (off b f)
+        in-band (bandAt table b .band) x ∙ on-band (table .general) (bandAt table b .band) (off b f)
         ∙ ap (λ (k : EmissionKind). offSixty table c (bandAt table b .band) k) kind
 
     pub judged-in : Judged → allows (judge table c) ≡ true

@@ -14,8 +14,9 @@ use Rattle.air.specs.declared.DialRange.the-variants.{Dials, NoDial}
 use Rattle.scan.specs.First.{first, some, isAt, first-at, first-nothing}
 use Rattle.scan.specs.declared.Found.{Found}
 use Rattle.scan.specs.declared.Found.the-variants.{At, Nothing as NotFound}
-use Rattle.layout.specs.Layout.{segments, privileges, automatic, recordOf, countOf, tables}
+use Rattle.layout.specs.Layout.{segments, privileges, automatic, tables}
 use Rattle.layout.specs.declared.Record.{Record}
+use Rattle.table.specs.Table.{Table}
 use Rattle.table.specs.Parts.{spanOf, segmentOf, privilegeOf}
 use Rattle.table.specs.declared.Segment.{Segment}
 use Rattle.table.specs.declared.Privilege.{Privilege}
@@ -64,8 +65,8 @@ lies flags channel dial x =
     counts flags channel (x .band) (x .«dial_low_hz») (x .«dial_high_hz») && (le (x .«dial_low_hz») dial && le dial (x .«dial_high_hz»))
 
 -- every record's range is of figures in eighths
-pub record Spans (l : List ℕ) : Type 0 where
-  pub span : (t i : ℕ) → t < tables → i < countOf l t → Figures (spanOf (recordOf l t i))
+pub record Spans (table : Table) : Type 0 where
+  pub span : (t i : ℕ) → t < tables → i < table .count t → Figures (spanOf (table .at t i))
 
 -- the guarded signal at a dial
 abbrev pub guardedAt : Request → Float → Range
@@ -133,7 +134,7 @@ module _ (flags channel : ℕ) (q : Request) (dial : Float) (D : Figure dial) (M
 
   -- ---- what a piece becomes where the list is cut to the automatic segments
 
-  module _ (l : List ℕ) (S : Spans l) (long : lengthy (guardedAt q dial) ≡ true) where
+  module _ (table : Table) (S : Spans table) (long : lengthy (guardedAt q dial) ≡ true) where
     abbrev listed : List SafeDial → Bool
     listed = anyRow (lies flags channel dial)
 
@@ -164,36 +165,36 @@ module _ (flags channel : ℕ) (q : Request) (dial : Float) (D : Figure dial) (M
 
     cut-in :
         (s : Segment) (piece : Range) → Figures piece → isOutside flags channel (s .band) ≡ true → holdsOf piece signal ≡ true
-        → (cut q ≡ true → someIn l automatic (Holds signal) ≡ true) → listed (cutRows l q s piece) ≡ true
+        → (cut q ≡ true → someIn table automatic (Holds signal) ≡ true) → listed (cutRows table q s piece) ≡ true
     unfolding cutRows automaticRows
     cut-in s piece P o h auto = go (cut q) auto
       where
-        inside : Some (λ i. asks (Holds signal) (recordOf l automatic i)) (countOf l automatic) → listed (each (countOf l automatic) (automaticAt l q (s .band) piece)) ≡ true
+        inside : Some (λ i. asks (Holds signal) (table .at automatic i)) (table .count automatic) → listed (each (table .count automatic) (automaticAt table q (s .band) piece)) ≡ true
         inside a =
-            any-each-in (lies flags channel dial) (countOf l automatic) (automaticAt l q (s .band) piece) (a .index) (a .below)
-            (shared-in piece (spanOf (recordOf l automatic (a .index))) P (S .span automatic (a .index) (omega arith) (a .below))
+            any-each-in (lies flags channel dial) (table .count automatic) (automaticAt table q (s .band) piece) (a .index) (a .below)
+            (shared-in piece (spanOf (table .at automatic (a .index))) P (S .span automatic (a .index) (omega arith) (a .below))
             (pieceRows q (s .band) (q .«segments_rule»)) (λ r R k. piece-in (s .band) (q .«segments_rule») r R o k) h
-            (sym (asks-holds signal (recordOf l automatic (a .index))) ∙ a .passes))
+            (sym (asks-holds signal (table .at automatic (a .index))) ∙ a .passes))
 
         go :
-            (b : Bool) → (b ≡ true → someIn l automatic (Holds signal) ≡ true)
-            → listed (cond b (each (countOf l automatic) (automaticAt l q (s .band) piece)) (pieceRows q (s .band) (s .rule) piece)) ≡ true
-        go true auto = inside (some-true (λ i. asks (Holds signal) (recordOf l automatic i)) (countOf l automatic) (auto refl))
+            (b : Bool) → (b ≡ true → someIn table automatic (Holds signal) ≡ true)
+            → listed (cond b (each (table .count automatic) (automaticAt table q (s .band) piece)) (pieceRows q (s .band) (s .rule) piece)) ≡ true
+        go true auto = inside (some-true (λ i. asks (Holds signal) (table .at automatic i)) (table .count automatic) (auto refl))
         go false auto = piece-in (s .band) (s .rule) piece P o h
 
     -- what a row of a cut piece says
     pub record CutOf (s : Segment) (piece : Range) : Type 0 where
       pub outside : isOutside flags channel (s .band) ≡ true
       pub holds : holdsOf piece signal ≡ true
-      pub automatic-holds : cut q ≡ true → someIn l automatic (Holds signal) ≡ true
+      pub automatic-holds : cut q ≡ true → someIn table automatic (Holds signal) ≡ true
 
-    cut-of : (s : Segment) (piece : Range) → Figures piece → listed (cutRows l q s piece) ≡ true → CutOf s piece
+    cut-of : (s : Segment) (piece : Range) → Figures piece → listed (cutRows table q s piece) ≡ true → CutOf s piece
     unfolding cutRows automaticRows
     cut-of s piece P e = go (cut q) refl e
       where
-        inside : Index (lies flags channel dial) (countOf l automatic) (automaticAt l q (s .band) piece) → CutOf s piece
+        inside : Index (lies flags channel dial) (table .count automatic) (automaticAt table q (s .band) piece) → CutOf s piece
         inside a =
-            shared-of piece (spanOf (recordOf l automatic (a .index))) P (S .span automatic (a .index) (omega arith) (a .below))
+            shared-of piece (spanOf (table .at automatic (a .index))) P (S .span automatic (a .index) (omega arith) (a .below))
             (pieceRows q (s .band) (q .«segments_rule»)) (CutOf s piece)
             (λ r R back e.
             let x = piece-of (s .band) (q .«segments_rule») r R e in
@@ -202,16 +203,16 @@ module _ (flags channel : ℕ) (q : Request) (dial : Float) (D : Figure dial) (M
               outside = x .0;
               holds = both .0;
               automatic-holds = λ _.
-                  some-of (λ i. asks (Holds signal) (recordOf l automatic i)) (countOf l automatic) (a .index) (a .below)
-                  (asks-holds signal (recordOf l automatic (a .index)) ∙ both .1);
+                  some-of (λ i. asks (Holds signal) (table .at automatic i)) (table .count automatic) (a .index) (a .below)
+                  (asks-holds signal (table .at automatic (a .index)) ∙ both .1);
             })
             (a .passes)
 
         go :
             (b : Bool) → cut q ≡ b
-            → listed (cond b (each (countOf l automatic) (automaticAt l q (s .band) piece)) (pieceRows q (s .band) (s .rule) piece)) ≡ true
+            → listed (cond b (each (table .count automatic) (automaticAt table q (s .band) piece)) (pieceRows q (s .band) (s .rule) piece)) ≡ true
             → CutOf s piece
-        go true c e = inside (any-each-of (lies flags channel dial) (countOf l automatic) (automaticAt l q (s .band) piece) e)
+        go true c e = inside (any-each-of (lies flags channel dial) (table .count automatic) (automaticAt table q (s .band) piece) e)
         go false c e =
             let x = piece-of (s .band) (s .rule) piece P e in
             record { outside = x .0; holds = x .1; automatic-holds = λ t. absurd (true≢false (sym t ∙ c)) }
@@ -224,21 +225,21 @@ module _ (flags channel : ℕ) (q : Request) (dial : Float) (D : Figure dial) (M
       pub outside : isOutside flags channel (s .band) ≡ true
       pub segment-holds : holdsOf (s .range) signal ≡ true
       pub privilege-holds : holdsOf (p .range) signal ≡ true
-      pub automatic-holds : cut q ≡ true → someIn l automatic (Holds signal) ≡ true
+      pub automatic-holds : cut q ≡ true → someIn table automatic (Holds signal) ≡ true
 
-    pair-in : (s : Segment) (p : Privilege) → Figures (s .range) → Figures (p .range) → PairOf s p → listed (privilegeRows l q s p) ≡ true
+    pair-in : (s : Segment) (p : Privilege) → Figures (s .range) → Figures (p .range) → PairOf s p → listed (privilegeRows table q s p) ≡ true
     unfolding privilegeRows
     pair-in s p FS FP x =
         rw (x .may-use)
-        (shared-in (s .range) (p .range) FS FP (cutRows l q s) (λ r R k. cut-in s r R (x .outside) k (x .automatic-holds)) (x .segment-holds) (x .privilege-holds))
+        (shared-in (s .range) (p .range) FS FP (cutRows table q s) (λ r R k. cut-in s r R (x .outside) k (x .automatic-holds)) (x .segment-holds) (x .privilege-holds))
 
-    pair-of : (s : Segment) (p : Privilege) → Figures (s .range) → Figures (p .range) → listed (privilegeRows l q s p) ≡ true → PairOf s p
+    pair-of : (s : Segment) (p : Privilege) → Figures (s .range) → Figures (p .range) → listed (privilegeRows table q s p) ≡ true → PairOf s p
     unfolding privilegeRows
     pair-of s p FS FP e = go (mayUse q p) refl e
       where
-        go : (b : Bool) → mayUse q p ≡ b → listed (cond b (onShared (intersectOf (s .range) (p .range)) (cutRows l q s)) []) ≡ true → PairOf s p
+        go : (b : Bool) → mayUse q p ≡ b → listed (cond b (onShared (intersectOf (s .range) (p .range)) (cutRows table q s)) []) ≡ true → PairOf s p
         go true m e =
-            shared-of (s .range) (p .range) FS FP (cutRows l q s) (PairOf s p)
+            shared-of (s .range) (p .range) FS FP (cutRows table q s) (PairOf s p)
             (λ r R back e.
             let x = cut-of s r R e in
             let both = back (x .holds) in
@@ -255,47 +256,47 @@ module _ (flags channel : ℕ) (q : Request) (dial : Float) (D : Figure dial) (M
     -- ---- the whole list
 
     abbrev segmentIn : ℕ → Segment
-    segmentIn i = segmentOf (recordOf l segments i)
+    segmentIn i = segmentOf (table .at segments i)
 
     abbrev privilegeIn : ℕ → Privilege
-    privilegeIn i = privilegeOf (recordOf l privileges i)
+    privilegeIn i = privilegeOf (table .at privileges i)
 
     -- what makes data lawful at the dial, in the list's words
     pub record Lawful : Type 0 where
       pub segment : ℕ
       pub privilege : ℕ
-      pub segment-below : segment < countOf l segments
-      pub privilege-below : privilege < countOf l privileges
+      pub segment-below : segment < table .count segments
+      pub privilege-below : privilege < table .count privileges
       pub narrow : tooWide q (segmentIn segment) ≡ false
-      pub not-excluded : excludedBand l q (segmentIn segment) ≡ false
+      pub not-excluded : excludedBand table q (segmentIn segment) ≡ false
       pub pair : PairOf (segmentIn segment) (privilegeIn privilege)
 
-    segment-span : (i : ℕ) → i < countOf l segments → Figures (segmentIn i .range)
+    segment-span : (i : ℕ) → i < table .count segments → Figures (segmentIn i .range)
     segment-span i h = S .span segments i (omega arith) h
 
-    privilege-span : (i : ℕ) → i < countOf l privileges → Figures (privilegeIn i .range)
+    privilege-span : (i : ℕ) → i < table .count privileges → Figures (privilegeIn i .range)
     privilege-span i h = S .span privileges i (omega arith) h
 
-    pub data-in : Lawful → listed (dataRows l q) ≡ true
+    pub data-in : Lawful → listed (dataRows table q) ≡ true
     unfolding dataRows segmentRows privilegesRows
     data-in w =
-        any-each-in (lies flags channel dial) (countOf l segments) (segmentAt l q) (w .segment) (w .segment-below)
+        any-each-in (lies flags channel dial) (table .count segments) (segmentAt table q) (w .segment) (w .segment-below)
         (rw (w .narrow)
         (rw (w .not-excluded)
-        (any-each-in (lies flags channel dial) (countOf l privileges) (privilegeAt l q (segmentIn (w .segment))) (w .privilege) (w .privilege-below)
+        (any-each-in (lies flags channel dial) (table .count privileges) (privilegeAt table q (segmentIn (w .segment))) (w .privilege) (w .privilege-below)
         (pair-in (segmentIn (w .segment)) (privilegeIn (w .privilege)) (segment-span (w .segment) (w .segment-below))
         (privilege-span (w .privilege) (w .privilege-below)) (w .pair)))))
 
-    pub data-of : listed (dataRows l q) ≡ true → Lawful
+    pub data-of : listed (dataRows table q) ≡ true → Lawful
     unfolding dataRows segmentRows privilegesRows
-    data-of e = outer (any-each-of (lies flags channel dial) (countOf l segments) (segmentAt l q) e)
+    data-of e = outer (any-each-of (lies flags channel dial) (table .count segments) (segmentAt table q) e)
       where
-        outer : Index (lies flags channel dial) (countOf l segments) (segmentAt l q) → Lawful
-        outer s = go (tooWide q (segmentIn (s .index))) (excludedBand l q (segmentIn (s .index))) refl refl (s .passes)
+        outer : Index (lies flags channel dial) (table .count segments) (segmentAt table q) → Lawful
+        outer s = go (tooWide q (segmentIn (s .index))) (excludedBand table q (segmentIn (s .index))) refl refl (s .passes)
           where
             inner :
-                tooWide q (segmentIn (s .index)) ≡ false → excludedBand l q (segmentIn (s .index)) ≡ false
-                → Index (lies flags channel dial) (countOf l privileges) (privilegeAt l q (segmentIn (s .index))) → Lawful
+                tooWide q (segmentIn (s .index)) ≡ false → excludedBand table q (segmentIn (s .index)) ≡ false
+                → Index (lies flags channel dial) (table .count privileges) (privilegeAt table q (segmentIn (s .index))) → Lawful
             inner n o p =
                 record {
                   segment = s .index;
@@ -310,8 +311,8 @@ module _ (flags channel : ℕ) (q : Request) (dial : Float) (D : Figure dial) (M
                 }
 
             go :
-                (a b : Bool) → tooWide q (segmentIn (s .index)) ≡ a → excludedBand l q (segmentIn (s .index)) ≡ b
-                → listed (cond (a || b) [] (each (countOf l privileges) (privilegeAt l q (segmentIn (s .index))))) ≡ true → Lawful
+                (a b : Bool) → tooWide q (segmentIn (s .index)) ≡ a → excludedBand table q (segmentIn (s .index)) ≡ b
+                → listed (cond (a || b) [] (each (table .count privileges) (privilegeAt table q (segmentIn (s .index))))) ≡ true → Lawful
             go true b n o e = absurd (false≢true e)
             go false true n o e = absurd (false≢true e)
-            go false false n o e = inner n o (any-each-of (lies flags channel dial) (countOf l privileges) (privilegeAt l q (segmentIn (s .index))) e)
+            go false false n o e = inner n o (any-each-of (lies flags channel dial) (table .count privileges) (privilegeAt table q (segmentIn (s .index))) e)

@@ -14,8 +14,9 @@ use Rattle.profile.specs.declared.Range.{Range}
 use Rattle.profile.specs.declared.Shared.the-variants.{Stretch, Nothing}
 use Rattle.air.specs.Air.{dialEndsOf}
 use Rattle.air.specs.declared.DialRange.the-variants.{Dials, NoDial}
-use Rattle.layout.specs.Layout.{segments, channels, privileges, automatic, generalOf, recordOf, countOf}
+use Rattle.layout.specs.Layout.{segments, channels, privileges, automatic}
 use Rattle.layout.specs.declared.General.{General}
+use Rattle.table.specs.Table.{Table}
 use Rattle.table.specs.Parts.{spanOf, segmentOf, privilegeOf, channelsOf, channelSidebandOf, centreOf}
 use Rattle.table.specs.declared.Segment.{Segment}
 use Rattle.table.specs.declared.Channels.{Channels}
@@ -49,25 +50,25 @@ every-cond P false xs ys p q = q
 -- ---- channel rows
 
 -- a row of the channel band
-abbrev pub OnChannels : List ℕ → SafeDial → Type 0
-OnChannels l x = isOutside (generalOf l .flags) (generalOf l .«channel_band») (x .band) ≡ false
+abbrev pub OnChannels : Table → SafeDial → Type 0
+OnChannels table x = isOutside (table .general .flags) (table .general .«channel_band») (x .band) ≡ false
 
 own-band : (flags channel : ℕ) → bitOf flags 2 ≡ true → isOutside flags channel channel ≡ false
 unfolding isOutside
 own-band flags channel e = rw e (rw (eq-eqb channel channel refl))
 
-channel-rows : (P : SafeDial → Type 0) (l : List ℕ) (q : Request) (c : Channels) → ((centre : Float) → P (channelSafe c centre)) → Every P (openRows l q c)
+channel-rows : (P : SafeDial → Type 0) (table : Table) (q : Request) (c : Channels) → ((centre : Float) → P (channelSafe c centre)) → Every P (openRows table q c)
 unfolding openRows channelRows channelRow
-channel-rows P l q c h =
-    every-cond P (channelsOpen q && channelFound l q) (each (countOf l channels) (channelAt l q c)) []
-    (every-below P (countOf l channels) (channelAt l q c)
-    (λ i _. every-cond P (channelHolds q c (centreOf (recordOf l channels i))) (channelSafe c (centreOf (recordOf l channels i)) ∷ []) [] (h (centreOf (recordOf l channels i)), tt) tt))
+channel-rows P table q c h =
+    every-cond P (channelsOpen q && channelFound table q) (each (table .count channels) (channelAt table q c)) []
+    (every-below P (table .count channels) (channelAt table q c)
+    (λ i _. every-cond P (channelHolds q c (centreOf (table .at channels i))) (channelSafe c (centreOf (table .at channels i)) ∷ []) [] (h (centreOf (table .at channels i)), tt) tt))
     tt
 
-pub band-rows : (l : List ℕ) (q : Request) → Every (OnChannels l) (bandRows l q (channelsOf (generalOf l)))
-band-rows l q = go (generalOf l)
+pub band-rows : (table : Table) (q : Request) → Every (OnChannels table) (bandRows table q (channelsOf (table .general)))
+band-rows table q = go (table .general)
   where
-    go : (g : General) → Every (λ x. isOutside (g .flags) (g .«channel_band») (x .band) ≡ false) (bandRows l q (channelsOf g))
+    go : (g : General) → Every (λ x. isOutside (g .flags) (g .«channel_band») (x .band) ≡ false) (bandRows table q (channelsOf g))
     go g = by (bitOf (g .flags) 2) refl
       where
         here : Channels
@@ -83,9 +84,9 @@ band-rows l q = go (generalOf l)
 
         by :
             (b : Bool) → bitOf (g .flags) 2 ≡ b
-            → Every (λ x. isOutside (g .flags) (g .«channel_band») (x .band) ≡ false) (bandRows l q (cond b (On here) NoChannels))
+            → Every (λ x. isOutside (g .flags) (g .«channel_band») (x .band) ≡ false) (bandRows table q (cond b (On here) NoChannels))
         by true e =
-            channel-rows (λ x. isOutside (g .flags) (g .«channel_band») (x .band) ≡ false) l q here (λ _. own-band (g .flags) (g .«channel_band») e)
+            channel-rows (λ x. isOutside (g .flags) (g .«channel_band») (x .band) ≡ false) table q here (λ _. own-band (g .flags) (g .«channel_band») e)
         by false e = tt
 
 or-false : (a b : Bool) → b ≡ false → (a || b) ≡ a
@@ -94,16 +95,16 @@ or-false false b e = e
 
 -- A dial lies in a row that counts exactly if it lies in a data row that counts.
 pub rows-listed :
-    (l : List ℕ) (q : Request) (dial : Float)
-    → anyRow (lies (generalOf l .flags) (generalOf l .«channel_band») dial) (rowsOf l q)
-    ≡ anyRow (lies (generalOf l .flags) (generalOf l .«channel_band») dial) (dataRows l q)
+    (table : Table) (q : Request) (dial : Float)
+    → anyRow (lies (table .general .flags) (table .general .«channel_band») dial) (rowsOf table q)
+    ≡ anyRow (lies (table .general .flags) (table .general .«channel_band») dial) (dataRows table q)
 unfolding rowsOf
-rows-listed l q dial =
-    any-append (lies (generalOf l .flags) (generalOf l .«channel_band») dial) (dataRows l q) (bandRows l q (channelsOf (generalOf l)))
+rows-listed table q dial =
+    any-append (lies (table .general .flags) (table .general .«channel_band») dial) (dataRows table q) (bandRows table q (channelsOf (table .general)))
     ∙ or-false _ _
-    (any-none (lies (generalOf l .flags) (generalOf l .«channel_band») dial) (bandRows l q (channelsOf (generalOf l)))
-    (every-map (OnChannels l) (λ x. lies (generalOf l .flags) (generalOf l .«channel_band») dial x ≡ false) (λ x e. rw e)
-    (bandRows l q (channelsOf (generalOf l))) (band-rows l q)))
+    (any-none (lies (table .general .flags) (table .general .«channel_band») dial) (bandRows table q (channelsOf (table .general)))
+    (every-map (OnChannels table) (λ x. lies (table .general .flags) (table .general .«channel_band») dial x ≡ false) (λ x e. rw e)
+    (bandRows table q (channelsOf (table .general))) (band-rows table q)))
 
 -- ---- both dials of a row, as sums of figures
 
@@ -111,7 +112,7 @@ pub record RowEnds (x : SafeDial) : Type 0 where
   pub low : RowEnd (x .«dial_low_hz»)
   pub high : RowEnd (x .«dial_high_hz»)
 
-module _ (l : List ℕ) (q : Request) (S : Spans l) (M : Figure (q .«margin_hz»)) (A : Figures (q .audio)) where
+module _ (table : Table) (q : Request) (S : Spans table) (M : Figure (q .«margin_hz»)) (A : Figures (q .audio)) where
   piece-ends : (band rule : ℕ) (piece : Range) → Figures piece → Every RowEnds (pieceRows q band rule piece)
   unfolding pieceRows
   piece-ends band rule piece P = go (le (dialEndsOf piece (q .sideband) (q .audio) (q .«margin_hz») .«low_hz») (dialEndsOf piece (q .sideband) (q .audio) (q .«margin_hz») .«high_hz»))
@@ -135,36 +136,36 @@ module _ (l : List ℕ) (q : Request) (S : Spans l) (M : Figure (q .«margin_hz�
       go true = h (commonOf a b) (common-figures a b FA FB)
       go false = tt
 
-  cut-ends : (s : Segment) (piece : Range) → Figures piece → Every RowEnds (cutRows l q s piece)
+  cut-ends : (s : Segment) (piece : Range) → Figures piece → Every RowEnds (cutRows table q s piece)
   unfolding cutRows automaticRows
   cut-ends s piece P =
-      every-cond RowEnds (cut q) (each (countOf l automatic) (automaticAt l q (s .band) piece)) (pieceRows q (s .band) (s .rule) piece)
-      (every-below RowEnds (countOf l automatic) (automaticAt l q (s .band) piece)
-      (λ a h. shared-ends piece (spanOf (recordOf l automatic a)) P (S .span automatic a (omega arith) h) (pieceRows q (s .band) (q .«segments_rule»))
+      every-cond RowEnds (cut q) (each (table .count automatic) (automaticAt table q (s .band) piece)) (pieceRows q (s .band) (s .rule) piece)
+      (every-below RowEnds (table .count automatic) (automaticAt table q (s .band) piece)
+      (λ a h. shared-ends piece (spanOf (table .at automatic a)) P (S .span automatic a (omega arith) h) (pieceRows q (s .band) (q .«segments_rule»))
       (piece-ends (s .band) (q .«segments_rule»))))
       (piece-ends (s .band) (s .rule) piece P)
 
-  pub data-ends : Every RowEnds (dataRows l q)
+  pub data-ends : Every RowEnds (dataRows table q)
   unfolding dataRows segmentRows privilegesRows privilegeRows
   data-ends =
-      every-below RowEnds (countOf l segments) (segmentAt l q)
+      every-below RowEnds (table .count segments) (segmentAt table q)
       (λ i h.
-      every-cond RowEnds (tooWide q (segmentOf (recordOf l segments i)) || excludedBand l q (segmentOf (recordOf l segments i))) []
-      (each (countOf l privileges) (privilegeAt l q (segmentOf (recordOf l segments i)))) tt
-      (every-below RowEnds (countOf l privileges) (privilegeAt l q (segmentOf (recordOf l segments i)))
+      every-cond RowEnds (tooWide q (segmentOf (table .at segments i)) || excludedBand table q (segmentOf (table .at segments i))) []
+      (each (table .count privileges) (privilegeAt table q (segmentOf (table .at segments i)))) tt
+      (every-below RowEnds (table .count privileges) (privilegeAt table q (segmentOf (table .at segments i)))
       (λ p k.
-      every-cond RowEnds (mayUse q (privilegeOf (recordOf l privileges p)))
-      (onShared (intersectOf (spanOf (recordOf l segments i)) (spanOf (recordOf l privileges p))) (cutRows l q (segmentOf (recordOf l segments i)))) []
-      (shared-ends (spanOf (recordOf l segments i)) (spanOf (recordOf l privileges p)) (S .span segments i (omega arith) h) (S .span privileges p (omega arith) k)
-      (cutRows l q (segmentOf (recordOf l segments i))) (cut-ends (segmentOf (recordOf l segments i))))
+      every-cond RowEnds (mayUse q (privilegeOf (table .at privileges p)))
+      (onShared (intersectOf (spanOf (table .at segments i)) (spanOf (table .at privileges p))) (cutRows table q (segmentOf (table .at segments i)))) []
+      (shared-ends (spanOf (table .at segments i)) (spanOf (table .at privileges p)) (S .span segments i (omega arith) h) (S .span privileges p (omega arith) k)
+      (cutRows table q (segmentOf (table .at segments i))) (cut-ends (segmentOf (table .at segments i))))
       tt)))
 
   -- Every row that counts has both.
-  pub rows-ends : Every (λ x. isOutside (generalOf l .flags) (generalOf l .«channel_band») (x .band) ≡ true → RowEnds x) (rowsOf l q)
+  pub rows-ends : Every (λ x. isOutside (table .general .flags) (table .general .«channel_band») (x .band) ≡ true → RowEnds x) (rowsOf table q)
   unfolding rowsOf
   rows-ends =
-      every-append (λ x. isOutside (generalOf l .flags) (generalOf l .«channel_band») (x .band) ≡ true → RowEnds x) (dataRows l q)
-      (bandRows l q (channelsOf (generalOf l)))
-      (every-map RowEnds (λ x. isOutside (generalOf l .flags) (generalOf l .«channel_band») (x .band) ≡ true → RowEnds x) (λ x r _. r) (dataRows l q) data-ends)
-      (every-map (OnChannels l) (λ x. isOutside (generalOf l .flags) (generalOf l .«channel_band») (x .band) ≡ true → RowEnds x)
-      (λ x e o. absurd (true≢false (sym o ∙ e))) (bandRows l q (channelsOf (generalOf l))) (band-rows l q))
+      every-append (λ x. isOutside (table .general .flags) (table .general .«channel_band») (x .band) ≡ true → RowEnds x) (dataRows table q)
+      (bandRows table q (channelsOf (table .general)))
+      (every-map RowEnds (λ x. isOutside (table .general .flags) (table .general .«channel_band») (x .band) ≡ true → RowEnds x) (λ x r _. r) (dataRows table q) data-ends)
+      (every-map (OnChannels table) (λ x. isOutside (table .general .flags) (table .general .«channel_band») (x .band) ≡ true → RowEnds x)
+      (λ x e o. absurd (true≢false (sym o ∙ e))) (bandRows table q (channelsOf (table .general))) (band-rows table q))

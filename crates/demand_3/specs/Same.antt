@@ -17,7 +17,8 @@ use Rattle.profile.specs.declared.Range.{Range}
 use Rattle.scan.specs.First.{first, onFound, first-at, first-nothing, some-false}
 use Rattle.scan.specs.declared.Found.{Found}
 use Rattle.scan.specs.declared.Found.the-variants.{At, Nothing}
-use Rattle.layout.specs.Layout.{tables, bands, segments, privileges, automatic, excluded, generalOf, recordOf, countOf}
+use Rattle.layout.specs.Layout.{tables, bands, segments, privileges, automatic, excluded}
+use Rattle.table.specs.Table.{Table}
 use Rattle.table.specs.Parts.{spanOf, elsewhereOf, segmentOf, privilegeOf}
 use Rattle.find.specs.Question.{asks, firstIn, someIn, homelessAt, homelessOf, homeQuestion}
 use Rattle.find.specs.declared.Question.the-variants.{Holds, OfBand, BandHolds, ClassHolds}
@@ -49,23 +50,23 @@ first-alone test n i h e alone = go (first test n) refl
 -- ---- a tidy table
 
 -- no two records of a table share a stretch, where classes count those of one class
-module _ (l : List ℕ) (t : ℕ) (classes : Bool) (apart : twoShare l t classes ≡ false) where
-  earlier : (i j : ℕ) → i < j → j < countOf l t → asks (pairQuestion classes (recordOf l t j)) (recordOf l t i) ≡ false
+module _ (table : Table) (t : ℕ) (classes : Bool) (apart : twoShare table t classes ≡ false) where
+  earlier : (i j : ℕ) → i < j → j < table .count t → asks (pairQuestion classes (table .at t j)) (table .at t i) ≡ false
   unfolding twoShare
   earlier i j h k =
-      some-false (λ i. asks (pairQuestion classes (recordOf l t j)) (recordOf l t i)) j
-      (some-false (sharesEarlier l t classes) (countOf l t) apart j k) i h
+      some-false (λ i. asks (pairQuestion classes (table .at t j)) (table .at t i)) j
+      (some-false (sharesEarlier table t classes) (table .count t) apart j k) i h
 
 -- two different records of a table that hold a signal of positive length
-module _ (l : List ℕ) (S : Spans l) (signal : Range) (G : Ends signal) (long : lengthy signal ≡ true) where
+module _ (table : Table) (S : Spans table) (signal : Range) (G : Ends signal) (long : lengthy signal ≡ true) where
   abbrev holding : ℕ → ℕ → Bool
-  holding t i = holdsOf (spanOf (recordOf l t i)) signal
+  holding t i = holdsOf (spanOf (table .at t i)) signal
 
   overlap :
-      (t i j : ℕ) → t < tables → i < countOf l t → j < countOf l t → holding t i ≡ true → holding t j ≡ true
-      → shareOf (spanOf (recordOf l t i)) (spanOf (recordOf l t j)) ≡ true
+      (t i j : ℕ) → t < tables → i < table .count t → j < table .count t → holding t i ≡ true → holding t j ≡ true
+      → shareOf (spanOf (table .at t i)) (spanOf (table .at t j)) ≡ true
   overlap t i j ht hi hj p q =
-      share (spanOf (recordOf l t i)) (spanOf (recordOf l t j)) signal (ends (S .span t i ht hi)) (ends (S .span t j ht hj)) G long p q
+      share (spanOf (table .at t i)) (spanOf (table .at t j)) signal (ends (S .span t i ht hi)) (ends (S .span t j ht hj)) G long p q
 
   -- by the two orders of two indices
   either-order : (i j : ℕ) → (i < j → ⊥) → (j < i → ⊥) → i ≡ j
@@ -77,58 +78,58 @@ module _ (l : List ℕ) (S : Spans l) (signal : Range) (G : Ends signal) (long :
       go (no h) (no k) = omega arith
 
   pub alone :
-      (t : ℕ) → t < tables → twoShare l t false ≡ false → (i j : ℕ) → i < countOf l t → j < countOf l t → holding t i ≡ true → holding t j ≡ true
+      (t : ℕ) → t < tables → twoShare table t false ≡ false → (i j : ℕ) → i < table .count t → j < table .count t → holding t i ≡ true → holding t j ≡ true
       → i ≡ j
   unfolding asks
   alone t ht apart i j hi hj p q =
-      either-order i j (λ h. absurd (true≢false (sym (overlap t i j ht hi hj p q) ∙ earlier l t false apart i j h hj)))
-      (λ h. absurd (true≢false (sym (overlap t j i ht hj hi q p) ∙ earlier l t false apart j i h hi)))
+      either-order i j (λ h. absurd (true≢false (sym (overlap t i j ht hi hj p q) ∙ earlier table t false apart i j h hj)))
+      (λ h. absurd (true≢false (sym (overlap t j i ht hj hi q p) ∙ earlier table t false apart j i h hi)))
 
   pub alone-class :
-      (t : ℕ) → t < tables → twoShare l t true ≡ false → (i j n : ℕ) → i < countOf l t → j < countOf l t
-      → eqb (recordOf l t i .class) n ≡ true → eqb (recordOf l t j .class) n ≡ true → holding t i ≡ true → holding t j ≡ true → i ≡ j
+      (t : ℕ) → t < tables → twoShare table t true ≡ false → (i j n : ℕ) → i < table .count t → j < table .count t
+      → eqb (table .at t i .class) n ≡ true → eqb (table .at t j .class) n ≡ true → holding t i ≡ true → holding t j ≡ true → i ≡ j
   unfolding asks
   alone-class t ht apart i j n hi hj a b p q =
       either-order i j
-      (λ h. absurd (true≢false (sym (and-both _ _ (one i j a b) (overlap t i j ht hi hj p q)) ∙ earlier l t true apart i j h hj)))
-      (λ h. absurd (true≢false (sym (and-both _ _ (one j i b a) (overlap t j i ht hj hi q p)) ∙ earlier l t true apart j i h hi)))
+      (λ h. absurd (true≢false (sym (and-both _ _ (one i j a b) (overlap t i j ht hi hj p q)) ∙ earlier table t true apart i j h hj)))
+      (λ h. absurd (true≢false (sym (and-both _ _ (one j i b a) (overlap t j i ht hj hi q p)) ∙ earlier table t true apart j i h hi)))
     where
-      one : (i j : ℕ) → eqb (recordOf l t i .class) n ≡ true → eqb (recordOf l t j .class) n ≡ true → eqb (recordOf l t i .class) (recordOf l t j .class) ≡ true
-      one i j a b = eq-eqb _ _ (eqb-true (recordOf l t i .class) n a ∙ sym (eqb-true (recordOf l t j .class) n b))
+      one : (i j : ℕ) → eqb (table .at t i .class) n ≡ true → eqb (table .at t j .class) n ≡ true → eqb (table .at t i .class) (table .at t j .class) ≡ true
+      one i j a b = eq-eqb _ _ (eqb-true (table .at t i .class) n a ∙ sym (eqb-true (table .at t j .class) n b))
 
 -- the band that a segment lies in
-record Home (l : List ℕ) (i : ℕ) : Type 0 where
+record Home (table : Table) (i : ℕ) : Type 0 where
   band : ℕ
-  below : band < countOf l bands
-  number : recordOf l bands band .band ≡ recordOf l segments i .band
-  holds : holdsOf (spanOf (recordOf l bands band)) (spanOf (recordOf l segments i)) ≡ true
+  below : band < table .count bands
+  number : table .at bands band .band ≡ table .at segments i .band
+  holds : holdsOf (spanOf (table .at bands band)) (spanOf (table .at segments i)) ≡ true
 
-home : (l : List ℕ) → homelessOf l true ≡ false → (i : ℕ) → i < countOf l segments → Home l i
+home : (table : Table) → homelessOf table true ≡ false → (i : ℕ) → i < table .count segments → Home table i
 unfolding asks
-home l h i k =
-    let s = some-true (λ b. asks (BandHolds (recordOf l segments i .band) (spanOf (recordOf l segments i))) (recordOf l bands b)) (countOf l bands)
-    (not-false (someIn l bands (homeQuestion true (recordOf l segments i))) (some-false (homelessAt l true) (countOf l segments) h i k)) in
+home table h i k =
+    let s = some-true (λ b. asks (BandHolds (table .at segments i .band) (spanOf (table .at segments i))) (table .at bands b)) (table .count bands)
+    (not-false (someIn table bands (homeQuestion true (table .at segments i))) (some-false (homelessAt table true) (table .count segments) h i k)) in
     record {
       band = s .index;
       below = s .below;
-      number = eqb-true _ _ (and-left _ (holdsOf (spanOf (recordOf l bands (s .index))) (spanOf (recordOf l segments i))) (s .passes));
-      holds = and-right (eqb (recordOf l bands (s .index) .band) (recordOf l segments i .band)) _ (s .passes);
+      number = eqb-true _ _ (and-left _ (holdsOf (spanOf (table .at bands (s .index))) (spanOf (table .at segments i))) (s .passes));
+      holds = and-right (eqb (table .at bands (s .index) .band) (table .at segments i .band)) _ (s .passes);
     }
 
 -- the parts of a tidy table
-pub record Tidied (l : List ℕ) : Type 0 where
-  pub homes : homelessOf l true ≡ false
-  pub bands-apart : twoShare l bands false ≡ false
-  pub segments-apart : twoShare l segments false ≡ false
-  pub privileges-apart : twoShare l privileges true ≡ false
+pub record Tidied (table : Table) : Type 0 where
+  pub homes : homelessOf table true ≡ false
+  pub bands-apart : twoShare table bands false ≡ false
+  pub segments-apart : twoShare table segments false ≡ false
+  pub privileges-apart : twoShare table privileges true ≡ false
 
-pub tidied : (l : List ℕ) → tidyTable l ≡ true → Tidied l
+pub tidied : (table : Table) → tidyTable table ≡ true → Tidied table
 unfolding tidyTable
-tidied l e = go (homelessOf l true) (twoShare l bands false) (twoShare l segments false) (twoShare l privileges true) refl refl refl refl e
+tidied table e = go (homelessOf table true) (twoShare table bands false) (twoShare table segments false) (twoShare table privileges true) refl refl refl refl e
   where
     go :
-        (a b c d : Bool) → homelessOf l true ≡ a → twoShare l bands false ≡ b → twoShare l segments false ≡ c → twoShare l privileges true ≡ d
-        → (not a && (not b && (not c && not d))) ≡ true → Tidied l
+        (a b c d : Bool) → homelessOf table true ≡ a → twoShare table bands false ≡ b → twoShare table segments false ≡ c → twoShare table privileges true ≡ d
+        → (not a && (not b && (not c && not d))) ≡ true → Tidied table
     go false false false false p q r s e = record { homes = p; bands-apart = q; segments-apart = r; privileges-apart = s }
     go false false false true p q r s e = absurd (false≢true e)
     go false false true d p q r s e = absurd (false≢true e)
@@ -137,27 +138,27 @@ tidied l e = go (homelessOf l true) (twoShare l bands false) (twoShare l segment
 
 -- ---- the list's request and the verdict's case, of one station, signal and dial
 
-pub record Match (l : List ℕ) (q : Request) (c : Case) (dial : Float) : Type 0 where
+pub record Match (table : Table) (q : Request) (c : Case) (dial : Float) : Type 0 where
   pub class : q .class ≡ classCode (c .class)
   pub guarded : c .guarded ≡ guardedAt q dial
   pub width : q .«width_hz» ≡ c .width
   pub automatic : q .automatic ≡ c .automatic
-  pub elsewhere : q .«elsewhere_ok» ≡ elsewhereAllows (elsewhereOf (generalOf l)) (c .width) (c .direction)
-  pub general : (s : ℕ) → tooWide q (segmentOf (recordOf l segments s)) ≡ lt (limitFor l (At s) .«max_bandwidth_hz») (c .width)
+  pub elsewhere : q .«elsewhere_ok» ≡ elsewhereAllows (elsewhereOf (table .general)) (c .width) (c .direction)
+  pub general : (s : ℕ) → tooWide q (segmentOf (table .at segments s)) ≡ lt (limitFor table (At s) .«max_bandwidth_hz») (c .width)
 
 or-other : (a b : Bool) → (a || b) ≡ true → b ≡ false → a ≡ true
 or-other true b e f = refl
 or-other false b e f = absurd (true≢false (sym e ∙ f))
 
 module _
-    (l : List ℕ) (q : Request) (c : Case) (dial : Float) (D : Figure dial) (M : Figure (q .«margin_hz»)) (A : Figures (q .audio)) (S : Spans l)
-    (long : lengthy (guardedAt q dial) ≡ true) (T : Tidied l) (m : Match l q c dial) (off : OffChannels l c)
+    (table : Table) (q : Request) (c : Case) (dial : Float) (D : Figure dial) (M : Figure (q .«margin_hz»)) (A : Figures (q .audio)) (S : Spans table)
+    (long : lengthy (guardedAt q dial) ≡ true) (T : Tidied table) (m : Match table q c dial) (off : OffChannels table c)
   where
     abbrev flags : ℕ
-    flags = generalOf l .flags
+    flags = table .general .flags
 
     abbrev channel : ℕ
-    channel = generalOf l .«channel_band»
+    channel = table .general .«channel_band»
 
     abbrev signal : Range
     signal = guardedAt q dial
@@ -166,29 +167,29 @@ module _
     G = guarded-ends dial (q .«margin_hz») (q .audio) D M A (q .sideband)
 
     abbrev InList : Type 0
-    InList = Lawful flags channel q dial D M A l S long
+    InList = Lawful flags channel q dial D M A table S long
 
     abbrev held : ℕ → ℕ → Bool
-    held t i = holdsOf (spanOf (recordOf l t i)) signal
+    held t i = holdsOf (spanOf (table .at t i)) signal
 
     -- the only record of a table that holds the signal is the first
     found-first :
-        (t : ℕ) → t < tables → twoShare l t false ≡ false → (i : ℕ) → i < countOf l t → held t i ≡ true → firstIn l t (Holds (c .guarded)) ≡ At i
+        (t : ℕ) → t < tables → twoShare table t false ≡ false → (i : ℕ) → i < table .count t → held t i ≡ true → firstIn table t (Holds (c .guarded)) ≡ At i
     found-first t ht apart i h e =
-        subst (λ (g : Range). firstIn l t (Holds g) ≡ At i) (sym (m .guarded))
-        (first-alone (λ k. asks (Holds signal) (recordOf l t k)) (countOf l t) i h (asks-holds signal (recordOf l t i) ∙ e)
-        (λ k hk ek. alone l S signal G long t ht apart k i hk h (sym (asks-holds signal (recordOf l t k)) ∙ ek) e))
+        subst (λ (g : Range). firstIn table t (Holds g) ≡ At i) (sym (m .guarded))
+        (first-alone (λ k. asks (Holds signal) (table .at t k)) (table .count t) i h (asks-holds signal (table .at t i) ∙ e)
+        (λ k hk ek. alone table S signal G long t ht apart k i hk h (sym (asks-holds signal (table .at t k)) ∙ ek) e))
 
     -- and the first is a record that holds it
-    first-held : (t i : ℕ) → firstIn l t (Holds (c .guarded)) ≡ At i → (i < countOf l t) × (held t i ≡ true)
+    first-held : (t i : ℕ) → firstIn table t (Holds (c .guarded)) ≡ At i → (i < table .count t) × (held t i ≡ true)
     first-held t i e =
-        let h = first-at (λ k. asks (Holds signal) (recordOf l t k)) (countOf l t) i (subst (λ (g : Range). firstIn l t (Holds g) ≡ At i) (m .guarded) e) in
-        (h .below, sym (asks-holds signal (recordOf l t i)) ∙ h .passes)
+        let h = first-at (λ k. asks (Holds signal) (table .at t k)) (table .count t) i (subst (λ (g : Range). firstIn table t (Holds g) ≡ At i) (m .guarded) e) in
+        (h .below, sym (asks-holds signal (table .at t i)) ∙ h .passes)
 
     -- a segment's band holds what the segment holds
-    home-holds : (i : ℕ) → i < countOf l segments → held segments i ≡ true → (h : Home l i) → held bands (h .band) ≡ true
+    home-holds : (i : ℕ) → i < table .count segments → held segments i ≡ true → (h : Home table i) → held bands (h .band) ≡ true
     home-holds i k e h =
-        holds-trans (spanOf (recordOf l bands (h .band))) (spanOf (recordOf l segments i)) signal
+        holds-trans (spanOf (table .at bands (h .band))) (spanOf (table .at segments i)) signal
         (ends (S .span bands (h .band) (omega arith) (h .below))) (ends (S .span segments i (omega arith) k)) G (h .holds) e
 
     -- ---- the privilege
@@ -197,41 +198,41 @@ module _
     mine = classCode (c .class)
 
     abbrev asked : Range → ℕ → Bool
-    asked g p = asks (ClassHolds mine g) (recordOf l privileges p)
+    asked g p = asks (ClassHolds mine g) (table .at privileges p)
 
-    asked-as : (p : ℕ) → asked signal p ≡ (eqb (recordOf l privileges p .class) mine && held privileges p)
+    asked-as : (p : ℕ) → asked signal p ≡ (eqb (table .at privileges p .class) mine && held privileges p)
     unfolding asks
     asked-as p = refl
 
     abbrev verdictOn : Found → Privileged
-    verdictOn f = onFound f (λ p. cond (allowsOf (privilegeAt l p .emissions) Data) Granted Forbidden) Unheld
+    verdictOn f = onFound f (λ p. cond (allowsOf (privilegeAt table p .emissions) Data) Granted Forbidden) Unheld
 
-    granted-in : (p : ℕ) → p < countOf l privileges → mayUse q (privilegeOf (recordOf l privileges p)) ≡ true → held privileges p ≡ true → privilegedOf l c Data ≡ Granted
+    granted-in : (p : ℕ) → p < table .count privileges → mayUse q (privilegeOf (table .at privileges p)) ≡ true → held privileges p ≡ true → privilegedOf table c Data ≡ Granted
     unfolding privilegedOf
     granted-in p h u e =
-        let own : eqb (recordOf l privileges p .class) mine ≡ true =
-        subst (λ (n : ℕ). eqb (recordOf l privileges p .class) n ≡ true) (m .class)
-        (and-left (eqb (recordOf l privileges p .class) (q .class)) (allowsOf (privilegeAt l p .emissions) Data) u) in
-        let allows = and-right (eqb (recordOf l privileges p .class) (q .class)) (allowsOf (privilegeAt l p .emissions) Data) u in
-        let found : first (asked (c .guarded)) (countOf l privileges) ≡ At p =
-        subst (λ (g : Range). first (asked g) (countOf l privileges) ≡ At p) (sym (m .guarded))
-        (first-alone (asked signal) (countOf l privileges) p h (asked-as p ∙ and-both _ _ own e)
+        let own : eqb (table .at privileges p .class) mine ≡ true =
+        subst (λ (n : ℕ). eqb (table .at privileges p .class) n ≡ true) (m .class)
+        (and-left (eqb (table .at privileges p .class) (q .class)) (allowsOf (privilegeAt table p .emissions) Data) u) in
+        let allows = and-right (eqb (table .at privileges p .class) (q .class)) (allowsOf (privilegeAt table p .emissions) Data) u in
+        let found : first (asked (c .guarded)) (table .count privileges) ≡ At p =
+        subst (λ (g : Range). first (asked g) (table .count privileges) ≡ At p) (sym (m .guarded))
+        (first-alone (asked signal) (table .count privileges) p h (asked-as p ∙ and-both _ _ own e)
         (λ k hk ek.
         let both = sym (asked-as k) ∙ ek in
-        alone-class l S signal G long privileges (omega arith) (T .privileges-apart) k p mine hk h
-        (and-left (eqb (recordOf l privileges k .class) mine) (held privileges k) both) own
-        (and-right (eqb (recordOf l privileges k .class) mine) (held privileges k) both) e)) in
+        alone-class table S signal G long privileges (omega arith) (T .privileges-apart) k p mine hk h
+        (and-left (eqb (table .at privileges k .class) mine) (held privileges k) both) own
+        (and-right (eqb (table .at privileges k .class) mine) (held privileges k) both) e)) in
         ap verdictOn found ∙ ap (λ (b : Bool). cond b Granted Forbidden) allows
 
     record Grant : Type 0 where
       privilege : ℕ
-      below : privilege < countOf l privileges
-      may-use : mayUse q (privilegeOf (recordOf l privileges privilege)) ≡ true
+      below : privilege < table .count privileges
+      may-use : mayUse q (privilegeOf (table .at privileges privilege)) ≡ true
       holds : held privileges privilege ≡ true
 
-    granted-of : privilegedOf l c Data ≡ Granted → Grant
+    granted-of : privilegedOf table c Data ≡ Granted → Grant
     unfolding privilegedOf
-    granted-of e = go (first (asked (c .guarded)) (countOf l privileges)) refl e
+    granted-of e = go (first (asked (c .guarded)) (table .count privileges)) refl e
       where
         unheld : Unheld ≡ Granted → ⊥
         unheld e = let z : _≡_ {A = ℕ} 0 1 = cc in omega arith
@@ -240,44 +241,44 @@ module _
         forbids true e = refl
         forbids false e = cc
 
-        go : (f : Found) → first (asked (c .guarded)) (countOf l privileges) ≡ f → verdictOn f ≡ Granted → Grant
+        go : (f : Found) → first (asked (c .guarded)) (table .count privileges) ≡ f → verdictOn f ≡ Granted → Grant
         go (At p) g v =
-            let h = first-at (asked signal) (countOf l privileges) p (subst (λ (r : Range). first (asked r) (countOf l privileges) ≡ At p) (m .guarded) g) in
+            let h = first-at (asked signal) (table .count privileges) p (subst (λ (r : Range). first (asked r) (table .count privileges) ≡ At p) (m .guarded) g) in
             let both = sym (asked-as p) ∙ h .passes in
             record {
               privilege = p;
               below = h .below;
               may-use = and-both _ _
-                  (subst (λ (n : ℕ). eqb (recordOf l privileges p .class) n ≡ true) (sym (m .class))
-                  (and-left (eqb (recordOf l privileges p .class) mine) (held privileges p) both))
-                  (forbids (allowsOf (privilegeAt l p .emissions) Data) v);
-              holds = and-right (eqb (recordOf l privileges p .class) mine) (held privileges p) both;
+                  (subst (λ (n : ℕ). eqb (table .at privileges p .class) n ≡ true) (sym (m .class))
+                  (and-left (eqb (table .at privileges p .class) mine) (held privileges p) both))
+                  (forbids (allowsOf (privilegeAt table p .emissions) Data) v);
+              holds = and-right (eqb (table .at privileges p .class) mine) (held privileges p) both;
             }
         go Nothing g v = absurd (unheld v)
 
     -- ---- 97.221
 
     abbrev inside : Range → Bool
-    inside g = someIn l automatic (Holds g)
+    inside g = someIn table automatic (Holds g)
 
-    met-in : (cut q ≡ true → inside signal ≡ true) → c .automatic ≡ true → automaticMet l c ≡ true
-    met-in h a = go (elsewhereAllows (elsewhereOf (generalOf l)) (c .width) (c .direction)) refl
+    met-in : (cut q ≡ true → inside signal ≡ true) → c .automatic ≡ true → automaticMet table c ≡ true
+    met-in h a = go (elsewhereAllows (elsewhereOf (table .general)) (c .width) (c .direction)) refl
       where
         go :
-            (b : Bool) → elsewhereAllows (elsewhereOf (generalOf l)) (c .width) (c .direction) ≡ b
-            → (inside (c .guarded) || elsewhereAllows (elsewhereOf (generalOf l)) (c .width) (c .direction)) ≡ true
-        go true e = or-right (inside (c .guarded)) (elsewhereAllows (elsewhereOf (generalOf l)) (c .width) (c .direction)) e
+            (b : Bool) → elsewhereAllows (elsewhereOf (table .general)) (c .width) (c .direction) ≡ b
+            → (inside (c .guarded) || elsewhereAllows (elsewhereOf (table .general)) (c .width) (c .direction)) ≡ true
+        go true e = or-right (inside (c .guarded)) (elsewhereAllows (elsewhereOf (table .general)) (c .width) (c .direction)) e
         go false e =
-            or-left (inside (c .guarded)) (elsewhereAllows (elsewhereOf (generalOf l)) (c .width) (c .direction))
+            or-left (inside (c .guarded)) (elsewhereAllows (elsewhereOf (table .general)) (c .width) (c .direction))
             (subst (λ (g : Range). inside g ≡ true) (sym (m .guarded))
             (h (and-both (q .automatic) (not (q .«elsewhere_ok»)) (m .automatic ∙ a) (ap not (m .elsewhere ∙ e)))))
 
-    met-of : (c .automatic ≡ true → automaticMet l c ≡ true) → cut q ≡ true → inside signal ≡ true
+    met-of : (c .automatic ≡ true → automaticMet table c ≡ true) → cut q ≡ true → inside signal ≡ true
     met-of h e =
         let a = and-left (q .automatic) (not (q .«elsewhere_ok»)) e in
         let b = and-right (q .automatic) (not (q .«elsewhere_ok»)) e in
         subst (λ (g : Range). inside g ≡ true) (m .guarded)
-        (or-other (inside (c .guarded)) (elsewhereAllows (elsewhereOf (generalOf l)) (c .width) (c .direction)) (h (sym (m .automatic) ∙ a))
+        (or-other (inside (c .guarded)) (elsewhereAllows (elsewhereOf (table .general)) (c .width) (c .direction)) (h (sym (m .automatic) ∙ a))
         (sym (m .elsewhere) ∙ not-true (q .«elsewhere_ok») b))
       where
         not-true : (b : Bool) → not b ≡ true → b ≡ false
@@ -287,19 +288,19 @@ module _
     -- ---- both ways
 
     -- the exclusion goes by the same number in list and verdict
-    excluded-same : (n k : ℕ) → n ≡ k → (q .automatic && someIn l excluded (OfBand n)) ≡ (c .automatic && someIn l excluded (OfBand k))
+    excluded-same : (n k : ℕ) → n ≡ k → (q .automatic && someIn table excluded (OfBand n)) ≡ (c .automatic && someIn table excluded (OfBand k))
     excluded-same n k e =
-        ap (λ (a : Bool). a && someIn l excluded (OfBand n)) (m .automatic) ∙ ap (λ (x : ℕ). c .automatic && someIn l excluded (OfBand x)) e
+        ap (λ (a : Bool). a && someIn table excluded (OfBand n)) (m .automatic) ∙ ap (λ (x : ℕ). c .automatic && someIn table excluded (OfBand x)) e
 
-    pub lawful-judged : InList → Judged l c
+    pub lawful-judged : InList → Judged table c
     lawful-judged w =
         let s = w .segment in
         let p = w .pair in
-        let h = home l (T .homes) s (w .segment-below) in
+        let h = home table (T .homes) s (w .segment-below) in
         record {
           band = h .band;
           found = found-first bands (omega arith) (T .bands-apart) (h .band) (h .below) (home-holds s (w .segment-below) (p .segment-holds) h);
-          not-excluded = sym (excluded-same (recordOf l segments s .band) (recordOf l bands (h .band) .band) (sym (h .number))) ∙ w .not-excluded;
+          not-excluded = sym (excluded-same (table .at segments s .band) (table .at bands (h .band) .band) (sym (h .number))) ∙ w .not-excluded;
           place = record {
             segment = s;
             found = found-first segments (omega arith) (T .segments-apart) s (w .segment-below) (p .segment-holds);
@@ -311,16 +312,16 @@ module _
           };
         }
 
-    pub judged-lawful : Judged l c → InList
+    pub judged-lawful : Judged table c → InList
     judged-lawful j =
         let at = first-held segments (j .place .segment) (j .place .found) in
         let over = first-held bands (j .band) (j .found) in
-        let h = home l (T .homes) (j .place .segment) (at .0) in
+        let h = home table (T .homes) (j .place .segment) (at .0) in
         let same : h .band ≡ j .band =
-        alone l S signal G long bands (omega arith) (T .bands-apart) (h .band) (j .band) (h .below) (over .0)
+        alone table S signal G long bands (omega arith) (T .bands-apart) (h .band) (j .band) (h .below) (over .0)
         (home-holds (j .place .segment) (at .0) (at .1) h) (over .1) in
-        let number : recordOf l segments (j .place .segment) .band ≡ recordOf l bands (j .band) .band =
-        sym (h .number) ∙ ap (λ (b : ℕ). recordOf l bands b .band) same in
+        let number : table .at segments (j .place .segment) .band ≡ table .at bands (j .band) .band =
+        sym (h .number) ∙ ap (λ (b : ℕ). table .at bands b .band) same in
         let g = granted-of (j .place .inside .granted) in
         record {
           segment = j .place .segment;
@@ -328,7 +329,7 @@ module _
           segment-below = at .0;
           privilege-below = g .below;
           narrow = m .general (j .place .segment) ∙ j .place .narrow;
-          not-excluded = excluded-same (recordOf l segments (j .place .segment) .band) (recordOf l bands (j .band) .band) number ∙ j .not-excluded;
+          not-excluded = excluded-same (table .at segments (j .place .segment) .band) (table .at bands (j .band) .band) number ∙ j .not-excluded;
           pair = record {
             may-use = g .may-use;
             outside = ap (λ (n : ℕ). isOutside flags channel n) number ∙ off (j .band) (j .found);

@@ -36,7 +36,8 @@ use Rattle.scan.specs.First.{first-at}
 use Rattle.station.specs.Station.{underRules, figuresValid, figureValid, stationTests, situationOf}
 use Rattle.station.specs.declared.StationRecord.{StationRecord}
 use Rattle.station.specs.declared.Situation.{Situation}
-use Rattle.layout.specs.Layout.{bands, generalOf, recordOf, countOf}
+use Rattle.layout.specs.Layout.{bands, generalOf, countOf}
+use Rattle.table.specs.Table.{recordIn, tableOf}
 use Rattle.table.specs.Parts.{spanOf, readingOf, elsewhereOf}
 use Rattle.find.specs.Question.{asks, someIn}
 use Rattle.find.specs.declared.Question.the-variants.{Holds, BandHolds}
@@ -61,11 +62,11 @@ use Rattle.decision.specs.declared.Decision.{Decision}
 use Rattle.part97.specs.Part97.{bandAt as bandRecordAt, judge}
 use Rattle.part97.specs.declared.Case.{Case}
 use Rattle.verdict.specs.Verdict.{caseOf, signalOf, underRulesOf, decideOf, besideValid, edgeTests, evaluateTests, unlessRefused, evaluateOf}
-use Rattle.verdict.specs.Laws.{ruled-met}
+use Rattle.verdict.specs.Laws.{ready-met, under-met}
 use Rattle.distance.specs.Distance.{isOutside, leastUpTo, distanceOf}
 use Rattle.distance.specs.declared.Distance.the-variants.{NoneListed}
 use Rattle.eighths.specs.Grid.{Figure, inEighths}
-use Rattle.demand_3.specs.Words.{imageInEighths, edgesInEighths, stationInEighths, hertzInEighths, tuned, audioOf, accepted, inForce, hasControl, hasLicense, hasSideband, prerequisitesMet, positiveWidth, channelBandHolds, channelsHold, onChannelBand, verdictAt, sent, allows, distanceAt, nought, answers, NoneOutside, Premises, Demand3}
+use Rattle.demand_3.specs.Words.{tableInEighths, edgesInEighths, stationInEighths, hertzInEighths, tuned, audioOf, accepted, inForce, hasControl, hasLicense, hasSideband, prerequisitesMet, positiveWidth, channelBandHolds, channelsHold, onChannelBand, verdictAt, sent, allows, distanceAt, nought, answers, NoneOutside, Premises, Demand3}
 use Rattle.demand_3.specs.Tests.{and-left, and-right, and-both, same}
 use Rattle.demand_3.specs.Order.{Figures}
 use Rattle.demand_3.specs.Dial.{guarded-lengthy}
@@ -115,7 +116,7 @@ module _
     (has-sideband : situationOf r .sideband ≡ SidebandIs sideband)
   where
     abbrev audio : Range
-    audio = audioOf l e
+    audio = audioOf (tableOf l) e
 
     abbrev q : Request
     q = requestOf (generalOf l) class sideband control (directionOf direction) (situationOf r .«margin_hz») audio
@@ -123,74 +124,76 @@ module _
     abbrev c : Case
     c = caseOf (situationOf (tuned r dial)) control class sideband (readHz dial) Data (directionOf direction) audio
 
-    matched : Match l q c (readHz dial)
+    matched : Match (tableOf l) q c (readHz dial)
     unfolding requestOf caseOf situationOf tuned
     matched = record { class = refl; guarded = refl; width = refl; automatic = refl; elsewhere = refl; general = λ s. refl }
 
     -- the list's rows
-    rows-are : underRules r ≡ true → listRows r direction e l ≡ rowsOf l q
+    rows-are : underRules r ≡ true → listRows r direction e l ≡ rowsOf (tableOf l) q
     unfolding listRows situationRows
     rows-are u =
-        ap (λ (b : Bool). cond b (situationRows l (situationOf r) (directionOf direction) (edgesRead e)) []) u
+        ap (λ (b : Bool). cond b (situationRows (tableOf l) (situationOf r) (directionOf direction) (edgesRead e)) []) u
         ∙ ap
         (λ (x : SidebandSet).
         withSideband x
         (λ sb. withLicense (situationOf r .license)
-        (λ cl. withControl (situationOf r .control) (λ ct. knownRows l (situationOf r) (directionOf direction) (edgesRead e) sb cl ct))))
+        (λ cl. withControl (situationOf r .control) (λ ct. knownRows (tableOf l) (situationOf r) (directionOf direction) (edgesRead e) sb cl ct))))
         has-sideband
         ∙ ap
         (λ (x : License).
         withLicense x
-        (λ cl. withControl (situationOf r .control) (λ ct. knownRows l (situationOf r) (directionOf direction) (edgesRead e) sideband cl ct)))
+        (λ cl. withControl (situationOf r .control) (λ ct. knownRows (tableOf l) (situationOf r) (directionOf direction) (edgesRead e) sideband cl ct)))
         has-license
-        ∙ ap (λ (x : Control). withControl x (λ ct. knownRows l (situationOf r) (directionOf direction) (edgesRead e) sideband class ct)) has-control
+        ∙ ap (λ (x : Control). withControl x (λ ct. knownRows (tableOf l) (situationOf r) (directionOf direction) (edgesRead e) sideband class ct)) has-control
 
     -- the verdict
     abbrev there : Situation
     there = situationOf (tuned r dial)
 
     abbrev decided : Policy → Decision
-    decided p = decideOf l there p (there .dial) Data (directionOf direction) (edgesRead e)
+    decided p = decideOf (tableOf l) there p (there .dial) Data (directionOf direction) (edgesRead e)
 
     rules-there : underRules r ≡ true → there .policy ≡ Rules
     unfolding situationOf tuned
     rules-there u = ap policyOf (eqb-true (r .policy) 2 u)
 
-    ruling : eqb (there .«itu_region») (generalOf l .region) ≡ true → decided Rules ≡ judge l c
-    unfolding decideOf underRulesOf situationOf tuned
+    ruling : eqb (there .«itu_region») (generalOf l .region) ≡ true → decided Rules ≡ judge (tableOf l) c
+    unfolding decideOf situationOf tuned
     ruling region =
         sym
-        (ruled-met l there (there .dial) Data (directionOf direction) audio (signalOf (there .dial) (there .sideband) audio) region control has-control class
-        has-license sideband has-sideband (readHz dial) refl)
+        (under-met (tableOf l) there (there .dial) Data (directionOf direction) audio c
+        (sym
+        (ready-met (generalOf l) there (there .dial) Data (directionOf direction) audio region control has-control class has-license sideband has-sideband
+        (readHz dial) refl)))
 
     verdict-is :
         underRules r ≡ true → refusalOf (evaluateTests (tuned r dial) 0 direction e l) ≡ Accepted → eqb (there .«itu_region») (generalOf l .region) ≡ true
-        → verdictAt r direction e l dial ≡ judge l c
+        → verdictAt r direction e l dial ≡ judge (tableOf l) c
     unfolding evaluateOf
     verdict-is u ok region =
         ap (λ (x : Checked). unlessRefused x (decided (there .policy))) ok ∙ ap decided (rules-there u) ∙ ruling region
 
     -- the channel band does not hold the guarded signal, so the first band that does is none of it
-    off-channels : onChannelBand r e l dial ≡ false → OffChannels l c
+    off-channels : onChannelBand r e (tableOf l) dial ≡ false → OffChannels (tableOf l) c
     unfolding onChannelBand situationOf tuned caseOf channelBandHolds isOutside asks
-    off-channels off b found = go (bitOf (generalOf l .flags) 2) (eqb (bandRecordAt l b .band) (generalOf l .«channel_band»)) refl refl
+    off-channels off b found = go (bitOf (generalOf l .flags) 2) (eqb (bandRecordAt (tableOf l) b .band) (generalOf l .«channel_band»)) refl refl
       where
         signal : Range
         signal = guardedOf (readHz (r .«margin_hz»)) (rfRangeOf (readHz dial) sideband audio)
 
-        not-held : channelBandHolds l signal ≡ false
-        not-held = sym (ap (channelsHold l audio (readHz (r .«margin_hz»)) (readHz dial)) has-sideband) ∙ off
+        not-held : channelBandHolds (tableOf l) signal ≡ false
+        not-held = sym (ap (channelsHold (tableOf l) audio (readHz (r .«margin_hz»)) (readHz dial)) has-sideband) ∙ off
 
         go :
-            (x y : Bool) → bitOf (generalOf l .flags) 2 ≡ x → eqb (bandRecordAt l b .band) (generalOf l .«channel_band») ≡ y → not (x && y) ≡ true
+            (x y : Bool) → bitOf (generalOf l .flags) 2 ≡ x → eqb (bandRecordAt (tableOf l) b .band) (generalOf l .«channel_band») ≡ y → not (x && y) ≡ true
         go true true p n =
-            let h = first-at (λ k. asks (Holds signal) (recordOf l bands k)) (countOf l bands) b found in
+            let h = first-at (λ k. asks (Holds signal) (recordIn l bands k)) (countOf l bands) b found in
             absurd
             (true≢false
             (sym
-            (and-both (bitOf (generalOf l .flags) 2) (someIn l bands (BandHolds (generalOf l .«channel_band») signal)) p
-            (some-of (λ k. asks (BandHolds (generalOf l .«channel_band») signal) (recordOf l bands k)) (countOf l bands) b (h .below)
-            (and-both (eqb (recordOf l bands b .band) (generalOf l .«channel_band»)) (holdsOf (spanOf (recordOf l bands b)) signal) n (h .passes))))
+            (and-both (bitOf (generalOf l .flags) 2) (someIn (tableOf l) bands (BandHolds (generalOf l .«channel_band») signal)) p
+            (some-of (λ k. asks (BandHolds (generalOf l .«channel_band») signal) (recordIn l bands k)) (countOf l bands) b (h .below)
+            (and-both (eqb (recordIn l bands b .band) (generalOf l .«channel_band»)) (holdsOf (spanOf (recordIn l bands b)) signal) n (h .passes))))
             ∙ not-held))
         go true false p n = refl
         go false y p n = refl
@@ -216,38 +219,38 @@ module _
     audio-figure A = A
 
     long-signal :
-        Figure (readHz dial) → Figure (readHz (r .«margin_hz»)) → Figures audio → positiveWidth r e l ≡ true → lengthy (guardedAt q (readHz dial)) ≡ true
+        Figure (readHz dial) → Figure (readHz (r .«margin_hz»)) → Figures audio → positiveWidth r e (tableOf l) ≡ true → lengthy (guardedAt q (readHz dial)) ≡ true
     unfolding requestOf situationOf positiveWidth
     long-signal D M A w = guarded-lengthy (readHz dial) (readHz (r .«margin_hz»)) audio D M A sideband w
 
-    limit-compares : checkOf l ≡ Accepted → imageInEighths l ≡ true → Figures audio → Comparable (elsewhereOf (generalOf l)) (c .width)
+    limit-compares : checkOf l ≡ Accepted → tableInEighths (tableOf l) ≡ true → Figures audio → Comparable (elsewhereOf (generalOf l)) (c .width)
     unfolding caseOf
     limit-compares C E A = comparable l C E audio A
 
     module _
-        (D : Figure (readHz dial)) (M : Figure (q .«margin_hz»)) (A : Figures (q .audio)) (S : Spans l) (T : Tidied l)
-        (long : lengthy (guardedAt q (readHz dial)) ≡ true) (K : Comparable (elsewhereOf (generalOf l)) (c .width)) (off : OffChannels l c)
+        (D : Figure (readHz dial)) (M : Figure (q .«margin_hz»)) (A : Figures (q .audio)) (S : Spans (tableOf l)) (T : Tidied (tableOf l))
+        (long : lengthy (guardedAt q (readHz dial)) ≡ true) (K : Comparable (elsewhereOf (generalOf l)) (c .width)) (off : OffChannels (tableOf l) c)
       where
-        pub listed-exactly : anyRow (lies flags channel (readHz dial)) (rowsOf l q) ≡ allows (judge l c)
+        pub listed-exactly : anyRow (lies flags channel (readHz dial)) (rowsOf (tableOf l) q) ≡ allows (judge (tableOf l) c)
         listed-exactly =
-            rows-listed l q (readHz dial)
-            ∙ same (anyRow (lies flags channel (readHz dial)) (dataRows l q)) (allows (judge l c))
+            rows-listed (tableOf l) q (readHz dial)
+            ∙ same (anyRow (lies flags channel (readHz dial)) (dataRows (tableOf l) q)) (allows (judge (tableOf l) c))
             (λ h.
-            judged-in l c K off kind-data
-            (lawful-judged l q c (readHz dial) D M A S long T matched off (data-of flags channel q (readHz dial) D M A l S long h)))
+            judged-in (tableOf l) c K off kind-data
+            (lawful-judged (tableOf l) q c (readHz dial) D M A S long T matched off (data-of flags channel q (readHz dial) D M A (tableOf l) S long h)))
             (λ h.
-            data-in flags channel q (readHz dial) D M A l S long
-            (judged-lawful l q c (readHz dial) D M A S long T matched off (judged-of l c K off kind-data h)))
+            data-in flags channel q (readHz dial) D M A (tableOf l) S long
+            (judged-lawful (tableOf l) q c (readHz dial) D M A S long T matched off (judged-of (tableOf l) c K off kind-data h)))
 
         -- the same of the bytes that the list call leaves
         pub bytes-exactly :
             (rest : List ℕ)
-            → nought (leastUpTo (readHz dial) flags channel (encodeAll (sorted (rowsOf l q)) ++ rest) (length (rowsOf l q))) ≡ allows (judge l c)
+            → nought (leastUpTo (readHz dial) flags channel (encodeAll (sorted (rowsOf (tableOf l) q)) ++ rest) (length (rowsOf (tableOf l) q))) ≡ allows (judge (tableOf l) c)
         bytes-exactly rest =
-            ap (λ (n : ℕ). nought (leastUpTo (readHz dial) flags channel (encodeAll (sorted (rowsOf l q)) ++ rest) n)) (sym (length-sorted (rowsOf l q)))
-            ∙ rows-nought (readHz dial) flags channel D (sorted (rowsOf l q)) rest (every-sorted DialsFit (rowsOf l q) (rows-fit l q))
-            (every-sorted (λ x. isOutside flags channel (x .band) ≡ true → RowEnds x) (rowsOf l q) (rows-ends l q S M A))
-            ∙ any-sorted (lies flags channel (readHz dial)) (rowsOf l q)
+            ap (λ (n : ℕ). nought (leastUpTo (readHz dial) flags channel (encodeAll (sorted (rowsOf (tableOf l) q)) ++ rest) n)) (sym (length-sorted (rowsOf (tableOf l) q)))
+            ∙ rows-nought (readHz dial) flags channel D (sorted (rowsOf (tableOf l) q)) rest (every-sorted DialsFit (rowsOf (tableOf l) q) (rows-fit l q))
+            (every-sorted (λ x. isOutside flags channel (x .band) ≡ true → RowEnds x) (rowsOf (tableOf l) q) (rows-ends (tableOf l) q S M A))
+            ∙ any-sorted (lies flags channel (readHz dial)) (rowsOf (tableOf l) q)
             ∙ listed-exactly
 
 -- ---- the premises taken apart
@@ -271,7 +274,7 @@ record Met (r : StationRecord) (l : List ℕ) (dial : Float) : Type 0 where
   license : hasLicense (situationOf r .license) ≡ true
   sideband : hasSideband (situationOf r .sideband) ≡ true
 
-met : (r : StationRecord) (l : List ℕ) (dial : Float) → prerequisitesMet l (situationOf (tuned r dial)) ≡ true → Met r l dial
+met : (r : StationRecord) (l : List ℕ) (dial : Float) → prerequisitesMet (tableOf l) (situationOf (tuned r dial)) ≡ true → Met r l dial
 unfolding prerequisitesMet situationOf tuned
 met r l dial e =
     let s = situationOf r in
@@ -307,15 +310,15 @@ sized r direction e l dial ok =
 
 -- the grid
 record OnGrid (r : StationRecord) (e : Edges) (l : List ℕ) (dial : Float) : Type 0 where
-  image : imageInEighths l ≡ true
+  image : tableInEighths (tableOf l) ≡ true
   edges : edgesInEighths e ≡ true
   margin : inEighths (r .«margin_hz») ≡ true
   asked : inEighths dial ≡ true
 
-on-grid : (r : StationRecord) (e : Edges) (l : List ℕ) (dial : Float) → hertzInEighths r e l dial ≡ true → OnGrid r e l dial
+on-grid : (r : StationRecord) (e : Edges) (l : List ℕ) (dial : Float) → hertzInEighths r e (tableOf l) dial ≡ true → OnGrid r e l dial
 unfolding hertzInEighths stationInEighths
 on-grid r e l dial h =
-    let a = imageInEighths l in
+    let a = tableInEighths (tableOf l) in
     let b = edgesInEighths e in
     let c = inEighths (r .«margin_hz») in
     let k = eqb (r .«dial_known») 0 || inEighths (r .«dial_hz») in
@@ -381,15 +384,15 @@ module _
     unfolding inForce
     check = accepted-of (checkOf l) (and-right (underRules r) (accepted (checkOf l)) (P .in-force))
 
-    tidy : Tidied l
-    tidy = tidied l (tidy-of (checkOf l) (tidyTable l) (P .tidy))
+    tidy : Tidied (tableOf l)
+    tidy = tidied (tableOf l) (tidy-of (checkOf l) (tidyTable (tableOf l)) (P .tidy))
 
     -- the verdict was not refused
     judged : refusalOf (evaluateTests (tuned r dial) 0 direction e l) ≡ Accepted
     unfolding evaluateOf
     judged =
         judged-of-refusal (refusalOf (evaluateTests (tuned r dial) 0 direction e l))
-        (decideOf l (situationOf (tuned r dial)) (situationOf (tuned r dial) .policy) (situationOf (tuned r dial) .dial) (kindOf 0) (directionOf direction)
+        (decideOf (tableOf l) (situationOf (tuned r dial)) (situationOf (tuned r dial) .policy) (situationOf (tuned r dial) .dial) (kindOf 0) (directionOf direction)
         (edgesRead e))
         (P .not-refused)
 
@@ -408,7 +411,7 @@ module _
     M : Figure (readHz (r .«margin_hz»))
     M = figure-read (r .«margin_hz») (eighths .margin) (size .margin)
 
-    A : Figures (audioOf l e)
+    A : Figures (audioOf (tableOf l) e)
     A = audio-figures e (readingOf (generalOf l)) edges-valid (eighths .edges)
 
     -- the distance call answers

@@ -26,10 +26,11 @@ use Rattle.station.specs.declared.Figure.{Figure}
 use Rattle.station.specs.declared.Figure.the-variants.{Known, Absent}
 use Rattle.station.specs.declared.StationRecord.{StationRecord}
 use Rattle.station.specs.declared.Situation.{Situation}
-use Rattle.layout.specs.Layout.{tables, bands, power, generalOf, recordOf, countOf}
+use Rattle.layout.specs.Layout.{tables, bands, power, generalOf}
 use Rattle.layout.specs.declared.General.{General}
 use Rattle.layout.specs.declared.Record.{Record}
 use Rattle.table.specs.Parts.{readingOf}
+use Rattle.table.specs.Table.{Table, tableOf}
 use Rattle.find.specs.Question.{someIn}
 use Rattle.find.specs.declared.Question.the-variants.{BandHolds}
 use Rattle.image.specs.Check.{checkOf}
@@ -61,14 +62,14 @@ blockInEighths g =
     && (inEighths (figureOf (g .«carrier_offset»)) && inEighths (figureOf (g .«carrier_tolerance»)))))
 
 -- a record that is not
-abbrev pub offGridAt : List ℕ → ℕ → ℕ → Bool
-offGridAt l t i = not (recordInEighths t (recordOf l t i))
+abbrev pub offGridAt : Table → ℕ → ℕ → Bool
+offGridAt table t i = not (recordInEighths t (table .at t i))
 
-abbrev pub offGridIn : List ℕ → ℕ → Bool
-offGridIn l t = some (offGridAt l t) (countOf l t)
+abbrev pub offGridIn : Table → ℕ → Bool
+offGridIn table t = some (offGridAt table t) (table .count t)
 
-unfoldable pub imageInEighths : List ℕ → Bool
-imageInEighths l = blockInEighths (generalOf l) && not (some (offGridIn l) tables)
+unfoldable pub tableInEighths : Table → Bool
+tableInEighths table = blockInEighths (table .general) && not (some (offGridIn table) tables)
 
 unfoldable pub edgesInEighths : Edges → Bool
 edgesInEighths e =
@@ -79,8 +80,8 @@ unfoldable pub stationInEighths : StationRecord → Bool
 stationInEighths r = inEighths (r .«margin_hz») && (eqb (r .«dial_known») 0 || inEighths (r .«dial_hz»))
 
 -- all of them
-unfoldable pub hertzInEighths : StationRecord → Edges → List ℕ → Float → Bool
-hertzInEighths r e l dial = imageInEighths l && (edgesInEighths e && (stationInEighths r && inEighths dial))
+unfoldable pub hertzInEighths : StationRecord → Edges → Table → Float → Bool
+hertzInEighths r e table dial = tableInEighths table && (edgesInEighths e && (stationInEighths r && inEighths dial))
 
 -- ---- the station record at the dial asked: "only the dial may differ"
 
@@ -101,8 +102,8 @@ tuned r dial =
     }
 
 -- the edges read, by the table's reading of bandwidth
-abbrev pub audioOf : List ℕ → Edges → Range
-audioOf l e = rangeOf (edgesRead e) (readingOf (generalOf l))
+abbrev pub audioOf : Table → Edges → Range
+audioOf table e = rangeOf (edgesRead e) (readingOf (table .general))
 
 -- ---- in force: "A table is in force if the policy is Rules and no image check refuses it."
 
@@ -132,9 +133,9 @@ hasDial (Known x) = true
 hasDial Absent = false
 
 -- region, control, licence, sideband, dial; the list call tests the middle three
-unfoldable pub prerequisitesMet : List ℕ → Situation → Bool
-prerequisitesMet l s =
-    eqb (s .«itu_region») (generalOf l .region)
+unfoldable pub prerequisitesMet : Table → Situation → Bool
+prerequisitesMet table s =
+    eqb (s .«itu_region») (table .general .region)
     && (hasControl (s .control) && (hasLicense (s .license) && (hasSideband (s .sideband) && hasDial (s .dial))))
 
 -- ---- the guarded width: "the width, high less low of the edges read, plus twice the margin"
@@ -142,21 +143,21 @@ prerequisitesMet l s =
 unfoldable pub guardedWidth : Range → Float → Float
 guardedWidth audio margin = add binary64 (widthOf audio) (add binary64 margin margin)
 
-unfoldable pub positiveWidth : StationRecord → Edges → List ℕ → Bool
-positiveWidth r e l = lt zeroHz (guardedWidth (audioOf l e) (readHz (r .«margin_hz»)))
+unfoldable pub positiveWidth : StationRecord → Edges → Table → Bool
+positiveWidth r e table = lt zeroHz (guardedWidth (audioOf table e) (readHz (r .«margin_hz»)))
 
 -- ---- the channel band: "every band of byte 43's number, none if flag bit 2 is clear. It holds a range if one of its bands does."
 
-unfoldable pub channelBandHolds : List ℕ → Range → Bool
-channelBandHolds l r = bitOf (generalOf l .flags) 2 && someIn l bands (BandHolds (generalOf l .«channel_band») r)
+unfoldable pub channelBandHolds : Table → Range → Bool
+channelBandHolds table r = bitOf (table .general .flags) 2 && someIn table bands (BandHolds (table .general .«channel_band») r)
 
 -- it holds the guarded range of the signal at a dial, on the station's sideband
-abbrev pub channelsHold : List ℕ → Range → Float → Float → SidebandSet → Bool
-channelsHold l audio margin dial (SidebandIs sideband) = channelBandHolds l (guardedOf margin (rfRangeOf dial sideband audio))
-channelsHold l audio margin dial NoSideband = false
+abbrev pub channelsHold : Table → Range → Float → Float → SidebandSet → Bool
+channelsHold table audio margin dial (SidebandIs sideband) = channelBandHolds table (guardedOf margin (rfRangeOf dial sideband audio))
+channelsHold table audio margin dial NoSideband = false
 
-unfoldable pub onChannelBand : StationRecord → Edges → List ℕ → Float → Bool
-onChannelBand r e l dial = channelsHold l (audioOf l e) (readHz (r .«margin_hz»)) (readHz dial) (situationOf r .sideband)
+unfoldable pub onChannelBand : StationRecord → Edges → Table → Float → Bool
+onChannelBand r e table dial = channelsHold table (audioOf table e) (readHz (r .«margin_hz»)) (readHz dial) (situationOf r .sideband)
 
 -- ---- fitted: "A list fitted if its call wasn't refused."
 
@@ -205,13 +206,13 @@ NoneOutside l count left =
 pub record Premises (r : StationRecord) (direction : ℕ) (e : Edges) (l : List ℕ) (count : ℕ) (answer : DialList) (dial : Float) : Type 0 where
   pub tidy : tidyOf l ≡ Tidy
   pub in-force : inForce r l ≡ true
-  pub eighths : hertzInEighths r e l dial ≡ true
-  pub prerequisites : prerequisitesMet l (situationOf (tuned r dial)) ≡ true
-  pub width : positiveWidth r e l ≡ true
+  pub eighths : hertzInEighths r e (tableOf l) dial ≡ true
+  pub prerequisites : prerequisitesMet (tableOf l) (situationOf (tuned r dial)) ≡ true
+  pub width : positiveWidth r e (tableOf l) ≡ true
   pub fitted : Fitted answer count
   -- the gate does not refuse the dial
   pub not-refused : verdictAt r direction e l dial .refusal ≡ Accepted
-  pub off-channels : onChannelBand r e l dial ≡ false
+  pub off-channels : onChannelBand r e (tableOf l) dial ≡ false
 
 pub record Demand3 (r : StationRecord) (direction : ℕ) (e : Edges) (l : List ℕ) (count : ℕ) (left : List ℕ) (dial : Float) : Type 0 where
   -- the distance call refuses no such dial

@@ -13,6 +13,7 @@ use Rattle.occupancy.specs.declared.Edges.{Edges}
 use Rattle.station.specs.Station.{situationOf}
 use Rattle.station.specs.declared.StationRecord.{StationRecord}
 use Rattle.layout.specs.Layout.{generalOf}
+use Rattle.table.specs.Table.{tableOf}
 use Rattle.tidy.specs.Tidy.{tidyOf}
 use Rattle.tidy.specs.declared.Tidiness.{Tidiness}
 use Rattle.tidy.specs.declared.Tidiness.the-variants.{Tidy, Untidy, NotJudged}
@@ -62,12 +63,12 @@ flatDistance l count left dial = distanceFlat (distanceOf dial (generalOf l .fla
 pub record FlatPremises (s : FlatStation) (direction : ℕ) (e : FlatEdges) (l : List ℕ) (list : FlatDials) (dial : Float) : Type 0 where
   pub tidy : tidinessFlat (tidyOf l) .tidy ≡ 1
   pub in-force : inForce (recordOf s) l ≡ true
-  pub eighths : hertzInEighths (recordOf s) (edgesOf e) l dial ≡ true
-  pub prerequisites : prerequisitesMet l (situationOf (recordOf (tunedFlat s dial))) ≡ true
-  pub width : positiveWidth (recordOf s) (edgesOf e) l ≡ true
+  pub eighths : hertzInEighths (recordOf s) (edgesOf e) (tableOf l) dial ≡ true
+  pub prerequisites : prerequisitesMet (tableOf l) (situationOf (recordOf (tunedFlat s dial))) ≡ true
+  pub width : positiveWidth (recordOf s) (edgesOf e) (tableOf l) ≡ true
   pub fitted : list .refusal ≡ 0
   pub not-refused : flatVerdict s direction e l dial .refusal ≡ 0
-  pub off-channels : onChannelBand (recordOf s) (edgesOf e) l dial ≡ false
+  pub off-channels : onChannelBand (recordOf s) (edgesOf e) (tableOf l) dial ≡ false
 
 -- what it says of them
 pub record FlatDemand3 (verdict : FlatDecision) (distance : FlatDistance) (l : List ℕ) (count : ℕ) (left : List ℕ) : Type 0 where

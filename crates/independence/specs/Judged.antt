@@ -34,9 +34,12 @@ use Rattle.codes.specs.declared.SidebandSet.{SidebandSet}
 use Rattle.codes.specs.declared.SidebandSet.the-variants.{SidebandIs, NoSideband as SidebandAbsent}
 use Rattle.codes.specs.declared.Sideband.{Sideband}
 use Rattle.codes.specs.declared.Direction.{Direction}
-use Rattle.verdict.specs.Verdict.{withControl, withLicense, withSideband, withDial, signalOf, caseOf, ruledOf, underRulesOf, unruledOf, decideOf, besideValid, evaluateOf}
+use Rattle.verdict.specs.Verdict.{withControl, withLicense, withSideband, withDial, signalOf, caseOf, readyOf, judgedOf, underRulesOf, unruledOf, decideOf, besideValid, evaluateOf}
 use Rattle.verdict.specs.Laws.{evaluate-accepted}
-use Rattle.layout.specs.Layout.{segments, channels, automatic, excluded, bands, countOf, generalOf, recordOf}
+use Rattle.layout.specs.Layout.{segments, channels, automatic, excluded, bands}
+use Rattle.table.specs.Table.{Table, tableOf}
+use Rattle.verdict.specs.declared.Ready.{Ready}
+use Rattle.verdict.specs.declared.Ready.the-variants.{Met, Missing}
 use Rattle.table.specs.Parts.{spanOf, excludedOf, readingOf, channelsOf, sixtyOf, elsewhereOf, centreOf}
 use Rattle.table.specs.declared.Segment.{Segment}
 use Rattle.table.specs.declared.Channels.{Channels}
@@ -56,7 +59,6 @@ use Rattle.decision.specs.declared.Code.{Code}
 use Rattle.decision.specs.declared.Code.the-variants.{Region, NoControl, NoLicense, NoSideband, NoDial, OutOfBand, AutomaticExcluded, TooWide, Privilege, Permitted, AutomaticSegment, AutomaticBandwidth, AutomaticOriginate, AutomaticResponse, SixtyEmission, SixtyOffChannel, SixtyChannel, SixtySegment}
 use Rattle.decision.specs.declared.BandNumber.the-variants.{Band}
 use Rattle.decision.specs.declared.SixtyNotes.{SixtyNotes}
-use Rattle.air.specs.Air.{unguardedOf}
 use Rattle.automatic_97_221.specs.Automatic.{responds}
 use Rattle.profile.specs.Range.{channelRangeOf}
 use Rattle.occupancy.specs.Edges.{rangeOf}
@@ -89,11 +91,11 @@ other c power plan =
       kind = c .kind;
       automatic = c .automatic;
       «dial_hz» = c .«dial_hz»;
-      «margin_hz» = c .«margin_hz»;
       audio = c .audio;
       width = c .width;
       air = c .air;
       guarded = c .guarded;
+      advised = c .advised;
       power = power;
       «band_plan» = plan;
     }
@@ -118,21 +120,37 @@ on-privilege Granted d p = p
 on-privilege Forbidden d p = record { same = refl }
 on-privilege Unheld d p = record { same = refl }
 
-on-control : (x : Control) (m : Decision) {g g' : ControlMode → Decision} → ((k : ControlMode) → Same (g k) (g' k)) → Same (withControl x m g) (withControl x m g')
+-- what two walks over the prerequisites leave, judged
+record Alike (table : Table) (a b : Ready) : Type 0 where
+  alike : (signal : Draft) → Same (judgedOf table signal a) (judgedOf table signal b)
+
+on-region : (t : Bool) {table : Table} (m : Ready) {a b : Ready} → Alike table a b → Alike table (cond t a m) (cond t b m)
+on-region true m p = p
+on-region false m p = record { alike = λ signal. record { same = refl } }
+
+on-control :
+    (x : Control) (m : Ready) {table : Table} {g g' : ControlMode → Ready} → ((k : ControlMode) → Alike table (g k) (g' k))
+    → Alike table (withControl x m g) (withControl x m g')
 on-control (ControlIs k) m p = p k
-on-control ControlAbsent m p = record { same = refl }
+on-control ControlAbsent m p = record { alike = λ signal. record { same = refl } }
 
-on-license : (x : License) (m : Decision) {g g' : LicenseClass → Decision} → ((k : LicenseClass) → Same (g k) (g' k)) → Same (withLicense x m g) (withLicense x m g')
+on-license :
+    (x : License) (m : Ready) {table : Table} {g g' : LicenseClass → Ready} → ((k : LicenseClass) → Alike table (g k) (g' k))
+    → Alike table (withLicense x m g) (withLicense x m g')
 on-license (LicenseIs k) m p = p k
-on-license LicenseAbsent m p = record { same = refl }
+on-license LicenseAbsent m p = record { alike = λ signal. record { same = refl } }
 
-on-sideband : (x : SidebandSet) (m : Decision) {g g' : Sideband → Decision} → ((k : Sideband) → Same (g k) (g' k)) → Same (withSideband x m g) (withSideband x m g')
+on-sideband :
+    (x : SidebandSet) (m : Ready) {table : Table} {g g' : Sideband → Ready} → ((k : Sideband) → Alike table (g k) (g' k))
+    → Alike table (withSideband x m g) (withSideband x m g')
 on-sideband (SidebandIs k) m p = p k
-on-sideband SidebandAbsent m p = record { same = refl }
+on-sideband SidebandAbsent m p = record { alike = λ signal. record { same = refl } }
 
-on-dial : (x : Figure) (m : Decision) {g g' : Float → Decision} → ((k : Float) → Same (g k) (g' k)) → Same (withDial x m g) (withDial x m g')
+on-dial :
+    (x : Figure) (m : Ready) {table : Table} {g g' : Float → Ready} → ((k : Float) → Alike table (g k) (g' k))
+    → Alike table (withDial x m g) (withDial x m g')
 on-dial (Known k) m p = p k
-on-dial Absent m p = record { same = refl }
+on-dial Absent m p = record { alike = λ signal. record { same = refl } }
 
 leaf : (d : Draft) (v : Verdict) (code : Code) (rule : ℕ) → Same (simpleOf d v code rule) (simpleOf d v code rule)
 leaf d v code rule = record { same = refl }
@@ -142,7 +160,7 @@ allowed-same :
 unfolding allowedOnSixty finishOf
 allowed-same d w w' code rule m m' = record { same = refl }
 
-module _ (table : List ℕ) (c : Case) (power : Figure) (plan : Bool) where
+module _ (table : Table) (c : Case) (power : Figure) (plan : Bool) where
   privileged-same : (kind : EmissionKind) → privilegedOf table (other c power plan) kind ≡ privilegedOf table c kind
   unfolding privilegedOf
   privileged-same kind = refl
@@ -156,7 +174,7 @@ module _ (table : List ℕ) (c : Case) (power : Figure) (plan : Bool) where
   elsewhere-same d (Under e) =
       on-cond (lt (e .«max_bandwidth_hz») (c .width)) (leaf d Blocked AutomaticBandwidth (e .rule))
       (on-cond (e .«requires_response» && not (responds (c .direction))) (leaf d Blocked AutomaticOriginate (e .rule))
-      (advised-same (unguardedOf (c .«margin_hz») (c .guarded)) d AutomaticResponse (e .rule)))
+      (advised-same (c .advised) d AutomaticResponse (e .rule)))
   elsewhere-same d Nowhere = record { same = refl }
 
   automatic-same : (band : ℕ) (r : Range) (rule : ℕ) → Same (automaticData table (other c power plan) band r rule) (automaticData table c band r rule)
@@ -164,9 +182,9 @@ module _ (table : List ℕ) (c : Case) (power : Figure) (plan : Bool) where
   automatic-same band r rule =
       on-found (firstIn table automatic (Holds (c .guarded)))
       (λ i.
-      advised-same (unguardedOf (c .«margin_hz») (c .guarded)) (draftAutomatic c band r rule (spanOf (recordOf table automatic i)))
+      advised-same (c .advised) (draftAutomatic c band r rule (spanOf (table .at automatic i)))
       AutomaticSegment (automaticRule table))
-      (elsewhere-same (draftInside c band r rule) (elsewhereOf (generalOf table)))
+      (elsewhere-same (draftInside c band r rule) (elsewhereOf (table .general)))
 
   nearest-same : (n : ℕ) → nearestUpTo table (other c power plan) n ≡ nearestUpTo table c n
   unfolding nearestUpTo considered
@@ -175,7 +193,7 @@ module _ (table : List ℕ) (c : Case) (power : Figure) (plan : Bool) where
 
   outside-same : (band : ℕ) → Same (outsideSegments table (other c power plan) band) (outsideSegments table c band)
   unfolding outsideSegments draftInside draftOf
-  outside-same band = rw (nearest-same (countOf table segments)) (record { same = refl })
+  outside-same band = rw (nearest-same (table .count segments)) (record { same = refl })
 
   inside-same : (band : ℕ) (s : Segment) → Same (insideSegment table (other c power plan) band s) (insideSegment table c band s)
   unfolding insideSegment draftInside
@@ -232,7 +250,7 @@ module _ (table : List ℕ) (c : Case) (power : Figure) (plan : Bool) where
   place-same : (ch : Channels) → Same (sixtyPlace table (other c power plan) ch) (sixtyPlace table c ch)
   unfolding sixtyPlace draftOf
   place-same ch =
-      on-found (firstIn table channels (ChannelOverlaps (ch .«width_hz») (c .guarded))) (λ i. channel-same ch (centreOf (recordOf table channels i)))
+      on-found (firstIn table channels (ChannelOverlaps (ch .«width_hz») (c .guarded))) (λ i. channel-same ch (centreOf (table .at channels i)))
       (on-found (firstIn table segments (BandHolds (ch .band) (c .guarded))) (λ i. segment-same (ch .band) (segmentAt table i))
       (leaf (draftOf c (Band (ch .band))) Blocked SixtyOffChannel (ch .rule)))
 
@@ -244,9 +262,9 @@ module _ (table : List ℕ) (c : Case) (power : Figure) (plan : Bool) where
 
   kind-same : (ch : Channels) (kind : EmissionKind) → Same (sixtyKind table (other c power plan) ch kind) (sixtyKind table c ch kind)
   unfolding sixtyKind draftOf
-  kind-same ch Data = emission-same ch (sixtyOf (generalOf table))
-  kind-same ch Cw = emission-same ch (sixtyOf (generalOf table))
-  kind-same ch Test = emission-same ch (sixtyOf (generalOf table))
+  kind-same ch Data = emission-same ch (sixtyOf (table .general))
+  kind-same ch Cw = emission-same ch (sixtyOf (table .general))
+  kind-same ch Test = emission-same ch (sixtyOf (table .general))
   kind-same ch NoEmission = record { same = refl }
 
   sixty-same : (ch : Channels) → Same (sixty table (other c power plan) ch) (sixty table c ch)
@@ -264,9 +282,9 @@ module _ (table : List ℕ) (c : Case) (power : Figure) (plan : Bool) where
   in-band-same band =
       on-cond (c .automatic)
       (on-found (firstIn table excluded (OfBand band))
-      (λ x. leaf (draftOf c (Band band)) Blocked AutomaticExcluded (excludedOf (recordOf table excluded x) .rule))
-      (on-band-same band (channelsOf (generalOf table))))
-      (on-band-same band (channelsOf (generalOf table)))
+      (λ x. leaf (draftOf c (Band band)) Blocked AutomaticExcluded (excludedOf (table .at excluded x) .rule))
+      (on-band-same band (channelsOf (table .general))))
+      (on-band-same band (channelsOf (table .general)))
 
   pub judge-same : Same (judge table (other c power plan)) (judge table c)
   unfolding judge touching draftOf
@@ -305,28 +323,33 @@ otherRecord r known watts plan =
       «power_w» = watts;
     }
 
-module _ (table : List ℕ) (s : Situation) (power : Figure) (plan : Bool) (dial : Figure) (kind : EmissionKind) (direction : Direction) where
+module _ (table : Table) (s : Situation) (power : Figure) (plan : Bool) (dial : Figure) (kind : EmissionKind) (direction : Direction) where
+  ready-alike :
+      (audio : Range)
+      → Alike table (readyOf (table .general) (otherStation s power plan) dial kind direction audio) (readyOf (table .general) s dial kind direction audio)
+  unfolding readyOf caseOf
+  ready-alike audio =
+      on-region (eqb (s .«itu_region») (table .general .region)) (Missing Region §97-301)
+      (on-control (s .control) (Missing NoControl §97-109)
+      (λ control.
+      on-license (s .license) (Missing NoLicense §97-301)
+      (λ class.
+      on-sideband (s .sideband) (Missing NoSideband noRule)
+      (λ sideband.
+      on-dial dial (Missing NoDial noRule)
+      (λ hz. record { alike = λ signal. judge-same table (caseOf s control class sideband hz kind direction audio) power plan })))))
+
   ruled-same :
       (audio : Range) → Same (underRulesOf table (otherStation s power plan) dial kind direction audio) (underRulesOf table s dial kind direction audio)
-  unfolding underRulesOf ruledOf caseOf
-  ruled-same audio =
-      on-cond (eqb (s .«itu_region») (generalOf table .region))
-      (on-control (s .control) (simpleOf (signalOf dial (s .sideband) audio) Blocked NoControl §97-109)
-      (λ control.
-      on-license (s .license) (simpleOf (signalOf dial (s .sideband) audio) Blocked NoLicense §97-301)
-      (λ class.
-      on-sideband (s .sideband) (simpleOf (signalOf dial (s .sideband) audio) Blocked NoSideband noRule)
-      (λ sideband.
-      on-dial dial (simpleOf (signalOf dial (s .sideband) audio) Blocked NoDial noRule)
-      (λ hz. judge-same table (caseOf s control class sideband hz kind direction audio) power plan)))))
-      (leaf (signalOf dial (s .sideband) audio) Blocked Region §97-301)
+  unfolding underRulesOf
+  ruled-same audio = ready-alike audio .alike (signalOf dial (s .sideband) audio)
 
   pub decide-same :
       (policy : Policy) (e : Edges) → Same (decideOf table (otherStation s power plan) policy dial kind direction e) (decideOf table s policy dial kind direction e)
   unfolding decideOf unruledOf
   decide-same Unset e = record { same = refl }
   decide-same NoneApply e = record { same = refl }
-  decide-same Rules e = ruled-same (rangeOf e (readingOf (generalOf table)))
+  decide-same Rules e = ruled-same (rangeOf e (readingOf (table .general)))
   decide-same Broken e = record { same = refl }
 
 -- "Two accepted station records that differ only in power or plan mark get the same code and segment."
@@ -338,5 +361,5 @@ pub same-code-and-segment :
 unfolding situationOf
 same-code-and-segment r known watts plan kind direction e l a b v =
     ap keys (evaluate-accepted (otherRecord r known watts plan) kind direction e l b v)
-    ∙ decide-same l (situationOf r) (figureRead known watts) (not (eqb plan 0)) (situationOf r .dial) (kindOf kind) (directionOf direction) (situationOf r .policy) (edgesRead e) .same
+    ∙ decide-same (tableOf l) (situationOf r) (figureRead known watts) (not (eqb plan 0)) (situationOf r .dial) (kindOf kind) (directionOf direction) (situationOf r .policy) (edgesRead e) .same
     ∙ sym (ap keys (evaluate-accepted r kind direction e l a v))

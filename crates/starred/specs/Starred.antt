@@ -12,6 +12,7 @@ use lib.Ieee.{Float, ofBits, toBits, ofInt, lt, le, eq, ne, neg, add, sub, mul, 
 use Rattle.scan.specs.First.{firstFrom}
 use Rattle.layout.specs.Bytes.{u16At, u32At, u64At}
 use Rattle.layout.specs.Layout.{recordsBefore, recordAt, generalOf}
+use Rattle.table.specs.Table.{recordIn, tableOf}
 use Rattle.coded.specs.Coded.{codedOf, codedGeneral}
 use Rattle.find.specs.Question.{asks, soundBits, soundRecord}
 use Rattle.image.specs.Check.{codedBlock, miscoded, soundBlock, unsound, bare, unlimited, checkOf}
@@ -28,7 +29,7 @@ use Rattle.decision.specs.declared.Overshoot.{Overshoot}
 use Rattle.decision.specs.declared.Overshoot.the-variants.{Beyond, TooClose, NoOvershoot}
 use Rattle.decision.specs.declared.Decision.{Decision}
 use Rattle.part97.specs.Part97.{draftOf, draftInside, draftAutomatic, privilegedOf, noted, notesUpTo, anyNote, planSays, wantsPlan, guidanceOf, adviceOf, adviceWarns, advised, automaticElsewhere, automaticData, considered, nearestUpTo, overshootOf, outsideSegments, insideSegment, judgeData, allowedOnSixty, sixtyChannel, sixtySegment, sixtyPlace, sixtyEmission, sixtyKind, sixty, judgeOnBand, judgeInBand, touching, judge}
-use Rattle.verdict.specs.Verdict.{airOf, signalOf, caseOf, ruledOf, underRulesOf, unruledOf, decideOf, besideValid, evaluateOf}
+use Rattle.verdict.specs.Verdict.{airOf, signalOf, caseOf, readyOf, underRulesOf, unruledOf, decideOf, besideValid, evaluateOf}
 use Rattle.verdict.specs.Laws.{evaluate-accepted}
 use Rattle.ceiling.specs.Ceiling.{rungOf, burstOf, startOf, endedOf, wentOn, judgedOf, judgeBy, rungJudged, stepOf, climbed, badEdges, badRungs, ceilingOf}
 use Rattle.ceiling.specs.declared.CeilingAnswer.{CeilingAnswer}
@@ -155,8 +156,8 @@ pub record Starred : Type 0 where
 -- the definitions that computing from the bytes opens: to unfold `opened` is to unfold them all
 opened : Unit {0}
 unfolding
-    checkOf codedBlock miscoded soundBlock unsound bare unlimited asks soundBits soundRecord codedOf codedGeneral recordsBefore recordAt
-    generalOf u16At u32At u64At firstFrom lt le eq ne neg add sub mul div ofInt ofBits decideOf unruledOf underRulesOf ruledOf caseOf signalOf
+    recordIn checkOf codedBlock miscoded soundBlock unsound bare unlimited asks soundBits soundRecord codedOf codedGeneral recordsBefore recordAt
+    generalOf u16At u32At u64At firstFrom lt le eq ne neg add sub mul div ofInt ofBits decideOf unruledOf underRulesOf readyOf caseOf signalOf
     airOf judge touching judgeInBand judgeOnBand sixty sixtyKind sixtyEmission sixtyPlace sixtySegment sixtyChannel allowedOnSixty judgeData
     insideSegment outsideSegments overshootOf nearestUpTo considered automaticData automaticElsewhere advised adviceWarns adviceOf guidanceOf
     planSays wantsPlan notesUpTo anyNote noted privilegedOf draftAutomatic draftInside draftOf refusedOf simpleOf finishOf noAdvice edgesRead
@@ -174,7 +175,7 @@ accepted = refl
 abbrev judged : ℕ → ℕ → Edges → Float → Stated
 judged control direction e dial =
     stated
-    (decideOf practice (situationOf (station control dial)) (situationOf (station control dial) .policy)
+    (decideOf (tableOf practice) (situationOf (station control dial)) (situationOf (station control dial) .policy)
     (situationOf (station control dial) .dial) (kindOf 0) (directionOf direction) (edgesRead e))
 
 goes-on :
