@@ -9,9 +9,10 @@ use Rattle.codes.specs.declared.Checked.{Checked}
 use Rattle.codes.specs.declared.Checked.the-variants.{Accepted, Refused}
 use Rattle.scan.specs.First.{first, some, onFound}
 use Rattle.scan.specs.declared.Found.{Found}
-use Rattle.layout.specs.Layout.{tables, bands, segments, channels, privileges, automatic, planData, planAvoid, generalOf, countOf, recordOf}
+use Rattle.layout.specs.Layout.{tables, bands, segments, channels, privileges, automatic, planData, planAvoid}
 use Rattle.layout.specs.declared.General.{General}
 use Rattle.coded.specs.Coded.{codedGeneral}
+use Rattle.table.specs.Table.{Table, tableOf}
 use Rattle.find.specs.Question.{asks, firstIn, homelessAt}
 use Rattle.find.specs.declared.Question.the-variants.{Miscoded, Unsound, NotLengthy, NoLimit}
 use Rattle.image.specs.Check.{soundBlock, checkOf}
@@ -24,16 +25,16 @@ abbrev pub inTable : ℕ → Found → Fault
 inTable t f = onFound f (InRecord t) Nowhere
 
 -- the first record of table t that passes a test on table and index
-abbrev pub firstOf : List ℕ → (ℕ → ℕ → Bool) → ℕ → Found
-firstOf l test t = first (test t) (countOf l t)
+abbrev pub firstOf : Table → (ℕ → ℕ → Bool) → ℕ → Found
+firstOf table test t = first (test t) (table .count t)
 
 -- whether table t has one
-abbrev pub hasOne : List ℕ → (ℕ → ℕ → Bool) → ℕ → Bool
-hasOne l test t = some (test t) (countOf l t)
+abbrev pub hasOne : Table → (ℕ → ℕ → Bool) → ℕ → Bool
+hasOne table test t = some (test t) (table .count t)
 
 -- the first table, and in it the first record, that passes the test
-unfoldable pub recordWhere : List ℕ → (ℕ → ℕ → Bool) → Fault
-recordWhere l test = onFound (first (hasOne l test) tables) (λ t. inTable t (firstOf l test t)) Nowhere
+unfoldable pub recordWhere : Table → (ℕ → ℕ → Bool) → Fault
+recordWhere table test = onFound (first (hasOne table test) tables) (λ t. inTable t (firstOf table test t)) Nowhere
 
 -- 5 "a coded byte outside its values, an unused one not zero, or a table of an absent part not empty"
 
@@ -44,51 +45,51 @@ absentPart g t =
     (cond (eqb t planData) (not (bitOf (g .flags) 4)) (cond (eqb t planAvoid) (not (bitOf (g .flags) 4)) false))
 
 -- record i of table t meets 5: every record of an absent part does
-abbrev pub miscodedAt : List ℕ → ℕ → ℕ → Bool
-miscodedAt l t i = absentPart (generalOf l) t || asks (Miscoded t) (recordOf l t i)
+abbrev pub miscodedAt : Table → ℕ → ℕ → Bool
+miscodedAt table t i = absentPart (table .general) t || asks (Miscoded t) (table .at t i)
 
 -- the general block's own bytes, its test with no record in any table, come before the records
-unfoldable pub miscodedPlace : List ℕ → Fault
-miscodedPlace l = cond (codedGeneral (generalOf l) 0 0 0) (recordWhere l (miscodedAt l)) InGeneral
+unfoldable pub miscodedPlace : Table → Fault
+miscodedPlace table = cond (codedGeneral (table .general) 0 0 0) (recordWhere table (miscodedAt table)) InGeneral
 
 -- 6 "a figure not finite, above 2^40 in size, or negative zero": the general block's figures come before those of the records
-abbrev pub unsoundAt : List ℕ → ℕ → ℕ → Bool
-unsoundAt l t i = asks Unsound (recordOf l t i)
+abbrev pub unsoundAt : Table → ℕ → ℕ → Bool
+unsoundAt table t i = asks Unsound (table .at t i)
 
-unfoldable pub unsoundPlace : List ℕ → Fault
-unsoundPlace l = cond (soundBlock (generalOf l)) (recordWhere l (unsoundAt l)) InGeneral
+unfoldable pub unsoundPlace : Table → Fault
+unsoundPlace table = cond (soundBlock (table .general)) (recordWhere table (unsoundAt table)) InGeneral
 
 -- the test of 5, or that of 6
-abbrev pub wrongAt : Bool → List ℕ → ℕ → ℕ → Bool
-wrongAt coding l = cond coding (miscodedAt l) (unsoundAt l)
+abbrev pub wrongAt : Bool → Table → ℕ → ℕ → Bool
+wrongAt coding table = cond coding (miscodedAt table) (unsoundAt table)
 
 -- "7 band, 8 segment, 9 automatic, 10 privilege range with low ≥ high"
-abbrev pub shortIn : List ℕ → ℕ → Fault
-shortIn l t = inTable t (firstIn l t NotLengthy)
+abbrev pub shortIn : Table → ℕ → Fault
+shortIn table t = inTable t (firstIn table t NotLengthy)
 
 -- "12 a segment in no band"
-abbrev pub homelessPlace : List ℕ → Fault
-homelessPlace l = inTable segments (first (homelessAt l false) (countOf l segments))
+abbrev pub homelessPlace : Table → Fault
+homelessPlace table = inTable segments (first (homelessAt table false) (table .count segments))
 
 -- "13 own limit ≤ 0"
-abbrev pub limitPlace : List ℕ → Fault
-limitPlace l = inTable segments (firstIn l segments NoLimit)
+abbrev pub limitPlace : Table → Fault
+limitPlace table = inTable segments (firstIn table segments NoLimit)
 
 -- the place of a refusal, by its number
-unfoldable pub faultAt : ℕ → List ℕ → Fault
-faultAt n l =
-    cond (eqb n 5) (miscodedPlace l)
-    (cond (eqb n 6) (unsoundPlace l)
-    (cond (eqb n 7) (shortIn l bands)
-    (cond (eqb n 8) (shortIn l segments)
-    (cond (eqb n 9) (shortIn l automatic)
-    (cond (eqb n 10) (shortIn l privileges)
-    (cond (eqb n 12) (homelessPlace l) (cond (eqb n 13) (limitPlace l) Nowhere)))))))
+unfoldable pub faultAt : ℕ → Table → Fault
+faultAt n table =
+    cond (eqb n 5) (miscodedPlace table)
+    (cond (eqb n 6) (unsoundPlace table)
+    (cond (eqb n 7) (shortIn table bands)
+    (cond (eqb n 8) (shortIn table segments)
+    (cond (eqb n 9) (shortIn table automatic)
+    (cond (eqb n 10) (shortIn table privileges)
+    (cond (eqb n 12) (homelessPlace table) (cond (eqb n 13) (limitPlace table) Nowhere)))))))
 
-abbrev pub faultBy : Checked → List ℕ → Fault
-faultBy Accepted l = Nowhere
-faultBy (Refused n) l = faultAt n l
+abbrev pub faultBy : Checked → Table → Fault
+faultBy Accepted table = Nowhere
+faultBy (Refused n) table = faultAt n table
 
 -- the check's answer, and its place
 abbrev pub faultOf : List ℕ → FaultAnswer
-faultOf l = record { refusal = checkOf l; fault = faultBy (checkOf l) l }
+faultOf l = record { refusal = checkOf l; fault = faultBy (checkOf l) (tableOf l) }

@@ -15,9 +15,10 @@ use Rattle.scan.specs.First.{first, some, isAt, onFound, Passed, passed-none, f
 use Rattle.scan.specs.declared.Found.{Found}
 use Rattle.scan.specs.declared.Found.the-variants.{At, Nothing}
 use Rattle.layout.specs.Form.{formTests, Whole, whole-of}
-use Rattle.layout.specs.Layout.{tables, bands, segments, channels, privileges, automatic, planData, planAvoid, generalOf, countOf, recordOf}
+use Rattle.layout.specs.Layout.{tables, bands, segments, channels, privileges, automatic, planData, planAvoid, generalOf, countOf}
 use Rattle.layout.specs.declared.General.{General}
 use Rattle.coded.specs.Coded.{codedChannels, codedPlans, codedGeneral}
+use Rattle.table.specs.Table.{Table, countIn, recordIn, tableOf, count-in}
 use Rattle.find.specs.Question.{asks, firstIn, homelessAt}
 use Rattle.find.specs.declared.Question.the-variants.{Miscoded, NotLengthy, NoLimit}
 use Rattle.image.specs.Check.{codedBlock, miscodedIn, miscoded, soundBlock, unsoundIn, unsound, contentTests, checkTests, checkOf}
@@ -28,29 +29,29 @@ use Rattle.fault.specs.declared.Fault.the-variants.{InGeneral, InRecord,
 
 -- ---- a scan of the tables
 
-module _ (l : List ℕ) (test : ℕ → ℕ → Bool) where
+module _ (table : Table) (test : ℕ → ℕ → Bool) where
   -- found in table t, and in none before it
-  pub where-here : (t i : ℕ) → t < tables → Passed (hasOne l test) tables t → At i ≡ firstOf l test t → InRecord t i ≡ recordWhere l test
+  pub where-here : (t i : ℕ) → t < tables → Passed (hasOne table test) tables t → At i ≡ firstOf table test t → InRecord t i ≡ recordWhere table test
   unfolding recordWhere
-  where-here t i h p e = rw (← found-here (hasOne l test) tables t h p (ap isAt (sym e))) (rw (← e))
+  where-here t i h p e = rw (← found-here (hasOne table test) tables t h p (ap isAt (sym e))) (rw (← e))
 
-  pub where-none : (t : ℕ) → tables ≤ t → Passed (hasOne l test) tables t → Nowhere ≡ recordWhere l test
+  pub where-none : (t : ℕ) → tables ≤ t → Passed (hasOne table test) tables t → Nowhere ≡ recordWhere table test
   unfolding recordWhere
-  where-none t h p = rw (← found-none (hasOne l test) tables t h p)
+  where-none t h p = rw (← found-none (hasOne table test) tables t h p)
 
 -- ---- 5 in one table
 
-module _ (l : List ℕ) (t : ℕ) where
+module _ (table : Table) (t : ℕ) where
   -- the part is there: the records' own bytes decide
-  pub present-first : absentPart (generalOf l) t ≡ false → firstIn l t (Miscoded t) ≡ firstOf l (miscodedAt l) t
-  present-first e = sym (ap (λ (b : Bool). first (λ i. b || asks (Miscoded t) (recordOf l t i)) (countOf l t)) e)
+  pub present-first : absentPart (table .general) t ≡ false → firstIn table t (Miscoded t) ≡ firstOf table (miscodedAt table) t
+  present-first e = sym (ap (λ (b : Bool). first (λ i. b || asks (Miscoded t) (table .at t i)) (table .count t)) e)
 
   -- it is absent: the table's first record
-  pub absent-first : absentPart (generalOf l) t ≡ true → 0 < countOf l t → At 0 ≡ firstOf l (miscodedAt l) t
-  absent-first e h = found-here (miscodedAt l t) (countOf l t) 0 h (passed-none _ _) (rw e)
+  pub absent-first : absentPart (table .general) t ≡ true → 0 < table .count t → At 0 ≡ firstOf table (miscodedAt table) t
+  absent-first e h = found-here (miscodedAt table t) (table .count t) 0 h (passed-none _ _) (rw e)
 
-  pub empty-first : countOf l t ≡ 0 → Nothing ≡ firstOf l (miscodedAt l) t
-  empty-first e = found-none (miscodedAt l t) (countOf l t) 0 (omega arith) (passed-none _ _)
+  pub empty-first : table .count t ≡ 0 → Nothing ≡ firstOf table (miscodedAt table) t
+  empty-first e = found-none (miscodedAt table t) (table .count t) 0 (omega arith) (passed-none _ _)
 
 -- ---- a refusal's own test fails
 
@@ -97,31 +98,31 @@ refused-whole l n e h = whole-of l (go (refusalOf (formTests l)) refl)
     go : (c : Checked) → refusalOf (formTests l) ≡ c → c ≡ Accepted
     go Accepted p = refl
     go (Refused m) p =
-        let s : refusalOf (checkTests l) ≡ Refused m = refusal-stays (formTests l) (contentTests l) m p in
+        let s : refusalOf (checkTests l) ≡ Refused m = refusal-stays (formTests l) (contentTests (tableOf l)) m p in
         let same : m ≡ n = cc in
         absurd (form-low l n h (p ∙ ap Refused same))
 
 -- ---- the place is there
 
 -- a place: the general block, or a record that the table has
-abbrev pub Located : List ℕ → Fault → Type 0
-Located l InGeneral = Unit
-Located l (InRecord t i) = (t < tables) × (i < countOf l t)
-Located l Nowhere = ⊥
+abbrev pub Located : Table → Fault → Type 0
+Located table InGeneral = Unit
+Located table (InRecord t i) = (t < tables) × (i < table .count t)
+Located table Nowhere = ⊥
 
-some-located : (l : List ℕ) (t : ℕ) (test : ℕ → Bool) → t < tables → some test (countOf l t) ≡ true → Located l (inTable t (first test (countOf l t)))
-some-located l t test h e = go (first test (countOf l t)) refl e
+some-located : (l : List ℕ) (t : ℕ) (test : ℕ → Bool) → t < tables → some test (countIn l t) ≡ true → Located (tableOf l) (inTable t (first test (countIn l t)))
+some-located l t test h e = go (first test (countIn l t)) refl e
   where
-    go : (f : Found) → first test (countOf l t) ≡ f → isAt f ≡ true → Located l (inTable t f)
-    go (At i) p q = (h, first-at test (countOf l t) i p .below)
+    go : (f : Found) → first test (countIn l t) ≡ f → isAt f ≡ true → Located (tableOf l) (inTable t f)
+    go (At i) p q = (h, first-at test (countIn l t) i p .below)
     go Nothing p q = true≢false (sym q)
 
-where-located : (l : List ℕ) (test : ℕ → ℕ → Bool) → some (hasOne l test) tables ≡ true → Located l (recordWhere l test)
+where-located : (l : List ℕ) (test : ℕ → ℕ → Bool) → some (hasOne (tableOf l) test) tables ≡ true → Located (tableOf l) (recordWhere (tableOf l) test)
 unfolding recordWhere
-where-located l test e = go (first (hasOne l test) tables) refl e
+where-located l test e = go (first (hasOne (tableOf l) test) tables) refl e
   where
-    go : (f : Found) → first (hasOne l test) tables ≡ f → isAt f ≡ true → Located l (onFound f (λ t. inTable t (firstOf l test t)) Nowhere)
-    go (At t) p q = let r = first-at (hasOne l test) tables t p in some-located l t (test t) (r .below) (r .passes)
+    go : (f : Found) → first (hasOne (tableOf l) test) tables ≡ f → isAt f ≡ true → Located (tableOf l) (onFound f (λ t. inTable t (firstOf (tableOf l) test t)) Nowhere)
+    go (At t) p q = let r = first-at (hasOne (tableOf l) test) tables t p in some-located l t (test t) (r .below) (r .passes)
     go Nothing p q = true≢false (sym q)
 
 -- 5: the block's test with the true counts says the same as with noughts where every table of an absent part is empty
@@ -136,23 +137,23 @@ plans-same g true a v e h k = rw e
 plans-same g false a v e h k = rw (h refl) (rw (k refl))
 
 block-same :
-    (l : List ℕ) → ((t : ℕ) → t < tables → absentPart (generalOf l) t ≡ true → countOf l t ≡ 0)
-    → codedBlock l ≡ codedGeneral (generalOf l) 0 0 0
+    (l : List ℕ) → ((t : ℕ) → t < tables → absentPart (generalOf l) t ≡ true → countIn l t ≡ 0)
+    → codedBlock (tableOf l) ≡ codedGeneral (generalOf l) 0 0 0
 unfolding codedBlock codedGeneral absentPart
 block-same l h =
     let g = generalOf l in
-    rw (channels-same g (bitOf (g .flags) 2) (countOf l channels) refl (h channels (omega arith)))
-    (rw (plans-same g (bitOf (g .flags) 4) (countOf l planData) (countOf l planAvoid) refl (h planData (omega arith)) (h planAvoid (omega arith))))
+    rw (channels-same g (bitOf (g .flags) 2) (countIn l channels) refl (h channels (omega arith)))
+    (rw (plans-same g (bitOf (g .flags) 4) (countIn l planData) (countIn l planAvoid) refl (h planData (omega arith)) (h planAvoid (omega arith))))
 
 -- no record meets 5: neither does a table of an absent part, nor a record's own bytes
-module _ (l : List ℕ) (none : some (hasOne l (miscodedAt l)) tables ≡ false) where
-  none-at : (t i : ℕ) → t < tables → i < countOf l t → miscodedAt l t i ≡ false
-  none-at t i h k = some-false (miscodedAt l t) (countOf l t) (some-false (hasOne l (miscodedAt l)) tables none t h) i k
+module _ (l : List ℕ) (none : some (hasOne (tableOf l) (miscodedAt (tableOf l))) tables ≡ false) where
+  none-at : (t i : ℕ) → t < tables → i < countIn l t → miscodedAt (tableOf l) t i ≡ false
+  none-at t i h k = some-false (miscodedAt (tableOf l) t) (countIn l t) (some-false (hasOne (tableOf l) (miscodedAt (tableOf l))) tables none t h) i k
 
-  none-absent : (t : ℕ) → t < tables → absentPart (generalOf l) t ≡ true → countOf l t ≡ 0
-  none-absent t h e = go (decLe 1 (countOf l t))
+  none-absent : (t : ℕ) → t < tables → absentPart (generalOf l) t ≡ true → countIn l t ≡ 0
+  none-absent t h e = go (decLe 1 (countIn l t))
     where
-      go : Dec (1 ≤ countOf l t) → countOf l t ≡ 0
+      go : Dec (1 ≤ countIn l t) → countIn l t ≡ 0
       go (yes k) = absurd (true≢false (sym (rw e) ∙ none-at t 0 h k))
       go (no k) = omega arith
 
@@ -160,35 +161,35 @@ module _ (l : List ℕ) (none : some (hasOne l (miscodedAt l)) tables ≡ false)
   or-last true b e = absurd (true≢false e)
   or-last false b e = e
 
-  none-own : some (miscodedIn l) tables ≡ false
+  none-own : some (miscodedIn (tableOf l)) tables ≡ false
   none-own =
-      some-all (miscodedIn l) tables
-      (λ t h. some-all (λ i. asks (Miscoded t) (recordOf l t i)) (countOf l t)
-      (λ i k. or-last (absentPart (generalOf l) t) (asks (Miscoded t) (recordOf l t i)) (none-at t i h k)))
+      some-all (miscodedIn (tableOf l)) tables
+      (λ t h. some-all (λ i. asks (Miscoded t) (recordIn l t i)) (countIn l t)
+      (λ i k. or-last (absentPart (generalOf l) t) (asks (Miscoded t) (recordIn l t i)) (none-at t i h k)))
 
-  none-coded : codedGeneral (generalOf l) 0 0 0 ≡ true → miscoded l ≡ false
+  none-coded : codedGeneral (generalOf l) 0 0 0 ≡ true → miscoded (tableOf l) ≡ false
   unfolding miscoded
   none-coded e = rw (block-same l none-absent) (rw e (rw none-own))
 
-miscoded-located : (l : List ℕ) → miscoded l ≡ true → Located l (miscodedPlace l)
+miscoded-located : (l : List ℕ) → miscoded (tableOf l) ≡ true → Located (tableOf l) (miscodedPlace (tableOf l))
 unfolding miscodedPlace
 miscoded-located l e = go (codedGeneral (generalOf l) 0 0 0) refl
   where
-    found : codedGeneral (generalOf l) 0 0 0 ≡ true → (b : Bool) → some (hasOne l (miscodedAt l)) tables ≡ b → b ≡ true
+    found : codedGeneral (generalOf l) 0 0 0 ≡ true → (b : Bool) → some (hasOne (tableOf l) (miscodedAt (tableOf l))) tables ≡ b → b ≡ true
     found c true p = refl
     found c false p = absurd (true≢false (sym e ∙ none-coded l p c))
 
-    go : (b : Bool) → codedGeneral (generalOf l) 0 0 0 ≡ b → Located l (cond b (recordWhere l (miscodedAt l)) InGeneral)
+    go : (b : Bool) → codedGeneral (generalOf l) 0 0 0 ≡ b → Located (tableOf l) (cond b (recordWhere (tableOf l) (miscodedAt (tableOf l))) InGeneral)
     go false p = tt
-    go true p = where-located l (miscodedAt l) (found p (some (hasOne l (miscodedAt l)) tables) refl)
+    go true p = where-located l (miscodedAt (tableOf l)) (found p (some (hasOne (tableOf l) (miscodedAt (tableOf l))) tables) refl)
 
-unsound-located : (l : List ℕ) → unsound l ≡ true → Located l (unsoundPlace l)
+unsound-located : (l : List ℕ) → unsound (tableOf l) ≡ true → Located (tableOf l) (unsoundPlace (tableOf l))
 unfolding unsound unsoundPlace
 unsound-located l e = go (soundBlock (generalOf l)) e
   where
-    go : (b : Bool) → (not b || some (unsoundIn l) tables) ≡ true → Located l (cond b (recordWhere l (unsoundAt l)) InGeneral)
+    go : (b : Bool) → (not b || some (unsoundIn (tableOf l)) tables) ≡ true → Located (tableOf l) (cond b (recordWhere (tableOf l) (unsoundAt (tableOf l))) InGeneral)
     go false q = tt
-    go true q = where-located l (unsoundAt l) q
+    go true q = where-located l (unsoundAt (tableOf l)) q
 
 -- ---- all numbers
 
@@ -196,10 +197,10 @@ unsound-located l e = go (soundBlock (generalOf l)) e
 abbrev pub hasPlace : ℕ → Bool
 hasPlace n = (leb 5 n && leb n 10) || (eqb n 12 || eqb n 13)
 
-by-number : (l : List ℕ) (n k : ℕ) (x y : Fault) → (n ≡ k → Located l x) → (eqb n k ≡ false → Located l y) → Located l (cond (eqb n k) x y)
+by-number : (l : List ℕ) (n k : ℕ) (x y : Fault) → (n ≡ k → Located (tableOf l) x) → (eqb n k ≡ false → Located (tableOf l) y) → Located (tableOf l) (cond (eqb n k) x y)
 by-number l n k x y here rest = go (eqb n k) refl
   where
-    go : (b : Bool) → eqb n k ≡ b → Located l (cond b x y)
+    go : (b : Bool) → eqb n k ≡ b → Located (tableOf l) (cond b x y)
     go true p = here (eqb-true n k p)
     go false p = rest p
 
@@ -218,36 +219,36 @@ no-place n a b c d f g i j = rw i (rw j (go (leb 5 n) (leb n 10) refl refl))
     go false y p q = refl
 
 -- A number with a place: its test fails, and there it fails first.
-at-located : (l : List ℕ) (n : ℕ) → checkOf l ≡ Refused n → hasPlace n ≡ true → Located l (faultAt n l)
+at-located : (l : List ℕ) (n : ℕ) → checkOf l ≡ Refused n → hasPlace n ≡ true → Located (tableOf l) (faultAt n (tableOf l))
 unfolding faultAt
 at-located l n e h =
-    by-number l n 5 _ _ (λ q. miscoded-located l (or-none (miscoded l) (fails 5 q)))
-    (λ a. by-number l n 6 _ _ (λ q. unsound-located l (or-none (unsound l) (fails 6 q)))
+    by-number l n 5 _ _ (λ q. miscoded-located l (or-none (miscoded (tableOf l)) (fails 5 q)))
+    (λ a. by-number l n 6 _ _ (λ q. unsound-located l (or-none (unsound (tableOf l)) (fails 6 q)))
     (λ b. by-number l n 7 _ _ (λ q. short bands (omega arith) (or-none _ (fails 7 q)))
     (λ c. by-number l n 8 _ _ (λ q. short segments (omega arith) (or-none _ (fails 8 q)))
     (λ d. by-number l n 9 _ _ (λ q. short automatic (omega arith) (or-none _ (fails 9 q)))
     (λ f. by-number l n 10 _ _ (λ q. short privileges (omega arith) (or-none _ (fails 10 q)))
-    (λ g. by-number l n 12 _ _ (λ q. some-located l segments (homelessAt l false) (omega arith) (or-none _ (fails 12 q)))
-    (λ i. by-number l n 13 _ _ (λ q. some-located l segments (λ k. asks NoLimit (recordOf l segments k)) (omega arith) (or-none _ (fails 13 q)))
+    (λ g. by-number l n 12 _ _ (λ q. some-located l segments (homelessAt (tableOf l) false) (omega arith) (or-none _ (fails 12 q)))
+    (λ i. by-number l n 13 _ _ (λ q. some-located l segments (λ k. asks NoLimit (recordIn l segments k)) (omega arith) (or-none _ (fails 13 q)))
     (λ j. true≢false (sym h ∙ no-place n a b c d f g i j)))))))))
   where
     fails : (k : ℕ) → n ≡ k → failsOf k (checkTests l) ≡ true
     fails k q = failed l k (e ∙ ap Refused q)
 
-    short : (t : ℕ) → t < tables → some (λ i. asks NotLengthy (recordOf l t i)) (countOf l t) ≡ true → Located l (shortIn l t)
-    short t = some-located l t (λ i. asks NotLengthy (recordOf l t i))
+    short : (t : ℕ) → t < tables → some (λ i. asks NotLengthy (recordIn l t i)) (countIn l t) ≡ true → Located (tableOf l) (shortIn (tableOf l) t)
+    short t = some-located l t (λ i. asks NotLengthy (recordIn l t i))
 
 -- A refusal by 5 to 10, 12 or 13 has a place.
-pub located : (l : List ℕ) (n : ℕ) → checkOf l ≡ Refused n → hasPlace n ≡ true → Located l (faultOf l .fault)
+pub located : (l : List ℕ) (n : ℕ) → checkOf l ≡ Refused n → hasPlace n ≡ true → Located (tableOf l) (faultOf l .fault)
 located l n e h = rw e (at-located l n e h)
 
 other : (n k : ℕ) → hasPlace n ≡ false → hasPlace k ≡ true → eqb n k ≡ false
 other n k h p = ne-eqb n k (λ e. true≢false (sym p ∙ sym (ap hasPlace e) ∙ h))
 
 -- Every other number has none.
-at-nowhere : (n : ℕ) (l : List ℕ) → hasPlace n ≡ false → Nowhere ≡ faultAt n l
+at-nowhere : (n : ℕ) (table : Table) → hasPlace n ≡ false → Nowhere ≡ faultAt n table
 unfolding faultAt
-at-nowhere n l h =
+at-nowhere n table h =
     rw (other n 5 h refl)
     (rw (other n 6 h refl)
     (rw (other n 7 h refl)
@@ -258,12 +259,12 @@ at-nowhere n l h =
 form-none : (n : ℕ) → n < 5 → hasPlace n ≡ false
 form-none n h = rw (lt-leb 5 n h) (rw (ne-eqb n 12 (λ e. omega arith)) (rw (ne-eqb n 13 (λ e. omega arith))))
 
-pub form-nowhere : (n : ℕ) (l : List ℕ) → n < 5 → Nowhere ≡ faultAt n l
-form-nowhere n l h = at-nowhere n l (form-none n h)
+pub form-nowhere : (n : ℕ) (table : Table) → n < 5 → Nowhere ≡ faultAt n table
+form-nowhere n table h = at-nowhere n table (form-none n h)
 
 -- A refusal by another number has no place, nor has an accepted image.
 pub unlocated : (l : List ℕ) (n : ℕ) → checkOf l ≡ Refused n → hasPlace n ≡ false → faultOf l .fault ≡ Nowhere
-unlocated l n e h = rw e (sym (at-nowhere n l h))
+unlocated l n e h = rw e (sym (at-nowhere n (tableOf l) h))
 
 pub accepted-nowhere : (l : List ℕ) → checkOf l ≡ Accepted → faultOf l .fault ≡ Nowhere
 accepted-nowhere l e = rw e
@@ -280,7 +281,7 @@ named l t i e = by-check (checkOf l) refl
     whole n c h (no k) = absurd (true≢false (sym h ∙ form-none n (omega arith)))
 
     by-place : (n : ℕ) → checkOf l ≡ Refused n → (b : Bool) → hasPlace n ≡ b → Whole l × (t < tables) × (i < countOf l t)
-    by-place n c true h = let p = subst (Located l) e (located l n c h) in (whole n c h (decLe 5 n), p .0, p .1)
+    by-place n c true h = let p = subst (Located (tableOf l)) e (located l n c h) in (whole n c h (decLe 5 n), p .0, rw (count-in l t (p .0)) at (p .1))
     by-place n c false h = absurd (never (unlocated l n c h))
 
     by-check : (x : Checked) → checkOf l ≡ x → Whole l × (t < tables) × (i < countOf l t)

@@ -10,6 +10,7 @@ ghost use Prim.Native.Nat.{_<_};
 ghost use Rattle.scan.specs.First.{first};
 ghost use Rattle.layout.specs.Layout.{segments, countOf};
 ghost use Rattle.layout.specs.Form.{Whole};
+ghost use Rattle.table.specs.Table.{tableOf};
 ghost use Rattle.find.specs.Question.{homelessAt};
 ghost use Rattle.fault.specs.Fault.{inTable, firstOf, recordWhere, absentPart, miscodedPlace, unsoundPlace, wrongAt, shortIn, faultAt, faultOf};
 ghost use Rattle.fault.specs.Number.{faultNumber};
@@ -68,7 +69,7 @@ fn is_absent(g: General, t: usize) -> bool
 // The first record of table t that meets 5, or 6.
 fn find_wrong(s: &[u8], coding: bool, t: usize) -> Found
     requires { ⌜ (Whole (now s)) × (t < 9) ⌝ }
-    ensures { λ r. ⌜ r ≡ firstOf (now (s .entry)) (wrongAt coding (now (s .entry))) t ⌝ }
+    ensures { λ r. ⌜ r ≡ firstOf (tableOf (now (s .entry))) (wrongAt coding (tableOf (now (s .entry)))) t ⌝ }
 {
     if !coding {
         return find::find_in(s, t, Question::Unsound);
@@ -85,7 +86,7 @@ fn find_wrong(s: &[u8], coding: bool, t: usize) -> Found
 // The first table and record that meets 5, or 6.
 fn record_where(s: &[u8], coding: bool) -> Fault
     requires { ⌜ Whole (now s) ⌝ }
-    ensures { λ r. ⌜ r ≡ recordWhere (now (s .entry)) (wrongAt coding (now (s .entry))) ⌝ }
+    ensures { λ r. ⌜ r ≡ recordWhere (tableOf (now (s .entry))) (wrongAt coding (tableOf (now (s .entry)))) ⌝ }
 {
     let mut t: usize = 0;
     while t < layout::TABLES {
@@ -101,7 +102,7 @@ fn record_where(s: &[u8], coding: bool) -> Fault
 // 5
 fn miscoded_place(s: &[u8]) -> Fault
     requires { ⌜ Whole (now s) ⌝ }
-    ensures { λ r. ⌜ r ≡ miscodedPlace (now (s .entry)) ⌝ }
+    ensures { λ r. ⌜ r ≡ miscodedPlace (tableOf (now (s .entry))) ⌝ }
 {
     if coded::coded_general(layout::general_of(s), 0, 0, 0) {
         record_where(s, true)
@@ -113,7 +114,7 @@ fn miscoded_place(s: &[u8]) -> Fault
 // 6
 fn unsound_place(s: &[u8]) -> Fault
     requires { ⌜ Whole (now s) ⌝ }
-    ensures { λ r. ⌜ r ≡ unsoundPlace (now (s .entry)) ⌝ }
+    ensures { λ r. ⌜ r ≡ unsoundPlace (tableOf (now (s .entry))) ⌝ }
 {
     if image::sound_block(layout::general_of(s)) {
         record_where(s, false)
@@ -125,7 +126,7 @@ fn unsound_place(s: &[u8]) -> Fault
 // The first segment in no band (12).
 fn find_homeless(s: &[u8]) -> Found
     requires { ⌜ Whole (now s) ⌝ }
-    ensures { λ r. ⌜ r ≡ first (homelessAt (now (s .entry)) false) (countOf (now (s .entry)) segments) ⌝ }
+    ensures { λ r. ⌜ r ≡ first (homelessAt (tableOf (now (s .entry))) false) (countOf (now (s .entry)) segments) ⌝ }
 {
     let start = layout::start_of(s, layout::SEGMENTS);
     let count = layout::count_of(s, layout::SEGMENTS) as usize;
@@ -143,7 +144,7 @@ fn find_homeless(s: &[u8]) -> Found
 // The first record of table t with low not below high (7 to 10).
 fn short_in(s: &[u8], t: usize) -> Fault
     requires { ⌜ (Whole (now s)) × (t < 9) ⌝ }
-    ensures { λ r. ⌜ r ≡ shortIn (now (s .entry)) t ⌝ }
+    ensures { λ r. ⌜ r ≡ shortIn (tableOf (now (s .entry))) t ⌝ }
 {
     in_table(t, find::find_in(s, t, Question::NotLengthy))
 }
@@ -151,7 +152,7 @@ fn short_in(s: &[u8], t: usize) -> Fault
 // The place of a refusal of a whole image, by its number.
 fn fault_at(s: &[u8], n: u8) -> Fault
     requires { ⌜ Whole (now s) ⌝ }
-    ensures { λ r. ⌜ r ≡ faultAt n (now (s .entry)) ⌝ }
+    ensures { λ r. ⌜ r ≡ faultAt n (tableOf (now (s .entry))) ⌝ }
 {
     match n {
         5 => miscoded_place(s),

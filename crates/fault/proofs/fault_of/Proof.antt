@@ -1,6 +1,7 @@
 -- `fault::fault_of` meets its contract: on each way to a return, the tests and what the calls ensure say which case of the definition holds.
 use mathlib.Core.Path.{sym, _∙_}
 use borrow.Author.Needs.{needs}
+use Rattle.table.specs.Table.{tableOf}
 use Rattle.fault.specs.Laws.{refused-whole, form-nowhere}
 use Rattle.fault.proofs.fault_of.Statement.{statement}
 use Rattle.fault.proofs.fault_of.Tie as tie
@@ -24,7 +25,7 @@ returns-2 : tie.Need-returns-2
 returns-2 c =
     rw (← c .before .before .before .before .check .ensures)
     (rw (c .before .before .n .given .1)
-    (rw (← form-nowhere _ (c .before .before .before .before .before .before .args .s .now) (c .if1 .taken))))
+    (rw (← form-nowhere _ (tableOf (c .before .before .before .before .before .before .args .s .now)) (c .if1 .taken))))
 
 returns-3 : tie.Need-returns-3
 returns-3 c = rw (← c .before .before .before .before .before .check .ensures) (rw (c .before .before .before .n .given .1) (rw (c .fault-at .ensures)))

@@ -8,12 +8,13 @@ use native.Mathlib.Omega.{arith}
 use Rattle.layout.specs.Layout.{recordSize, trailerSize, segments, countOf, startOf}
 use Rattle.layout.specs.Form.{table-within}
 use Rattle.scan.specs.First.{Passed, passed-none, passed-step, found-here, found-none}
+use Rattle.table.specs.Table.{tableOf, read-in}
 use Rattle.find.specs.Question.{homelessAt}
 use Rattle.fault.proofs.find_homeless.Statement.{statement}
 use Rattle.fault.proofs.find_homeless.Tie as tie
 
 abbrev Inv-loop : tie.InvT-loop
-Inv-loop s start count i₀ i = Passed (homelessAt s false) count i
+Inv-loop s start count i₀ i = Passed (homelessAt (tableOf s) false) count i
 
 abbrev μ-loop : tie.MeasureT-loop
 μ-loop s start count i₀ i = count - i
@@ -27,12 +28,14 @@ within c = table-within (c .args .s .now) (c .pre) segments (omega arith)
 asked :
     (c : tie.After-some-in Inv-loop μ-loop)
     → not (c .some-in .result)
-    ≡ homelessAt (c .before .before .before .before .before .before .before .before .args .s .now) false (c .before .before .before .before .loop .i)
+    ≡ homelessAt (tableOf (c .before .before .before .before .before .before .before .before .args .s .now)) false (c .before .before .before .before .loop .i)
 asked c =
     rw (c .some-in .ensures)
     (rw (c .before .span-of .ensures)
-    (rw (c .before .before .record-at .ensures)
-    (rw (c .before .before .before .before .before .before .start-of .ensures))))
+    (rw
+    (read-in _ segments _ _ _ (omega arith)
+    (omega (arith, c .before .before .before .before .before .count-of .ensures, c .before .before .before .loop-test .taken))
+    (c .before .before .before .before .before .before .start-of .ensures) (c .before .before .record-at .ensures))))
 
 start-of-requires : tie.Need-start-of-requires Inv-loop μ-loop
 start-of-requires c κs = omega (arith, c .before .pre .sized)

@@ -1,8 +1,11 @@
 -- `fault::find_wrong` meets its contract: on each way to a return, the tests and what the calls ensure say which case of the definition holds.
-use mathlib.Core.Path.{sym, _∙_}
+use mathlib.Core.Path.{sym, ap, _∙_}
 use borrow.Author.Needs.{needs}
 use borrow.Author.Tests.{not-true, not-false}
 use native.Mathlib.Omega.{arith}
+use Rattle.layout.specs.declared.General.{General}
+use Rattle.table.specs.Table.{tableOf, count-in}
+use Rattle.fault.specs.Fault.{absentPart}
 use Rattle.fault.specs.Laws.{present-first, absent-first, empty-first}
 use Rattle.fault.proofs.find_wrong.Statement.{statement}
 use Rattle.fault.proofs.find_wrong.Tie as tie
@@ -26,9 +29,9 @@ returns-2 : tie.Need-returns-2
 returns-2 c =
     rw (not-false (c .before .before .before .before .before .before .args .coding) (c .before .before .before .before .if1 .left))
     (rw (c .find-in2 .ensures)
-    (present-first _ _
-    (rw (← c .before .before .before .general-of .ensures)
-    (rw (← c .before .before .is-absent .ensures) (not-true _ (c .before .if2 .taken))))))
+    (present-first (tableOf (c .before .before .before .before .before .before .args .s .now)) (c .before .before .before .before .before .before .args .t)
+    (sym (c .before .before .is-absent .ensures ∙ ap (λ (g : General). absentPart g (c .before .before .before .before .before .before .args .t)) (c .before .before .before .general-of .ensures))
+    ∙ not-true _ (c .before .if2 .taken))))
 
 count-of-requires : tie.Need-count-of-requires
 count-of-requires c κs = search needs
@@ -36,15 +39,16 @@ count-of-requires c κs = search needs
 returns-3 : tie.Need-returns-3
 returns-3 c =
     rw (not-false (c .before .before .before .before .before .before .before .args .coding) (c .before .before .before .before .before .if1 .left))
-    (empty-first _ _ (sym (c .before .count-of .ensures) ∙ c .if3 .taken))
+    (empty-first (tableOf (c .before .before .before .before .before .before .before .args .s .now)) (c .before .before .before .before .before .before .before .args .t)
+    (count-in (c .before .before .before .before .before .before .before .args .s .now) (c .before .before .before .before .before .before .before .args .t) (c .before .before .before .before .before .before .before .pre .1) ∙ sym (c .before .count-of .ensures) ∙ c .if3 .taken))
 
 returns-4 : tie.Need-returns-4
 returns-4 c =
     rw (not-false (c .before .before .before .before .before .before .before .args .coding) (c .before .before .before .before .before .if1 .left))
-    (absent-first _ _
-    (rw (← c .before .before .before .before .general-of .ensures)
-    (rw (← c .before .before .before .is-absent .ensures) (not-false _ (c .before .before .if2 .left))))
-    (rw (← c .before .count-of .ensures) (omega arith)))
+    (absent-first (tableOf (c .before .before .before .before .before .before .before .args .s .now)) (c .before .before .before .before .before .before .before .args .t)
+    (sym (c .before .before .before .is-absent .ensures ∙ ap (λ (g : General). absentPart g (c .before .before .before .before .before .before .before .args .t)) (c .before .before .before .before .general-of .ensures))
+    ∙ not-false _ (c .before .before .if2 .left))
+    (rw (count-in (c .before .before .before .before .before .before .before .args .s .now) (c .before .before .before .before .before .before .before .args .t) (c .before .before .before .before .before .before .before .pre .1)) (rw (← c .before .count-of .ensures) (omega arith))))
 
 pub find-wrong-spec : {M : Type 1} → statement M
 find-wrong-spec =

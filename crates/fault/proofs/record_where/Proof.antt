@@ -5,13 +5,14 @@ use borrow.Author.Needs.{needs}
 use native.Mathlib.Omega.{arith}
 use Rattle.layout.specs.Layout.{tables}
 use Rattle.scan.specs.First.{Passed, isAt, passed-none, passed-step}
+use Rattle.table.specs.Table.{tableOf}
 use Rattle.fault.specs.Fault.{hasOne, wrongAt}
 use Rattle.fault.specs.Laws.{where-here, where-none}
 use Rattle.fault.proofs.record_where.Statement.{statement}
 use Rattle.fault.proofs.record_where.Tie as tie
 
 abbrev Inv-loop : tie.InvT-loop
-Inv-loop s coding t₀ t = Passed (hasOne s (wrongAt coding s)) tables t
+Inv-loop s coding t₀ t = Passed (hasOne (tableOf s) (wrongAt coding (tableOf s))) tables t
 
 abbrev μ-loop : tie.MeasureT-loop
 μ-loop s coding t₀ t = tables - t
