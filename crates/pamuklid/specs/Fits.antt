@@ -30,7 +30,8 @@ use Rattle.station.specs.Station.{underRules, situationOf}
 use Rattle.station.specs.declared.StationRecord.{StationRecord}
 use Rattle.station.specs.declared.Situation.{Situation}
 use Rattle.layout.specs.Form.{Whole}
-use Rattle.layout.specs.Layout.{channels, generalOf, recordOf, countOf}
+use Rattle.layout.specs.Layout.{channels, generalOf, countOf}
+use Rattle.table.specs.Table.{recordIn, tableOf}
 use Rattle.table.specs.Parts.{centreOf, channelsOf}
 use Rattle.table.specs.declared.Channels.{Channels}
 use Rattle.table.specs.declared.ChannelBand.{ChannelBand}
@@ -63,29 +64,29 @@ cond-few : (b : Bool) (xs ys : List SafeDial) (k : ℕ) → length xs ≤ k → 
 cond-few true xs ys k p q = p
 cond-few false xs ys k p q = q
 
-channels-few : (l : List ℕ) → Whole l → (q : Request) (c : Channels) → length (channelRows l q c) ≤ 256
+channels-few : (l : List ℕ) → Whole l → (q : Request) (c : Channels) → length (channelRows (tableOf l) q c) ≤ 256
 unfolding channelRows
 channels-few l w q c =
-    let a : length (each (countOf l channels) (channelAt l q c)) ≤ countOf l channels * 1 =
-    each-few (countOf l channels) 1 (channelAt l q c) (λ i. channel-few q c (centreOf (recordOf l channels i))) in
+    let a : length (each (countOf l channels) (channelAt (tableOf l) q c)) ≤ countOf l channels * 1 =
+    each-few (countOf l channels) 1 (channelAt (tableOf l) q c) (λ i. channel-few q c (centreOf (recordIn l channels i))) in
     let b : countOf l channels ≤ 256 = w .few channels (omega arith) in
     omega arith
 
-open-few : (l : List ℕ) → Whole l → (q : Request) (c : Channels) → length (openRows l q c) ≤ 256
+open-few : (l : List ℕ) → Whole l → (q : Request) (c : Channels) → length (openRows (tableOf l) q c) ≤ 256
 unfolding openRows
-open-few l w q c = cond-few (channelsOpen q && channelFound l q) (channelRows l q c) [] 256 (channels-few l w q c) (omega arith)
+open-few l w q c = cond-few (channelsOpen q && channelFound (tableOf l) q) (channelRows (tableOf l) q c) [] 256 (channels-few l w q c) (omega arith)
 
-band-few : (l : List ℕ) → Whole l → (q : Request) (b : ChannelBand) → length (bandRows l q b) ≤ 256
+band-few : (l : List ℕ) → Whole l → (q : Request) (b : ChannelBand) → length (bandRows (tableOf l) q b) ≤ 256
 band-few l w q (On c) = open-few l w q c
 band-few l w q NoChannels = omega arith
 
-rows-few : (l : List ℕ) → Whole l → (q : Request) → length (rowsOf l q) ≤ mostRows
+rows-few : (l : List ℕ) → Whole l → (q : Request) → length (rowsOf (tableOf l) q) ≤ mostRows
 unfolding rowsOf
 rows-few l w q =
-    let a : length (dataRows l q) ≤ 16777216 = data-few l w q in
-    let b : length (bandRows l q (channelsOf (generalOf l))) ≤ 256 = band-few l w q (channelsOf (generalOf l)) in
-    let s : length (dataRows l q ++ bandRows l q (channelsOf (generalOf l))) ≡ length (dataRows l q) + length (bandRows l q (channelsOf (generalOf l))) =
-    length-append (dataRows l q) (bandRows l q (channelsOf (generalOf l))) in
+    let a : length (dataRows (tableOf l) q) ≤ 16777216 = data-few l w q in
+    let b : length (bandRows (tableOf l) q (channelsOf (generalOf l))) ≤ 256 = band-few l w q (channelsOf (generalOf l)) in
+    let s : length (dataRows (tableOf l) q ++ bandRows (tableOf l) q (channelsOf (generalOf l))) ≡ length (dataRows (tableOf l) q) + length (bandRows (tableOf l) q (channelsOf (generalOf l))) =
+    length-append (dataRows (tableOf l) q) (bandRows (tableOf l) q (channelsOf (generalOf l))) in
     omega arith
 
 sideband-few : (x : SidebandSet) (f : Sideband → List SafeDial) (k : ℕ) → ((s : Sideband) → length (f s) ≤ k) → length (withSideband x f) ≤ k
@@ -100,14 +101,14 @@ control-few : (x : Control) (f : ControlMode → List SafeDial) (k : ℕ) → ((
 control-few (ControlIs m) f k h = h m
 control-few NoControl f k h = omega arith
 
-situation-few : (l : List ℕ) → Whole l → (s : Situation) (d : Direction) (e : Edges) → length (situationRows l s d e) ≤ mostRows
+situation-few : (l : List ℕ) → Whole l → (s : Situation) (d : Direction) (e : Edges) → length (situationRows (tableOf l) s d e) ≤ mostRows
 unfolding situationRows
 situation-few l w s d e =
     sideband-few (s .sideband)
-    (λ sideband. withLicense (s .license) (λ license. withControl (s .control) (λ control. knownRows l s d e sideband license control)))
+    (λ sideband. withLicense (s .license) (λ license. withControl (s .control) (λ control. knownRows (tableOf l) s d e sideband license control)))
     mostRows
-    (λ sideband. license-few (s .license) (λ license. withControl (s .control) (λ control. knownRows l s d e sideband license control)) mostRows
-    (λ license. control-few (s .control) (λ control. knownRows l s d e sideband license control) mostRows (λ control. rows-few l w _)))
+    (λ sideband. license-few (s .license) (λ license. withControl (s .control) (λ control. knownRows (tableOf l) s d e sideband license control)) mostRows
+    (λ license. control-few (s .control) (λ control. knownRows (tableOf l) s d e sideband license control) mostRows (λ control. rows-few l w _)))
 
 -- A list that was not refused for its station or its image has no more rows than that.
 list-few :
@@ -118,7 +119,7 @@ list-few r direction e l h = go (underRules r) (λ u. entry-whole r (directionVa
   where
     go :
         (b : Bool) → (b ≡ true → Whole l)
-        → length (cond b (situationRows l (situationOf r) (directionOf direction) (edgesRead e)) []) ≤ mostRows
+        → length (cond b (situationRows (tableOf l) (situationOf r) (directionOf direction) (edgesRead e)) []) ≤ mostRows
     go true w = situation-few l (w refl) (situationOf r) (directionOf direction) (edgesRead e)
     go false w = omega arith
 
@@ -176,7 +177,7 @@ module _ (r : StationRecord) (direction : ℕ) (ordinary floor : Edges) (l : Lis
   unfolding ceilingOf
   refused-none n e =
       ap
-      (λ (x : Checked). unlessRefused x (climbed (judgeBy l (situationOf r) (directionOf direction)) (burstOf (edgesRead ordinary) (edgesRead floor) rungs floors) (length rungs / 4)) .rung)
+      (λ (x : Checked). unlessRefused x (climbed (judgeBy (tableOf l) (situationOf r) (directionOf direction)) (burstOf (edgesRead ordinary) (edgesRead floor) rungs floors) (length rungs / 4)) .rung)
       e
 
   accepted-few : refusalOf (ceilingTests r direction ordinary floor l rungs floors) ≡ Accepted → length rungs / 4 ≤ 256

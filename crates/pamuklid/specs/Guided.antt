@@ -40,7 +40,8 @@ use Rattle.station.specs.declared.Figure.the-variants.{Known, Absent}
 use Rattle.station.specs.declared.StationRecord.{StationRecord}
 use Rattle.station.specs.declared.Situation.{Situation}
 use Rattle.layout.specs.Form.{Whole}
-use Rattle.layout.specs.Layout.{bands, segments, channels, automatic, excluded, planData, planAvoid, generalOf, recordOf, countOf}
+use Rattle.layout.specs.Layout.{bands, segments, channels, automatic, excluded, planData, planAvoid, generalOf, countOf}
+use Rattle.table.specs.Table.{Table, recordIn, tableOf}
 use Rattle.table.specs.Parts.{readingOf, elsewhereOf, sixtyOf, channelsOf}
 use Rattle.table.specs.declared.Segment.{Segment as SegmentRecord}
 use Rattle.table.specs.declared.ElsewhereRule.{ElsewhereRule}
@@ -55,7 +56,9 @@ use Rattle.find.specs.declared.Question.the-variants.{Holds, Overlaps, OfBand, 
 use Rattle.entry.specs.Entry.{entryTests, edgesRead}
 use Rattle.decision.specs.Decision.{noAdvice, finishOf, simpleOf, refusedOf}
 use Rattle.decision.specs.declared.Verdict.{Verdict}
+use Rattle.decision.specs.Number.{noRule, §97-301, §97-109}
 use Rattle.decision.specs.declared.Code.{Code}
+use Rattle.decision.specs.declared.Code.the-variants.{Region, NoControl, NoLicense, NoSideband, NoDial}
 use Rattle.decision.specs.declared.Overshoot.{Overshoot}
 use Rattle.decision.specs.declared.Guidance.{Guidance}
 use Rattle.decision.specs.declared.Guidance.the-variants.{Avoid, Inside, Outside, NoGuidance}
@@ -70,8 +73,10 @@ use Rattle.part97.specs.declared.Nearest.{Nearest}
 use Rattle.part97.specs.declared.Nearest.the-variants.{Near, NoneNear}
 use Rattle.part97.specs.declared.Privileged.{Privileged}
 use Rattle.part97.specs.declared.Privileged.the-variants.{Granted, Forbidden, Unheld}
-use Rattle.verdict.specs.Verdict.{signalOf, withControl, withLicense, withSideband, withDial, ruledOf, underRulesOf, unruledOf, decideOf, besideValid, edgeTests, evaluateTests, unlessRefused, evaluateOf, unmeasuredOf}
+use Rattle.verdict.specs.Verdict.{signalOf, withControl, withLicense, withSideband, withDial, readyOf, judgedOf, underRulesOf, unruledOf, decideOf, besideValid, edgeTests, evaluateTests, unlessRefused, evaluateOf, unmeasuredOf}
 use Rattle.verdict.specs.Laws.{rules-whole}
+use Rattle.verdict.specs.declared.Ready.{Ready}
+use Rattle.verdict.specs.declared.Ready.the-variants.{Met, Missing}
 use Rattle.ceiling.specs.Ceiling.{judgeBy, climbed, rungTests, ceilingTests, unlessRefused as withRefusal, ceilingOf}
 use Rattle.ceiling.specs.Run.{Run, judging, bursts, ceiling-run}
 use Rattle.ceiling.specs.declared.CeilingAnswer.{CeilingAnswer}
@@ -123,7 +128,10 @@ refused n = omega arith
 
 -- ---- what Part 97 answers, by a whole table
 
-module _ (table : List ℕ) (w : Whole table) (c : Case) where
+module _ (l : List ℕ) (w : Whole l) (c : Case) where
+  abbrev table : Table
+  table = tableOf l
+
   plan-says : (r : Range) → guidanceIndex (planSays table r) < 256
   unfolding planSays
   plan-says r = go (firstIn table planAvoid (Overlaps r)) refl (firstIn table planData (Holds r)) refl
@@ -132,12 +140,12 @@ module _ (table : List ℕ) (w : Whole table) (c : Case) where
           (f : Found) → firstIn table planAvoid (Overlaps r) ≡ f → (g : Found) → firstIn table planData (Holds r) ≡ g
           → guidanceIndex (onFound f Avoid (onFound g Inside Outside)) < 256
       go (At i) p g q =
-          let h = first-at (λ k. asks (Overlaps r) (recordOf table planAvoid k)) (countOf table planAvoid) i p in
-          let n : countOf table planAvoid ≤ 256 = w .few planAvoid (omega arith) in
+          let h = first-at (λ k. asks (Overlaps r) (recordIn l planAvoid k)) (table .count planAvoid) i p in
+          let n : countOf l planAvoid ≤ 256 = w .few planAvoid (omega arith) in
           omega (arith, h .below)
       go Nothing p (At i) q =
-          let h = first-at (λ k. asks (Holds r) (recordOf table planData k)) (countOf table planData) i q in
-          let n : countOf table planData ≤ 256 = w .few planData (omega arith) in
+          let h = first-at (λ k. asks (Holds r) (recordIn l planData k)) (table .count planData) i q in
+          let n : countOf l planData ≤ 256 = w .few planData (omega arith) in
           omega (arith, h .below)
       go Nothing p Nothing q = omega arith
 
@@ -163,7 +171,7 @@ module _ (table : List ℕ) (w : Whole table) (c : Case) where
   automatic-data : (band : ℕ) (segment : Range) (rule : ℕ) → Settled (automaticData table c band segment rule)
   unfolding automaticData
   automatic-data band segment rule =
-      by-found (firstIn table automatic (Holds (c .guarded))) (λ a. with-advice _ _ _ _) (elsewhere _ (elsewhereOf (generalOf table)))
+      by-found (firstIn table automatic (Holds (c .guarded))) (λ a. with-advice _ _ _ _) (elsewhere _ (elsewhereOf (table .general)))
 
   inside : (band : ℕ) (s : SegmentRecord) → Settled (insideSegment table c band s)
   unfolding insideSegment
@@ -171,7 +179,7 @@ module _ (table : List ℕ) (w : Whole table) (c : Case) where
 
   outside-all : (band : ℕ) → Settled (outsideSegments table c band)
   unfolding outsideSegments
-  outside-all band = by-nearest (nearestUpTo table c (countOf table segments)) (λ i. outside _ _ _ _ _) (simple _ _ _ _)
+  outside-all band = by-nearest (nearestUpTo table c (table .count segments)) (λ i. outside _ _ _ _ _) (simple _ _ _ _)
 
   data-judged : (band : ℕ) (found : Found) → Settled (judgeData table c band found)
   unfolding judgeData
@@ -206,9 +214,9 @@ module _ (table : List ℕ) (w : Whole table) (c : Case) where
 
   sixty-kind : (ch : Channels) (kind : EmissionKind) → Settled (sixtyKind table c ch kind)
   unfolding sixtyKind
-  sixty-kind ch Data = sixty-emission ch (sixtyOf (generalOf table))
-  sixty-kind ch Cw = sixty-emission ch (sixtyOf (generalOf table))
-  sixty-kind ch TestKind = sixty-emission ch (sixtyOf (generalOf table))
+  sixty-kind ch Data = sixty-emission ch (sixtyOf (table .general))
+  sixty-kind ch Cw = sixty-emission ch (sixtyOf (table .general))
+  sixty-kind ch TestKind = sixty-emission ch (sixtyOf (table .general))
   sixty-kind ch NoEmission = simple _ _ _ _
 
   on-band : (band : ℕ) (b : ChannelBand) → Settled (judgeOnBand table c band b)
@@ -220,8 +228,8 @@ module _ (table : List ℕ) (w : Whole table) (c : Case) where
   in-band : (band : ℕ) → Settled (judgeInBand table c band)
   unfolding judgeInBand
   in-band band =
-      by-test (c .automatic) (by-found (firstIn table excluded (OfBand band)) (λ x. simple _ _ _ _) (on-band band (channelsOf (generalOf table))))
-      (on-band band (channelsOf (generalOf table)))
+      by-test (c .automatic) (by-found (firstIn table excluded (OfBand band)) (λ x. simple _ _ _ _) (on-band band (channelsOf (table .general))))
+      (on-band band (channelsOf (table .general)))
 
   judged : Settled (judge table c)
   unfolding judge
@@ -229,45 +237,65 @@ module _ (table : List ℕ) (w : Whole table) (c : Case) where
 
 -- ---- the verdict
 
-by-control : (x : Control) {d : Decision} {f : ControlMode → Decision} → Settled d → ((m : ControlMode) → Settled (f m)) → Settled (withControl x d f)
-by-control (ControlIs m) p q = q m
+-- what the prerequisites leave, judged
+record Prepared (table : Table) (r : Ready) : Type 0 where
+  settled : (signal : Draft) → Settled (judgedOf table signal r)
+
+missing : {table : Table} (k : Code) (n : ℕ) → Prepared table (Missing k n)
+missing k n = record { settled = λ signal. simple signal _ _ _ }
+
+by-region : (b : Bool) {table : Table} {r : Ready} → Prepared table r → Prepared table (cond b r (Missing Region §97-301))
+by-region true p = p
+by-region false p = missing _ _
+
+by-control :
+    (x : Control) {table : Table} {m : Ready} {f : ControlMode → Ready} → Prepared table m → ((k : ControlMode) → Prepared table (f k))
+    → Prepared table (withControl x m f)
+by-control (ControlIs k) p q = q k
 by-control ControlAbsent p q = p
 
-by-license : (x : License) {d : Decision} {f : LicenseClass → Decision} → Settled d → ((m : LicenseClass) → Settled (f m)) → Settled (withLicense x d f)
-by-license (LicenseIs m) p q = q m
+by-license :
+    (x : License) {table : Table} {m : Ready} {f : LicenseClass → Ready} → Prepared table m → ((k : LicenseClass) → Prepared table (f k))
+    → Prepared table (withLicense x m f)
+by-license (LicenseIs k) p q = q k
 by-license LicenseAbsent p q = p
 
-by-sideband : (x : SidebandSet) {d : Decision} {f : Sideband → Decision} → Settled d → ((m : Sideband) → Settled (f m)) → Settled (withSideband x d f)
-by-sideband (SidebandIs m) p q = q m
+by-sideband :
+    (x : SidebandSet) {table : Table} {m : Ready} {f : Sideband → Ready} → Prepared table m → ((k : Sideband) → Prepared table (f k))
+    → Prepared table (withSideband x m f)
+by-sideband (SidebandIs k) p q = q k
 by-sideband SidebandAbsent p q = p
 
-by-dial : (x : Figure) {d : Decision} {f : Float → Decision} → Settled d → ((m : Float) → Settled (f m)) → Settled (withDial x d f)
-by-dial (Known m) p q = q m
+by-dial :
+    (x : Figure) {table : Table} {m : Ready} {f : Float → Ready} → Prepared table m → ((k : Float) → Prepared table (f k))
+    → Prepared table (withDial x m f)
+by-dial (Known k) p q = q k
 by-dial Absent p q = p
 
 under-rules :
-    (table : List ℕ) → Whole table → (s : Situation) (dial : Figure) (kind : EmissionKind) (direction : Direction) (audio : Range)
-    → Settled (underRulesOf table s dial kind direction audio)
-unfolding underRulesOf ruledOf
-under-rules table w s dial kind direction audio =
-    by-test (eqb (s .«itu_region») (generalOf table .region))
-    (by-control (s .control) (simple _ _ _ _)
-    (λ m. by-license (s .license) (simple _ _ _ _)
-    (λ k. by-sideband (s .sideband) (simple _ _ _ _) (λ b. by-dial dial (simple _ _ _ _) (λ hz. judged table w _)))))
-    (simple _ _ _ _)
+    (l : List ℕ) → Whole l → (s : Situation) (dial : Figure) (kind : EmissionKind) (direction : Direction) (audio : Range)
+    → Settled (underRulesOf (tableOf l) s dial kind direction audio)
+unfolding underRulesOf readyOf
+under-rules l w s dial kind direction audio =
+    by-region (eqb (s .«itu_region») (generalOf l .region))
+    (by-control (s .control) (missing NoControl §97-109)
+    (λ m. by-license (s .license) (missing NoLicense §97-301)
+    (λ k. by-sideband (s .sideband) (missing NoSideband noRule)
+    (λ b. by-dial dial (missing NoDial noRule) (λ hz. record { settled = λ signal. judged l w _ })))))
+    .settled (signalOf dial (s .sideband) audio)
 
 unruled : (s : Situation) (dial : Figure) (e : Edges) (v : Verdict) (k : Code) → Settled (unruledOf s dial e v k)
 unfolding unruledOf
 unruled s dial e v k = simple _ _ _ _
 
 decided :
-    (table : List ℕ) (s : Situation) (p : Policy) (dial : Figure) (kind : EmissionKind) (direction : Direction) (e : Edges)
-    → (p ≡ Rules → Whole table) → Settled (decideOf table s p dial kind direction e)
+    (l : List ℕ) (s : Situation) (p : Policy) (dial : Figure) (kind : EmissionKind) (direction : Direction) (e : Edges)
+    → (p ≡ Rules → Whole l) → Settled (decideOf (tableOf l) s p dial kind direction e)
 unfolding decideOf
-decided table s Unset dial kind direction e h = unruled s dial e _ _
-decided table s NoneApply dial kind direction e h = unruled s dial e _ _
-decided table s Rules dial kind direction e h = under-rules table (h refl) s dial kind direction (rangeOf e (readingOf (generalOf table)))
-decided table s Broken dial kind direction e h = unruled s dial e _ _
+decided l s Unset dial kind direction e h = unruled s dial e _ _
+decided l s NoneApply dial kind direction e h = unruled s dial e _ _
+decided l s Rules dial kind direction e h = under-rules l (h refl) s dial kind direction (rangeOf e (readingOf (generalOf l)))
+decided l s Broken dial kind direction e h = unruled s dial e _ _
 
 unless-refused : (x : Checked) (d : Decision) → (x ≡ Accepted → Settled d) → Indexed (unlessRefused x d)
 unless-refused Accepted d h = h refl .few
@@ -276,7 +304,7 @@ unless-refused (Refused n) d h = refused n
 module _ (r : StationRecord) (kind direction : ℕ) (e : Edges) (l : List ℕ) where
   -- the decision of a call that nothing refuses
   abbrev pub decision : Decision
-  decision = decideOf l (situationOf r) (situationOf r .policy) (situationOf r .dial) (kindOf kind) (directionOf direction) (edgesRead e)
+  decision = decideOf (tableOf l) (situationOf r) (situationOf r .policy) (situationOf r .dial) (kindOf kind) (directionOf direction) (edgesRead e)
 
   decision-settled : refusalOf (evaluateTests r kind direction e l) ≡ Accepted → Settled decision
   decision-settled a =
