@@ -1,5 +1,5 @@
 -- `rows::place` meets its contract: on each way to a return, the tests and what the calls ensure say which case of the definition holds.
-use Prim.Native.Nat.{_*_, _-_}
+use Prim.Native.Nat.{_*_, _-_, _<_, _≤_}
 use mathlib.Core.Path.{_≡_, _∙_}
 use Rattle.figures.specs.Figure.{totalLess}
 use native.Mathlib.Omega.{arith}
@@ -41,19 +41,24 @@ total-less-requires c κs = search needs
 
 returns : tie.Need-returns Inv-loop μ-loop
 returns c =
-    place-here _ _ _ _ (c .before .before .before .loop-test .taken) (c .before .before .before .before .loop .inv)
-    (asked (c .before) ∙ not-true _ (c .if1 .taken))
+    let t = c .before .before .before .before .loop in
+    let h : 0 < t .k = omega arith in
+    place-here _ _ _ (t .k) h (t .inv) (asked (c .before) ∙ not-true _ (c .if1 .taken))
 
 loop-less : tie.Need-loop-less Inv-loop μ-loop
 loop-less c = omega arith
 
 loop-again : tie.Need-loop-again Inv-loop μ-loop
 loop-again c =
-    place-step _ _ _ _ (c .before .before .before .loop-test .taken) (c .before .before .before .before .loop .inv)
-    (asked (c .before) ∙ not-false _ (c .if1 .left))
+    let t = c .before .before .before .before .loop in
+    let h : 0 < t .k = omega arith in
+    place-step _ _ _ (t .k) h (t .inv) (asked (c .before) ∙ not-false _ (c .if1 .left))
 
 returns-2 : tie.Need-returns-2 Inv-loop μ-loop
-returns-2 c = place-end _ _ _ _ (c .loop-test .left) (c .before .loop .inv)
+returns-2 c =
+    let t = c .before .loop in
+    let h : t .k ≤ 0 = omega arith in
+    place-end _ _ _ (t .k) h (t .inv)
 
 pub place-spec : {M : Type 1} → statement M
 place-spec =
