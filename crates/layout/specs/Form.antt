@@ -13,7 +13,7 @@ use borrow.Author.Tests.{ltb-false, eqb-true, not-false}
 use native.Mathlib.Omega.{arith}
 use native.Mathlib.Nat.{zero-add, suc-add, le-refl}
 use Rattle.layout.specs.Bytes.{byteAt}
-use Rattle.layout.specs.Layout.{generalSize, recordSize, trailerSize, tables, trailerOf, countOf, distanceOf, editionOf, lettersOf, recordsBefore, records-more, startOf}
+use Rattle.layout.specs.Layout.{generalSize, tablesFrom, recordSize, trailerSize, tables, trailerOf, countOf, distanceOf, editionOf, lettersOf, recordsBefore, records-more, startOf}
 
 -- 1 "image under 92 or over 65,536 bytes"
 abbrev pub sizeWrong : List ℕ → Bool
@@ -43,7 +43,7 @@ overfull l = some (overfullAt l) tables
 
 -- 4 "a count over 256, or a length or distance that disagrees"
 abbrev pub lengthWrong : List ℕ → Bool
-lengthWrong l = not (eqb (trailerOf l) (generalSize + recordSize * recordsBefore l tables))
+lengthWrong l = not (eqb (trailerOf l) (tablesFrom l + recordSize * recordsBefore l tables))
 
 abbrev pub distanceWrong : List ℕ → Bool
 distanceWrong l = not (eqb (distanceOf l) (trailerOf l))
@@ -59,7 +59,7 @@ pub record Whole (l : List ℕ) : Type 0 where
   pub sized : generalSize + trailerSize ≤ length l
   pub small : length l ≤ 65536
   pub few : (t : ℕ) → t < tables → countOf l t ≤ 256
-  pub filled : length l ≡ generalSize + recordSize * recordsBefore l tables + trailerSize
+  pub filled : length l ≡ tablesFrom l + recordSize * recordsBefore l tables + trailerSize
 
 or-false : (a b : Bool) → (a || b) ≡ false → (a ≡ false) × (b ≡ false)
 or-false true b e = absurd (true≢false e)
@@ -72,7 +72,7 @@ whole-of l e =
     let many = or-false (overfull l) (lengthWrong l || distanceWrong l) (none .1 .1 .1 .0) in
     let agree = or-false (lengthWrong l) (distanceWrong l) (many .1) in
     let sized : generalSize + trailerSize ≤ length l = ltb-false _ _ (size .0) in
-    let ends : trailerOf l ≡ generalSize + recordSize * recordsBefore l tables = eqb-true _ _ (not-false _ (agree .0)) in
+    let ends : trailerOf l ≡ tablesFrom l + recordSize * recordsBefore l tables = eqb-true _ _ (not-false _ (agree .0)) in
     record {
       sized = sized;
       small = ltb-false _ _ (size .1);

@@ -140,9 +140,13 @@ pub records-more : (l : List ℕ) (t : ℕ) → recordsBefore l (t + 1) ≡ reco
 unfolding recordsBefore
 records-more l t = rw add-one
 
+-- where the tables begin: after the general block
+abbrev pub tablesFrom : List ℕ → ℕ
+tablesFrom l = generalSize
+
 -- where table t begins, and record i of it
 abbrev pub startOf : List ℕ → ℕ → ℕ
-startOf l t = generalSize + recordSize * recordsBefore l t
+startOf l t = tablesFrom l + recordSize * recordsBefore l t
 
 abbrev pub placeOf : List ℕ → ℕ → ℕ → ℕ
 placeOf l t i = startOf l t + recordSize * i

@@ -6,7 +6,7 @@ ghost use Prim.Native.Nat.{_+_, _*_, _≤_, _<_};
 ghost use lib.ListN.{length};
 ghost use Rattle.codes.specs.Refusal.{refusalOf};
 ghost use Rattle.layout.specs.Bytes.{byteAt, u16At, u32At, u64At};
-ghost use Rattle.layout.specs.Layout.{recordAt, listsOf, rulesOf, generalOf, countOf, distanceOf, editionOf, recordsBefore, startOf};
+ghost use Rattle.layout.specs.Layout.{recordAt, listsOf, rulesOf, generalOf, countOf, distanceOf, editionOf, recordsBefore, tablesFrom, startOf};
 ghost use Rattle.layout.specs.Form.{lettersWrong, overfull, countsWrong, formTests};
 
 pub const GENERAL_SIZE: usize = 64;
@@ -226,12 +226,19 @@ pub fn records_before(s: &[u8], t: usize) -> u32
     sum
 }
 
+// Where the tables begin: after the general block, in every image.
+pub fn tables_from(s: &[u8]) -> usize
+    ensures { λ r. ⌜ r ≡ tablesFrom (now (s .entry)) ⌝ }
+{
+    GENERAL_SIZE
+}
+
 // Where table t begins.
 pub fn start_of(s: &[u8], t: usize) -> usize
     requires { ⌜ (28 ≤ length (now s)) × (t ≤ 9) ⌝ }
     ensures { λ r. ⌜ r ≡ startOf (now (s .entry)) t ⌝ }
 {
-    GENERAL_SIZE + RECORD_SIZE * records_before(s, t) as usize
+    tables_from(s) + RECORD_SIZE * records_before(s, t) as usize
 }
 
 // Whether one of the tables has over 256 records.

@@ -211,7 +211,7 @@ pub fn is_rough(s: &[u8]) -> bool
     requires { ⌜ Whole (now s) ⌝ }
     ensures { λ x. ⌜ x ≡ isRough (now (s .entry)) ⌝ }
 {
-    let mut start = layout::GENERAL_SIZE;
+    let mut start = layout::tables_from(s);
     let mut t: usize = 0;
     while t < layout::TABLES {
         let count = layout::count_of(s, t) as usize;
@@ -229,7 +229,7 @@ fn held_by(s: &[u8], j: usize, low: u64, high: u64) -> bool
     requires { ⌜ (Whole (now s)) × (j < countOf (now s) 0) ⌝ }
     ensures { λ x. ⌜ x ≡ heldBits (now (s .entry)) low high j ⌝ }
 {
-    let at = layout::GENERAL_SIZE + layout::RECORD_SIZE * j;
+    let at = layout::tables_from(s) + layout::RECORD_SIZE * j;
     layout::low_at(s, at) <= low && high <= layout::high_at(s, at)
 }
 

@@ -3,6 +3,7 @@ use Prim.Native.Nat.{_+_, _*_, _≤_}
 use native.Mathlib.Omega.{arith}
 use borrow.Author.Tests.{lt-leb, le-leb}
 use lib.ListN.{length}
+use borrow.Author.Needs.{needs}
 use Rattle.layout.specs.Layout.{recordsBefore, recordSize, trailerSize, bands, startOf, countOf}
 use Rattle.layout.specs.Form.{table-within}
 use Rattle.plain.specs.Home.{heldBits}
@@ -12,31 +13,34 @@ use Rattle.plain.proofs.held_by.Tie as tie
 within : (c : tie.Start) → startOf (c .args .s .now) bands + recordSize * countOf (c .args .s .now) bands + trailerSize ≤ length (c .args .s .now)
 within c = table-within (c .args .s .now) (c .pre .0) bands (omega arith)
 
+tables-from-requires : tie.Need-tables-from-requires
+tables-from-requires c κs = search needs
+
 mul-at : tie.Need-mul-at
-mul-at c = omega (arith, within (c .before))
+mul-at c = omega (arith, within (c .before .before))
 
 add-at : tie.Need-add-at
-add-at c = omega (arith, within (c .before))
+add-at c = omega (arith, within (c .before .before))
 
 low-at-requires : tie.Need-low-at-requires
-low-at-requires c κs = omega (arith, within (c .before))
+low-at-requires c κs = omega (arith, within (c .before .before))
 
 high-at-requires : tie.Need-high-at-requires
-high-at-requires c κs = omega (arith, within (c .before .before .before))
+high-at-requires c κs = omega (arith, within (c .before .before .before .before))
 
 returns : tie.Need-returns
 unfolding heldBits recordsBefore
 returns c =
-    rw (← c .before .before .low-at .ensures)
+    rw (← rw (c .before .before .before .tables-from .ensures) at (c .before .before .low-at .ensures))
     (rw (le-leb _ _ (c .before .if1 .taken))
-    (rw (← c .high-at .ensures)))
+    (rw (← rw (c .before .before .before .tables-from .ensures) at (c .high-at .ensures))))
 
 returns-2 : tie.Need-returns-2
 unfolding heldBits recordsBefore
 returns-2 c =
-    rw (← c .before .low-at .ensures)
+    rw (← rw (c .before .before .tables-from .ensures) at (c .before .low-at .ensures))
     (rw (lt-leb _ _ (c .if1 .left)))
 
 pub held-by-spec : {M : Type 1} → statement M
 held-by-spec =
-    tie.close (tie.spec mul-at add-at low-at-requires high-at-requires returns returns-2)
+    tie.close (tie.spec tables-from-requires mul-at add-at low-at-requires high-at-requires returns returns-2)

@@ -3,6 +3,7 @@ use Prim.Native.Nat.{_+_, _*_, _-_, _≤_}
 use mathlib.Core.Path.{_≡_, sym, _∙_}
 use lib.ListN.{length}
 use native.Mathlib.Omega.{arith}
+use borrow.Author.Needs.{needs}
 use Rattle.layout.specs.Layout.{recordSize, trailerSize, tables, countOf, startOf, recordsBefore, records-more}
 use Rattle.layout.specs.Form.{table-within}
 use Rattle.scan.specs.First.{Passed, passed-none, passed-step, some-here, some-none}
@@ -16,19 +17,22 @@ Inv-loop s start₀ t₀ start t = (start ≡ startOf s t) × Passed (roughIn s)
 abbrev μ-loop : tie.MeasureT-loop
 μ-loop s start₀ t₀ start t = tables - t
 
-within : (c : tie.In-loop Inv-loop μ-loop) → startOf (c .before .before .before .args .s .now) (c .before .loop .t) + recordSize * countOf (c .before .before .before .args .s .now) (c .before .loop .t) + trailerSize ≤ length (c .before .before .before .args .s .now)
-within c = table-within (c .before .before .before .args .s .now) (c .before .before .before .pre) (c .before .loop .t) (c .loop-test .taken)
+within : (c : tie.In-loop Inv-loop μ-loop) → startOf (c .before .before .before .before .args .s .now) (c .before .loop .t) + recordSize * countOf (c .before .before .before .before .args .s .now) (c .before .loop .t) + trailerSize ≤ length (c .before .before .before .before .args .s .now)
+within c = table-within (c .before .before .before .before .args .s .now) (c .before .before .before .before .pre) (c .before .loop .t) (c .loop-test .taken)
 
 -- what a turn asked of table t
-asked : (c : tie.After-rough-from Inv-loop μ-loop) → c .rough-from .result ≡ roughIn (c .before .before .before .before .before .args .s .now) (c .before .before .before .loop .t)
+asked : (c : tie.After-rough-from Inv-loop μ-loop) → c .rough-from .result ≡ roughIn (c .before .before .before .before .before .before .args .s .now) (c .before .before .before .loop .t)
 asked c = rw (c .rough-from .ensures) (rw (c .before .count-of .ensures) (rw (c .before .before .before .loop .inv .0)))
+
+tables-from-requires : tie.Need-tables-from-requires Inv-loop μ-loop
+tables-from-requires c κs = search needs
 
 loop-holds : tie.Need-loop-holds Inv-loop μ-loop
 unfolding recordsBefore
-loop-holds c = (omega arith, passed-none _ _)
+loop-holds c = (omega (arith, c .tables-from .ensures), passed-none _ _)
 
 count-of-requires : tie.Need-count-of-requires Inv-loop μ-loop
-count-of-requires c κs = (omega (arith, c .before .before .before .pre .sized), c .loop-test .taken)
+count-of-requires c κs = (omega (arith, c .before .before .before .before .pre .sized), c .loop-test .taken)
 
 cast-count : tie.Need-cast-count Inv-loop μ-loop
 cast-count c = omega arith
@@ -44,7 +48,7 @@ mul-start : tie.Need-mul-start Inv-loop μ-loop
 mul-start c = omega (arith, within (c .before .before .before), c .before .before .count-of .ensures)
 
 add-start : tie.Need-add-start Inv-loop μ-loop
-add-start c = omega (arith, within (c .before .before .before), c .before .before .count-of .ensures, c .before .before .before .before .loop .inv .0, c .before .before .before .before .before .before .pre .small)
+add-start c = omega (arith, within (c .before .before .before), c .before .before .count-of .ensures, c .before .before .before .before .loop .inv .0, c .before .before .before .before .before .before .before .pre .small)
 
 add-t : tie.Need-add-t Inv-loop μ-loop
 add-t c = omega arith
@@ -54,7 +58,7 @@ loop-less c = omega arith
 
 loop-again : tie.Need-loop-again Inv-loop μ-loop
 loop-again c = (
-  omega (arith, c .before .before .count-of .ensures, c .before .before .before .before .loop .inv .0, records-more (c .before .before .before .before .before .before .args .s .now) (c .before .before .before .before .loop .t)),
+  omega (arith, c .before .before .count-of .ensures, c .before .before .before .before .loop .inv .0, records-more (c .before .before .before .before .before .before .before .args .s .now) (c .before .before .before .before .loop .t)),
   passed-step _ _ _ (c .before .before .before .loop-test .taken) (c .before .before .before .before .loop .inv .1) (sym (asked (c .before)) ∙ c .if1 .left),
 )
 
@@ -68,6 +72,7 @@ is-rough-spec =
     (tie.spec
     Inv-loop
     μ-loop
+    tables-from-requires
     loop-holds
     count-of-requires
     cast-count
