@@ -1,6 +1,6 @@
 //! The library's boundary: the wrapper crate's structs and calls (`pamuklid::raw`).
 
-pub use pamuklid::raw::{Edges, Station, check, evaluate, safe_dials};
+pub use pamuklid::raw::{Edges, Station, check, evaluate, fault_of, safe_dials};
 
 /// A climb with one control frame for all its rungs.
 #[inline]

@@ -359,6 +359,33 @@ fn parts(show: bool, s: &Subject, rounds: usize) {
     }
 }
 
+/// Where a table is wrong, which the Rust does not tell: by the time of the image check on the same image.
+fn faults(s: &Subject, rounds: usize) {
+    let mut spoilt = s.image.clone();
+    let unused = spoilt.len() - 28 - 32 + 24;
+    spoilt[unused] = 1;
+    let ratio = |image: &[u8], refusal: u8| {
+        if ffi::fault_of(image).refusal != refusal {
+            differ(&format!("{}: fault of an image that refusal {refusal} should meet", s.name));
+        }
+        let (fault, check) = least(
+            rounds,
+            &mut || {
+                black_box(ffi::fault_of(black_box(image)));
+            },
+            &mut || {
+                black_box(ffi::check(black_box(image)));
+            },
+        );
+        fault / check
+    };
+    println!(
+        "  where the table is wrong, by the image check's time: accepted {:.2}, wrong in the last record {:.2}",
+        ratio(&s.image, 0),
+        ratio(&spoilt, 5)
+    );
+}
+
 fn stacks(s: &Subject) {
     let c = case(table::start(1) + 100_000.0, 4, 2, 0, pair(1_250.0, 1_750.0));
     let (rungs, floors) = (ladder(), [0u8; RUNGS]);
@@ -460,6 +487,7 @@ fn main() {
     let (a, b, rows) = lists(&hf, rounds);
     line(show, &format!("  dial list of {rows} rows"), (a, b), Some(0.5));
     parts(show, &hf, rounds);
+    faults(&hf, rounds);
     println!("{} of {} records, {} bytes", largest.name, largest.records, largest.image.len());
     line(show, "  verdict, mixed", verdicts(&largest, &mixed(largest.bands), rounds), None);
     line(
@@ -470,6 +498,7 @@ fn main() {
     );
     line(show, "  ceiling of 14 rungs", ceilings(&largest, rounds), None);
     parts(show, &largest, rounds);
+    faults(&largest, rounds);
     growth(show, rounds);
     long_lists(show, rounds);
     stacks(&hf);
