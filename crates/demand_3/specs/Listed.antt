@@ -11,7 +11,7 @@ use Rattle.profile.specs.declared.Range.{Range}
 use Rattle.profile.specs.declared.Shared.the-variants.{Stretch, Nothing}
 use Rattle.air.specs.Air.{rfRangeOf, guardedOf, dialEndsOf}
 use Rattle.air.specs.declared.DialRange.the-variants.{Dials, NoDial}
-use Rattle.scan.specs.First.{first, some, isAt, first-at, first-nothing}
+use Rattle.scan.specs.First.{first, some, isAt, first-at, first-nothing, some-true}
 use Rattle.scan.specs.declared.Found.{Found}
 use Rattle.scan.specs.declared.Found.the-variants.{At, Nothing as NotFound}
 use Rattle.layout.specs.Layout.{segments, privileges, automatic, tables}
@@ -39,19 +39,12 @@ pub record Some (test : ℕ → Bool) (n : ℕ) : Type 0 where
   pub below : index < n
   pub passes : test index ≡ true
 
-pub some-true : (test : ℕ → Bool) (n : ℕ) → some test n ≡ true → Some test n
-some-true test n e = go (first test n) refl e
+pub some-index : (test : ℕ → Bool) (n : ℕ) → some test n ≡ true → Some test n
+some-index test n e = go (first test n) refl e
   where
     go : (f : Found) → first test n ≡ f → isAt f ≡ true → Some test n
     go (At i) p q = let h = first-at test n i p in record { index = i; below = h .below; passes = h .passes }
     go NotFound p q = absurd (false≢true q)
-
-pub some-of : (test : ℕ → Bool) (n i : ℕ) → i < n → test i ≡ true → some test n ≡ true
-some-of test n i h e = go (first test n) refl
-  where
-    go : (f : Found) → first test n ≡ f → isAt f ≡ true
-    go (At k) p = refl
-    go NotFound p = absurd (true≢false (sym e ∙ first-nothing test n p i h))
 
 pub asks-holds : (a : Range) (r : Record) → asks (Holds a) r ≡ holdsOf (spanOf r) a
 unfolding asks
@@ -179,7 +172,7 @@ module _ (flags channel : ℕ) (q : Request) (dial : Float) (D : Figure dial) (M
         go :
             (b : Bool) → (b ≡ true → someIn table automatic (Holds signal) ≡ true)
             → listed (cond b (each (table .count automatic) (automaticAt table q (s .band) piece)) (pieceRows q (s .band) (s .rule) piece)) ≡ true
-        go true auto = inside (some-true (λ i. asks (Holds signal) (table .at automatic i)) (table .count automatic) (auto refl))
+        go true auto = inside (some-index (λ i. asks (Holds signal) (table .at automatic i)) (table .count automatic) (auto refl))
         go false auto = piece-in (s .band) (s .rule) piece P o h
 
     -- what a row of a cut piece says
@@ -203,7 +196,7 @@ module _ (flags channel : ℕ) (q : Request) (dial : Float) (D : Figure dial) (M
               outside = x .0;
               holds = both .0;
               automatic-holds = λ _.
-                  some-of (λ i. asks (Holds signal) (table .at automatic i)) (table .count automatic) (a .index) (a .below)
+                  some-true (λ i. asks (Holds signal) (table .at automatic i)) (table .count automatic) (a .index) (a .below)
                   (asks-holds signal (table .at automatic (a .index)) ∙ both .1);
             })
             (a .passes)

@@ -8,7 +8,7 @@ use native.Mathlib.Decide.{decLe}
 use borrow.Author.Tests.{eqb-true, eq-eqb, ne-eqb}
 use lib.Ieee.{Float, binary64, sub, lt, le, eq}
 use Rattle.figures.specs.Figure.{zeroHz}
-use Rattle.scan.specs.First.{some}
+use Rattle.scan.specs.First.{some, some-true}
 use Rattle.eighths.specs.Grid.{Figure}
 use Rattle.eighths.specs.Laws.{zero-eighths, eq-eighths}
 use Rattle.exact.specs.Air.{distance, distance-above}
@@ -20,7 +20,7 @@ use Rattle.demand_3.specs.Words.{nought, answers}
 use Rattle.demand_3.specs.Tests.{and-left, and-right, and-both, same}
 use Rattle.demand_3.specs.Order.{Grid, grid, figure-grid, lt-true, lt-false, le-by-lt}
 use Rattle.demand_3.specs.Dial.{RowEnd}
-use Rattle.demand_3.specs.Listed.{Some, some-of, some-true}
+use Rattle.demand_3.specs.Listed.{Some, some-index}
 
 abbrev nil : Grid zeroHz
 nil = grid zero-eighths
@@ -223,12 +223,12 @@ module _ (dial : Float) (flags channel : ℕ) (rows : List ℕ) where
         where
           go : (best : Distance) → LeastOf best count → nought best ≡ some liesAt count
           go (Hertz d) L =
-              same (eq d zeroHz) (some liesAt count) (λ e. let s = L .nought-of e in some-of liesAt count (s .index) (s .below) (s .passes))
-              (λ e. let s = some-true liesAt count e in L .of-nought (s .index) (s .below) (s .passes))
+              same (eq d zeroHz) (some liesAt count) (λ e. let s = L .nought-of e in some-true liesAt count (s .index) (s .below) (s .passes))
+              (λ e. let s = some-index liesAt count e in L .of-nought (s .index) (s .below) (s .passes))
           go NoneListed L =
               same false (some liesAt count) (λ e. absurd (false≢true e))
               (λ e.
-              let s = some-true liesAt count e in
+              let s = some-index liesAt count e in
               absurd
               (true≢false
               (sym (and-left (countsAt (s .index)) (between dial (lowOf (s .index)) (highOf (s .index))) (s .passes)) ∙ L (s .index) (s .below))))

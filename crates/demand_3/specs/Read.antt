@@ -9,7 +9,7 @@ use lib.ListN.{length, getD}
 use lib.Ieee.{Float}
 use Rattle.figures.specs.Figure.{zeroHz}
 use Rattle.profile.specs.Range.{range}
-use Rattle.scan.specs.First.{some}
+use Rattle.scan.specs.First.{some, some-true}
 use Rattle.eighths.specs.Grid.{Figure}
 use Rattle.rows.specs.Rows.{rowSize, encodeAll, lowAt, highAt, bandAt}
 use Rattle.rows.specs.Each.{Every}
@@ -21,7 +21,7 @@ use Rattle.distance.specs.Distance.{isOutside, leastUpTo}
 use Rattle.demand_3.specs.Tests.{or-left, or-right, same}
 use Rattle.demand_3.specs.Words.{nought}
 use Rattle.demand_3.specs.Dial.{RowEnd}
-use Rattle.demand_3.specs.Listed.{Some, some-true, some-of, lies}
+use Rattle.demand_3.specs.Listed.{Some, some-index, lies}
 use Rattle.demand_3.specs.Rows.{RowEnds}
 use Rattle.demand_3.specs.Nearest.{liesAt, least-nought}
 
@@ -76,8 +76,8 @@ module _ (dial : Float) (flags channel : ℕ) (D : Figure dial) (ys : List SafeD
         (subst RowEnd (sym (low-is i h)) (r .low), subst RowEnd (sym (high-is i h)) (r .high)))
         ∙ same (some (liesAt dial flags channel bytes) (length ys)) (anyRow (lies flags channel dial) ys)
         (λ e.
-        let s = some-true (liesAt dial flags channel bytes) (length ys) e in
+        let s = some-index (liesAt dial flags channel bytes) (length ys) e in
         any-in (lies flags channel dial) ys (s .index) (s .below) (sym (lies-is (s .index) (s .below)) ∙ s .passes))
         (λ e.
         let s = any-of (lies flags channel dial) ys e in
-        some-of (liesAt dial flags channel bytes) (length ys) (s .index) (s .below) (lies-is (s .index) (s .below) ∙ s .passes))
+        some-true (liesAt dial flags channel bytes) (length ys) (s .index) (s .below) (lies-is (s .index) (s .below) ∙ s .passes))

@@ -35,7 +35,7 @@ use Rattle.eighths.specs.Grid.{Figure}
 use Rattle.demand_3.specs.Tests.{and-left, and-right, and-both, or-left, or-right}
 use Rattle.demand_3.specs.Order.{Ends, Figures, ends, holds-trans, share}
 use Rattle.demand_3.specs.Dial.{guarded-ends}
-use Rattle.demand_3.specs.Listed.{some-true, asks-holds, Spans, guardedAt, Lawful}
+use Rattle.demand_3.specs.Listed.{some-index, asks-holds, Spans, guardedAt, Lawful}
 use Rattle.demand_3.specs.Judged.{automaticMet, Judged, OffChannels}
 
 -- ---- the only one that passes is the first
@@ -107,7 +107,7 @@ record Home (table : Table) (i : ℕ) : Type 0 where
 home : (table : Table) → homelessOf table true ≡ false → (i : ℕ) → i < table .count segments → Home table i
 unfolding asks
 home table h i k =
-    let s = some-true (λ b. asks (BandHolds (table .at segments i .band) (spanOf (table .at segments i))) (table .at bands b)) (table .count bands)
+    let s = some-index (λ b. asks (BandHolds (table .at segments i .band) (spanOf (table .at segments i))) (table .at bands b)) (table .count bands)
     (not-false (someIn table bands (homeQuestion true (table .at segments i))) (some-false (homelessAt table true) (table .count segments) h i k)) in
     record {
       band = s .index;

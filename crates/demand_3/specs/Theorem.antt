@@ -32,7 +32,7 @@ use Rattle.profile.specs.Range.{holdsOf, lengthy}
 use Rattle.profile.specs.declared.Range.{Range}
 use Rattle.occupancy.specs.declared.Edges.{Edges}
 use Rattle.air.specs.Air.{rfRangeOf, guardedOf}
-use Rattle.scan.specs.First.{first-at}
+use Rattle.scan.specs.First.{first-at, some-true}
 use Rattle.station.specs.Station.{underRules, figuresValid, figureValid, stationTests, situationOf}
 use Rattle.station.specs.declared.StationRecord.{StationRecord}
 use Rattle.station.specs.declared.Situation.{Situation}
@@ -70,7 +70,7 @@ use Rattle.demand_3.specs.Words.{tableInEighths, edgesInEighths, station
 use Rattle.demand_3.specs.Tests.{and-left, and-right, and-both, same}
 use Rattle.demand_3.specs.Order.{Figures}
 use Rattle.demand_3.specs.Dial.{guarded-lengthy}
-use Rattle.demand_3.specs.Listed.{some-of, Spans, guardedAt, lies, data-in, data-of}
+use Rattle.demand_3.specs.Listed.{Spans, guardedAt, lies, data-in, data-of}
 use Rattle.demand_3.specs.Rows.{RowEnds, rows-listed, rows-ends}
 use Rattle.demand_3.specs.Nearest.{least-none, least-answers}
 use Rattle.demand_3.specs.Read.{rows-nought}
@@ -192,7 +192,7 @@ module _
             (true≢false
             (sym
             (and-both (bitOf (generalOf l .flags) 2) (someIn (tableOf l) bands (BandHolds (generalOf l .«channel_band») signal)) p
-            (some-of (λ k. asks (BandHolds (generalOf l .«channel_band») signal) (recordIn l bands k)) (countOf l bands) b (h .below)
+            (some-true (λ k. asks (BandHolds (generalOf l .«channel_band») signal) (recordIn l bands k)) (countOf l bands) b (h .below)
             (and-both (eqb (recordIn l bands b .band) (generalOf l .«channel_band»)) (holdsOf (spanOf (recordIn l bands b)) signal) n (h .passes))))
             ∙ not-held))
         go true false p n = refl

@@ -96,12 +96,6 @@ fn holding(r: Record, a: Range) -> bool
     a.high_hz <= figures::figure(r.high) && figures::figure(r.low) <= a.low_hz
 }
 
-fn overlapping(r: Record, a: Range) -> bool
-    ensures { λ x. ⌜ x ≡ asks (Question.Overlaps a) r ⌝ }
-{
-    table::span_of(r).overlaps(a)
-}
-
 fn class_holding(r: Record, n: u8, a: Range) -> bool
     ensures { λ x. ⌜ x ≡ asks (Question.ClassHolds n a) r ⌝ }
 {
@@ -116,21 +110,6 @@ fn find_holding(s: &[u8], start: usize, count: usize, a: Range) -> Found
     let mut i: usize = 0;
     while i < count {
         if holding(layout::record_at(s, start + layout::RECORD_SIZE * i), a) {
-            return Found::At(i);
-        }
-        i += 1;
-    }
-    Found::Nothing
-}
-
-// The first that touches a range.
-fn find_overlapping(s: &[u8], start: usize, count: usize, a: Range) -> Found
-    requires { ⌜ start + 32 * count ≤ length (now s) ⌝ }
-    ensures { λ r. ⌜ r ≡ first (asksAt (now (s .entry)) start (Question.Overlaps a)) count ⌝ }
-{
-    let mut i: usize = 0;
-    while i < count {
-        if overlapping(layout::record_at(s, start + layout::RECORD_SIZE * i), a) {
             return Found::At(i);
         }
         i += 1;
@@ -175,7 +154,6 @@ pub fn find_from(s: &[u8], start: usize, count: usize, q: Question) -> Found
 {
     match q {
         Question::Holds(a) => find_holding(s, start, count, a),
-        Question::Overlaps(a) => find_overlapping(s, start, count, a),
         Question::ClassHolds(n, a) => find_class(s, start, count, n, a),
         _ => find_any(s, start, count, q),
     }

@@ -12,12 +12,6 @@ find-holding-requires c κs = search needs
 enum-known-q-2 : tie.Need-enum-known-q-2
 enum-known-q-2 c = search needs
 
-find-overlapping-requires : tie.Need-find-overlapping-requires
-find-overlapping-requires c κs = search needs
-
-enum-known-q-3 : tie.Need-enum-known-q-3
-enum-known-q-3 c = search needs
-
 find-class-requires : tie.Need-find-class-requires
 find-class-requires c κs = search needs
 
@@ -30,14 +24,10 @@ returns c =
 
 returns-2 : tie.Need-returns-2
 returns-2 c =
-    rw (c .before .before .q2 .given .1) (c .find-overlapping .ensures)
+    rw (c .before .before .q2 .given .1) (c .find-class .ensures)
 
 returns-3 : tie.Need-returns-3
-returns-3 c =
-    rw (c .before .before .q3 .given .1) (c .find-class .ensures)
-
-returns-4 : tie.Need-returns-4
-returns-4 c = search needs
+returns-3 c = search needs
 
 pub find-from-spec : {M : Type 1} → statement M
 find-from-spec =
@@ -46,11 +36,8 @@ find-from-spec =
     enum-known-q
     find-holding-requires
     enum-known-q-2
-    find-overlapping-requires
-    enum-known-q-3
     find-class-requires
     find-any-requires
     returns
     returns-2
-    returns-3
-    returns-4)
+    returns-3)
