@@ -23,7 +23,7 @@ use Rattle.table.specs.declared.Privilege.{Privilege}
 use Rattle.find.specs.Question.{asks, someIn}
 use Rattle.find.specs.declared.Question.the-variants.{Holds}
 use Rattle.eighths.specs.Grid.{Figure}
-use Rattle.rows.specs.Each.{each}
+use Rattle.lists.specs.Each.{each}
 use Rattle.rows.specs.Order.{anyRow, Index, any-each-in, any-each-of}
 use Rattle.rows.specs.declared.SafeDial.{SafeDial}
 use Rattle.dial_rows.specs.Dials.{dialRows, pieceRows, onShared, automaticAt, automaticRows, cut, cutRows, mayUse, privilegeRows, privilegeAt, privilegesRows, tooWide, excludedBand, segmentRows, segmentAt, dataRows}

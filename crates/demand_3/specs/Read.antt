@@ -11,8 +11,8 @@ use Rattle.figures.specs.Figure.{zeroHz}
 use Rattle.profile.specs.Range.{range}
 use Rattle.scan.specs.First.{some, some-true}
 use Rattle.eighths.specs.Grid.{Figure}
+use Rattle.lists.specs.Each.{Every}
 use Rattle.rows.specs.Rows.{rowSize, encodeAll, lowAt, highAt, bandAt}
-use Rattle.rows.specs.Each.{Every}
 use Rattle.rows.specs.Order.{anyRow}
 use Rattle.rows.specs.Read.{low-of, high-of, band-of}
 use Rattle.rows.specs.declared.SafeDial.{SafeDial}

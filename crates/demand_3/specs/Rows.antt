@@ -22,7 +22,7 @@ use Rattle.table.specs.declared.Segment.{Segment}
 use Rattle.table.specs.declared.Channels.{Channels}
 use Rattle.table.specs.declared.ChannelBand.the-variants.{On, NoChannels}
 use Rattle.eighths.specs.Grid.{Figure}
-use Rattle.rows.specs.Each.{each, Every, every-append, every-map}
+use Rattle.lists.specs.Each.{Every, each, every-append, every-map}
 use Rattle.rows.specs.Order.{anyRow, any-append}
 use Rattle.rows.specs.declared.SafeDial.{SafeDial}
 use Rattle.dial_rows.specs.Dials.{dialRows, pieceRows, onShared, automaticAt, automaticRows, cut, cutRows, mayUse, privilegeRows, privilegeAt, privilegesRows, tooWide, excludedBand, segmentRows, segmentAt, dataRows, channelSafe, channelHolds, channelRow, channelAt, channelRows, channelsOpen, channelFound, openRows, bandRows, rowsOf}

@@ -19,7 +19,7 @@ use Rattle.table.specs.Table.{recordIn, tableOf, at-in}
 use Rattle.table.specs.Parts.{segmentOf, privilegeOf}
 use Rattle.table.specs.declared.Segment.{Segment}
 use Rattle.table.specs.declared.Privilege.{Privilege}
-use Rattle.rows.specs.Each.{each, each-none, each-more}
+use Rattle.lists.specs.Each.{each, each-more, each-none}
 use Rattle.rows.specs.Pour.{Poured, Pouring, poured-none}
 use Rattle.rows.specs.declared.SafeDial.{SafeDial}
 use Rattle.dial_rows.specs.Dials.{onShared, cutRows, mayUse, privilegeRows, privilegeAt, privilegesRows}

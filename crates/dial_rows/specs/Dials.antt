@@ -34,7 +34,7 @@ use Rattle.table.specs.declared.ChannelBand.the-variants.{On, NoChannels}
 use Rattle.find.specs.Question.{someIn}
 use Rattle.find.specs.declared.Question.the-variants.{OfBand}
 use Rattle.automatic_97_221.specs.Automatic.{appliesOf, elsewhereAllows}
-use Rattle.rows.specs.Each.{each}
+use Rattle.lists.specs.Each.{each}
 use Rattle.rows.specs.declared.SafeDial.{SafeDial}
 use Rattle.dial_rows.specs.declared.Request.{Request}
 

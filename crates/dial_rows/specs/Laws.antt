@@ -34,7 +34,7 @@ use Rattle.table.specs.declared.ChannelBand.{ChannelBand}
 use Rattle.table.specs.declared.ChannelBand.the-variants.{On, NoChannels}
 use Rattle.table.specs.declared.ElsewhereRule.{ElsewhereRule}
 use Rattle.automatic_97_221.specs.Automatic.{appliesOf, elsewhereAllows}
-use Rattle.rows.specs.Each.{each, each-few, Every, every-append, every-each, every-map}
+use Rattle.lists.specs.Each.{Every, each, each-few, every-append, every-each, every-map}
 use Rattle.rows.specs.Back.{LowNumber}
 use Rattle.rows.specs.declared.SafeDial.{SafeDial}
 use Rattle.dial_rows.specs.Dials.{requestOf, dialRows, pieceRows, onShared, automaticAt, automaticRows, cut, cutRows, mayUse, privilegeRows, privilegeAt, tooWide, excludedBand, privilegesRows, segmentRows, segmentAt, dataRows, channelDial, channelHolds, channelSafe, channelRow, channelAt, channelsOpen, channelFound, channelRows, openRows, bandRows, rowsOf}

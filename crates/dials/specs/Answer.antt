@@ -24,8 +24,8 @@ use Rattle.station.specs.declared.StationRecord.{StationRecord}
 use Rattle.station.specs.declared.Situation.{Situation}
 use Rattle.table.specs.Table.{Table, tableOf}
 use Rattle.entry.specs.Entry.{entryTests, entryOf, edgesValid, edgesRead}
+use Rattle.lists.specs.Each.{Every}
 use Rattle.rows.specs.Rows.{rowSize, insertAll, sorted, encodeAll}
-use Rattle.rows.specs.Each.{Every}
 use Rattle.rows.specs.Pour.{pour}
 use Rattle.rows.specs.Back.{LowNumber, length-encode, pour-all}
 use Rattle.rows.specs.Order.{length-sorted}
@@ -99,37 +99,6 @@ poured-whole xs lent part n f e room p =
     ∙ ap (λ (m : List ℕ). encodeAll (sorted xs) ++ m) (drop-length (take (n * rowSize) lent))
     ∙ append-nil (encodeAll (sorted xs)) in
     ap (λ (m : List ℕ). m ++ drop (n * rowSize) lent) w
-
--- ---- a copy, byte by byte
-
-pub record Copying (lent own : List ℕ) (room : ℕ) (l : List ℕ) (k : ℕ) : Type 0 where
-  pub within : k ≤ room
-  pub same : length l ≡ length lent
-  pub held : l ≡ paste lent 0 own k
-
-module _ (lent own : List ℕ) (room : ℕ) where
-  pub copy-none : Copying lent own room lent 0
-  copy-none = record { within = omega arith; same = refl; held = paste-zero lent 0 own }
-
-  pub copy-step :
-      (l : List ℕ) (k : ℕ) → Copying lent own room l k → k < room → room ≤ length lent → room ≤ length own
-      → Copying lent own room (set l k (getD own k 0)) (k + 1)
-  copy-step l k c h a b =
-      let z : 0 + k ≡ k = omega arith in
-      let s : k + 1 ≡ suc k = omega arith in
-      let e : set (paste lent 0 own k) (0 + k) (getD own k 0) ≡ paste lent 0 own (suc k) = paste-suc lent 0 own k 0 (omega arith) (omega arith) in
-      record {
-        within = omega arith;
-        same = length-set l k (getD own k 0) ∙ c .same;
-        held =
-            ap (λ (m : List ℕ). set m k (getD own k 0)) (c .held) ∙ ap (λ (i : ℕ). set (paste lent 0 own k) i (getD own k 0)) (sym z)
-            ∙ e ∙ ap (λ (i : ℕ). paste lent 0 own i) (sym s);
-      }
-
-  pub copy-done : (l : List ℕ) (k : ℕ) → Copying lent own room l k → room ≤ k → l ≡ paste lent 0 own room
-  copy-done l k c h =
-      let e : k ≡ room = omega (arith, c .within) in
-      c .held ∙ ap (λ (i : ℕ). paste lent 0 own i) e
 
 -- ---- a station as it is read
 

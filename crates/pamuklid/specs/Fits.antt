@@ -41,7 +41,7 @@ use Rattle.fault.specs.Laws.{named}
 use Rattle.fault.specs.declared.Fault.{Fault}
 use Rattle.fault.specs.declared.Fault.the-variants.{InRecord}
 use Rattle.entry.specs.Entry.{entryTests, entryOf, entry-whole, edgesValid, edgesRead}
-use Rattle.rows.specs.Each.{each, each-few}
+use Rattle.lists.specs.Each.{each, each-few}
 use Rattle.rows.specs.declared.SafeDial.{SafeDial}
 use Rattle.dial_rows.specs.Dials.{dataRows, channelsOpen, channelFound, channelAt, channelRows, openRows, bandRows, rowsOf}
 use Rattle.dial_rows.specs.Laws.{data-few, channel-few}

@@ -13,28 +13,15 @@ use lib.Ieee.Bits.{ofBits-toBits, toBits-lt}
 use borrow.Author.Tests.{lt-ltb}
 use Rattle.figures.specs.Figure.{totalLess, figureOf}
 use Rattle.layout.specs.Bytes.{u64At}
-use Rattle.rows.specs.Rows.{rowSize, insertRow, insertAll, sorted, little, figureBytes, figuresOf, encodeRow, encodeAll, lowAt}
+use Rattle.bytes.specs.Bytes.{figureBytes, little}
+use Rattle.bytes.specs.Laws.{eight, figure-after, u64-drop}
+use Rattle.lists.specs.Each.{Every}
+use Rattle.rows.specs.Rows.{rowSize, insertRow, insertAll, sorted, figuresOf, encodeRow, encodeAll, lowAt}
 use Rattle.rows.specs.Held.{placeAt, insertFrom, insertAt, offerAt}
-use Rattle.rows.specs.Turns.{u64-drop, length-little, length-row}
-use Rattle.rows.specs.Each.{Every}
-use Rattle.rows.specs.Pour.{pour, u64-little}
+use Rattle.rows.specs.Turns.{length-row}
+use Rattle.rows.specs.Pour.{pour}
 use Rattle.rows.specs.Total.{total-one-way, total-trans}
 use Rattle.rows.specs.declared.SafeDial.{SafeDial}
-
--- ---- a figure, read back
-
-figure-back : (x : Float) (t : List ℕ) → T (fits binary64 x) → figureOf (u64At (figureBytes x ++ t) 0) ≡ x
-figure-back x t h = rw (u64-little (toBits binary64 x) t (toBits-lt binary64 x h)) (ofBits-toBits binary64 x h)
-
--- a figure that stands after k bytes
-pub figure-after : (x : Float) (p t : List ℕ) (k : ℕ) → length p ≡ k → T (fits binary64 x) → figureOf (u64At (p ++ (figureBytes x ++ t)) k) ≡ x
-figure-after x p t k e h =
-    let a : k ≡ k + 0 = omega arith in
-    let d : drop k (p ++ (figureBytes x ++ t)) ≡ figureBytes x ++ t = drop-at p (figureBytes x ++ t) k e in
-    ap (λ (i : ℕ). figureOf (u64At (p ++ (figureBytes x ++ t)) i)) a
-    ∙ ap figureOf (sym (u64-drop (p ++ (figureBytes x ++ t)) k 0))
-    ∙ ap (λ (m : List ℕ). figureOf (u64At m 0)) d
-    ∙ figure-back x t h
 
 unfoldable pub tailOf : SafeDial → List ℕ
 tailOf x = x .band ∷ 0 ∷ little 2 (x .rule)
@@ -47,9 +34,6 @@ pub parts :
     ++ (figureBytes (x .«dial_high_hz») ++ (tailOf x ++ t))))
 unfolding encodeRow figuresOf tailOf
 parts x t = simp append-assoc
-
-pub eight : (x : Float) → length (figureBytes x) ≡ 8
-eight x = length-little 8 (toBits binary64 x)
 
 pub two-figures : (a b : Float) → length (figureBytes a ++ figureBytes b) ≡ 16
 two-figures a b = length-append (figureBytes a) (figureBytes b) ∙ (let p : length (figureBytes a) ≡ 8 = eight a in let q : length (figureBytes b) ≡ 8 = eight b in omega arith)

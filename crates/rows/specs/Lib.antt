@@ -2,7 +2,6 @@ pub mod Total
 pub mod Rows
 pub mod Held
 pub mod Turns
-pub mod Each
 pub mod Pour
 pub mod Back
 pub mod Order

@@ -9,10 +9,12 @@ use lib.Seq.{drop-at, drop-drop, getD-drop}
 use lib.Ieee.{Float, binary64, fits}
 use Rattle.figures.specs.Figure.{figureOf}
 use Rattle.layout.specs.Bytes.{u16At, u64At}
-use Rattle.rows.specs.Rows.{rowSize, little, figureBytes, encodeRow, encodeAll, lowAt, highAt, bandAt, rowAt}
-use Rattle.rows.specs.Turns.{u16-drop, u64-drop, length-row}
-use Rattle.rows.specs.Each.{Every}
-use Rattle.rows.specs.Back.{tailOf, parts, eight, two-figures, opened, figure-after, low-back}
+use Rattle.bytes.specs.Bytes.{figureBytes, little}
+use Rattle.bytes.specs.Laws.{eight, figure-after, u16-drop, u64-drop}
+use Rattle.lists.specs.Each.{Every}
+use Rattle.rows.specs.Rows.{rowSize, encodeRow, encodeAll, lowAt, highAt, bandAt, rowAt}
+use Rattle.rows.specs.Turns.{length-row}
+use Rattle.rows.specs.Back.{tailOf, parts, two-figures, opened, low-back}
 use Rattle.rows.specs.declared.SafeDial.{SafeDial}
 
 -- the four figures of a row are a double's, and its rule is of 16 bits

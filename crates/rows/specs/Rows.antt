@@ -1,12 +1,13 @@
 -- A dial list as a list of rows: its order, and its bytes. "A dial row is 36 bytes: segment low, high, dial low, high (f64), band byte,
 -- zero byte, u16 rule." The row's offsets stand in this crate alone.
-use Prim.Native.Nat.{ℕ, zero, suc, _+_, _/_, _%_}
+use Prim.Native.Nat.{ℕ, zero, suc, _+_}
 use mathlib.Core.Bool.{cond}
 use mathlib.Core.List.{List, [], _∷_, _++_}
-use lib.Ieee.{Float, binary64, toBits}
+use lib.Ieee.{Float}
 use Rattle.figures.specs.Figure.{totalLess, figureOf}
 use Rattle.profile.specs.Range.{range}
 use Rattle.layout.specs.Bytes.{byteAt, u16At, u64At}
+use Rattle.bytes.specs.Bytes.{little, figureBytes}
 use Rattle.rows.specs.declared.SafeDial.{SafeDial}
 
 abbrev pub rowSize : ℕ
@@ -25,15 +26,6 @@ insertAll held (x ∷ xs) = insertAll (insertRow x held) xs
 -- rows in their order
 abbrev pub sorted : List SafeDial → List SafeDial
 sorted xs = insertAll [] xs
-
--- a number in a width of bytes, little-endian
-unfoldable pub little : ℕ → ℕ → List ℕ
-little zero x = []
-little (suc w) x = x % 256 ∷ little w (x / 256)
-
--- "f64 means its 64 bits."
-abbrev pub figureBytes : Float → List ℕ
-figureBytes x = little 8 (toBits binary64 x)
 
 -- segment low, high, dial low, high
 unfoldable pub figuresOf : SafeDial → List ℕ

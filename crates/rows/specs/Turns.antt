@@ -10,42 +10,11 @@ use lib.Seq.{sets, set-comm, getD-set-other, getD-drop, drop-cons}
 use lib.Ieee.{Float}
 use Rattle.figures.specs.Figure.{totalLess}
 use Rattle.layout.specs.Bytes.{u16At, u32At, u64At}
-use Rattle.rows.specs.Rows.{rowSize, little, figureBytes, figuresOf, encodeRow, lowAt}
+use Rattle.bytes.specs.Bytes.{figureBytes, little}
+use Rattle.bytes.specs.Laws.{length-little, sets-next}
+use Rattle.rows.specs.Rows.{rowSize, figuresOf, encodeRow, lowAt}
 use Rattle.rows.specs.declared.SafeDial.{SafeDial}
 use Rattle.rows.specs.Held.{placeAt}
-
--- ---- a number put byte by byte
-
-pub record Putting (l₀ : List ℕ) (at width x : ℕ) (l : List ℕ) (rest k : ℕ) : Type 0 where
-  pub within : k ≤ width
-  pub same : length l ≡ length l₀
-  pub left : sets l (at + k) (little (width - k) rest) ≡ sets l₀ at (little width x)
-
-module _ (l₀ : List ℕ) (at width x : ℕ) where
-  pub put-none : Putting l₀ at width x l₀ x 0
-  put-none =
-      let a : at + 0 ≡ at = omega arith in
-      let b : width - 0 ≡ width = omega arith in
-      record { within = omega arith; same = refl; left = rw a (rw b) }
-
-  pub put-step :
-      (l : List ℕ) (rest k : ℕ) → Putting l₀ at width x l rest k → k < width
-      → Putting l₀ at width x (set l (at + k) (rest % 256)) (rest / 256) (k + 1)
-  unfolding little
-  put-step l rest k p h =
-      let a : at + (k + 1) ≡ suc (at + k) = omega arith in
-      let b : width - k ≡ suc (width - (k + 1)) = omega arith in
-      record {
-        within = omega arith;
-        same = length-set l (at + k) (rest % 256) ∙ p .same;
-        left = rw a (rw b at (p .left));
-      }
-
-  pub put-done : (l : List ℕ) (rest k : ℕ) → Putting l₀ at width x l rest k → width ≤ k → l ≡ sets l₀ at (little width x)
-  unfolding little
-  put-done l rest k p h =
-      let b : width - k ≡ 0 = omega arith in
-      rw b at (p .left)
 
 -- ---- bytes moved up by a row
 
@@ -107,18 +76,6 @@ module _ (l₀ : List ℕ) (from to : ℕ) where
 
 -- ---- the place of a row
 
-pub u16-drop : (l : List ℕ) (m k : ℕ) → u16At (drop m l) k ≡ u16At l (m + k)
-unfolding u16At
-u16-drop l m k = rw (getD-drop m l k 0, getD-drop m l (k + 1) 0, add-assoc m k 1)
-
-u32-drop : (l : List ℕ) (m k : ℕ) → u32At (drop m l) k ≡ u32At l (m + k)
-unfolding u32At
-u32-drop l m k = rw (u16-drop l m k, u16-drop l m (k + 2), add-assoc m k 2)
-
-pub u64-drop : (l : List ℕ) (m k : ℕ) → u64At (drop m l) k ≡ u64At l (m + k)
-unfolding u64At
-u64-drop l m k = rw (u32-drop l m k, u32-drop l m (k + 4), add-assoc m k 4)
-
 pub record Placing (key : Float) (n : ℕ) (l : List ℕ) (k : ℕ) : Type 0 where
   pub within : k ≤ n
   pub left : placeAt key n l ≡ placeAt key k l
@@ -159,20 +116,6 @@ place-le key (suc n) l = go (totalLess key (lowAt l (n * rowSize))) (place-le ke
     go false h = omega arith
 
 -- ---- field after field
-
-pub length-little : (w x : ℕ) → length (little w x) ≡ w
-unfolding little
-length-little zero x = refl
-length-little (suc w) x = ap suc (length-little w (x / 256))
-
-pub sets-append : {A : Type 0} (a b l : List A) (at : ℕ) → sets (sets l at a) (at + length a) b ≡ sets l at (a ++ b)
-sets-append [] b l at = let e : at + 0 ≡ at = omega arith in rw e
-sets-append (x ∷ a) b l at =
-    let e : at + suc (length a) ≡ suc at + length a = omega arith in
-    ap (λ (n : ℕ). sets (sets (set l at x) (suc at) a) n b) e ∙ sets-append a b (set l at x) (suc at)
-
-sets-next : (a b l : List ℕ) (at n : ℕ) → at + length a ≡ n → sets (sets l at a) n b ≡ sets l at (a ++ b)
-sets-next a b l at n e = ap (λ (m : ℕ). sets (sets l at a) m b) (sym e) ∙ sets-append a b l at
 
 sets-four :
     (a b c d l : List ℕ) (at : ℕ) → length a ≡ 8 → length b ≡ 8 → length c ≡ 8

@@ -1,12 +1,11 @@
 // Rows of a dial list in lent bytes: 36 bytes a row, in a stable order by lower dial. Every offset of a row stands here.
-// It uses figures, profile and layout.
+// It uses figures, profile, layout and bytes; its laws use lists.
 use profile::Range;
 ghost use mathlib.Core.Path.{_≡_};
 ghost use Prim.Native.Nat.{_+_, _*_, _-_, _≤_, _<_};
 ghost use lib.ListN.{length, take, drop};
 ghost use lib.Seq.{sets};
-ghost use lib.Ieee.{binary64, toBits};
-ghost use Rattle.rows.specs.Rows.{little, figuresOf, encodeRow, lowAt, highAt, bandAt};
+ghost use Rattle.rows.specs.Rows.{figuresOf, encodeRow, lowAt, highAt, bandAt};
 ghost use Rattle.rows.specs.Held.{placeAt, insertAt, rowOf, offerAt};
 
 pub const ROW_SIZE: usize = 36;
@@ -20,39 +19,15 @@ pub struct SafeDial {
     pub dial_high_hz: f64,
 }
 
-// A figure's bits. A NaN has many: it gets those that `toBits` says.
-fn bits(x: f64) -> u64
-    ensures { λ r. ⌜ r ≡ toBits binary64 x ⌝ }
-{
-    if x != x {
-        return 0x7ff8_0000_0000_0000;
-    }
-    f64::to_bits(x)
-}
-
-// A number, little-endian, in the width bytes from at on.
-fn put(rows: &mut [u8], at: usize, width: usize, x: u64)
-    requires { ⌜ at + width ≤ length (now rows) ⌝ }
-    ensures { λ r. ⌜ now (rows .exit) ≡ sets (now (rows .entry)) at (little width x) ⌝ }
-{
-    let mut rest = x;
-    let mut k: usize = 0;
-    while k < width {
-        rows[at + k] = (rest % 256) as u8;
-        rest = rest / 256;
-        k += 1;
-    }
-}
-
 // The four figures of a row.
 fn put_figures(rows: &mut [u8], at: usize, row: SafeDial)
     requires { ⌜ at + 36 ≤ length (now rows) ⌝ }
     ensures { λ r. ⌜ now (rows .exit) ≡ sets (now (rows .entry)) at (figuresOf row) ⌝ }
 {
-    put(rows, at, 8, bits(row.segment.low_hz));
-    put(rows, at + 8, 8, bits(row.segment.high_hz));
-    put(rows, at + 16, 8, bits(row.dial_low_hz));
-    put(rows, at + 24, 8, bits(row.dial_high_hz));
+    bytes::put_figure(rows, at, row.segment.low_hz);
+    bytes::put_figure(rows, at + 8, row.segment.high_hz);
+    bytes::put_figure(rows, at + 16, row.dial_low_hz);
+    bytes::put_figure(rows, at + 24, row.dial_high_hz);
 }
 
 // A row, in the 36 bytes from at on.
@@ -63,7 +38,7 @@ fn put_row(rows: &mut [u8], at: usize, row: SafeDial)
     put_figures(rows, at, row);
     rows[at + 32] = row.band;
     rows[at + 33] = 0;
-    put(rows, at + 34, 2, row.rule as u64);
+    bytes::put(rows, at + 34, 2, row.rule as u64);
 }
 
 // The lower dial, the upper dial and the band of the row that begins at a place.

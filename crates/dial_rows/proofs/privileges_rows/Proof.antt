@@ -6,7 +6,7 @@ use native.Mathlib.Omega.{arith}
 use Rattle.layout.specs.Layout.{recordSize, trailerSize, privileges, recordAt, countOf, startOf}
 use Rattle.layout.specs.Form.{table-within}
 use Rattle.table.specs.Parts.{segmentOf}
-use Rattle.rows.specs.Each.{each-few}
+use Rattle.lists.specs.Each.{each-few}
 use Rattle.rows.specs.Pour.{Poured, Pouring, pouring-step}
 use Rattle.table.specs.Table.{tableOf, read-in}
 use Rattle.dial_rows.specs.Dials.{privilegeAt}

@@ -5,7 +5,7 @@ use lib.ListN.{length}
 use native.Mathlib.Omega.{arith}
 use Rattle.layout.specs.Layout.{recordSize, trailerSize, segments, countOf, startOf}
 use Rattle.layout.specs.Form.{table-within}
-use Rattle.rows.specs.Each.{each-few}
+use Rattle.lists.specs.Each.{each-few}
 use Rattle.rows.specs.Pour.{Poured, Pouring, pouring-none, pouring-step, pouring-done}
 use Rattle.table.specs.Table.{tableOf, read-in}
 use Rattle.dial_rows.specs.Dials.{segmentAt, dataRows}

@@ -1,24 +1,24 @@
--- `dials::copy` meets its contract: a loop invariant, and a law for the first turn, each turn and the end.
+-- `bytes::copy` meets its contract: a loop invariant, and a law for the first turn, each turn and the end.
 use Prim.Native.Nat.{_-_}
 use native.Mathlib.Omega.{arith}
-use Rattle.dials.specs.Answer.{Copying, copy-none, copy-step, copy-done}
-use Rattle.dials.proofs.copy.Statement.{statement}
-use Rattle.dials.proofs.copy.Tie as tie
+use Rattle.bytes.specs.Laws.{Copying, copy-none, copy-step, copy-done}
+use Rattle.bytes.proofs.copy.Statement.{statement}
+use Rattle.bytes.proofs.copy.Tie as tie
 
 abbrev Inv-loop : tie.InvT-loop
-Inv-loop rows₀ own room k₀ rows k = Copying rows₀ own room rows k
+Inv-loop out₀ from room k₀ out k = Copying out₀ from room out k
 
 abbrev μ-loop : tie.MeasureT-loop
-μ-loop rows₀ own room k₀ rows k = room - k
+μ-loop out₀ from room k₀ out k = room - k
 
 loop-holds : tie.Need-loop-holds Inv-loop μ-loop
 loop-holds c = copy-none _ _ _
 
-shared-slice-read-rows : tie.Need-shared-slice-read-rows Inv-loop μ-loop
-shared-slice-read-rows c = omega (arith, c .before .loop-test .taken, c .before .before .before .pre .1)
+shared-slice-read-out : tie.Need-shared-slice-read-out Inv-loop μ-loop
+shared-slice-read-out c = omega (arith, c .before .loop-test .taken, c .before .before .before .pre .1)
 
-slice-write-rows : tie.Need-slice-write-rows Inv-loop μ-loop
-slice-write-rows c = omega (arith, c .before .loop-test .taken, c .before .before .before .pre .0, c .before .before .loop .inv .same)
+slice-write-out : tie.Need-slice-write-out Inv-loop μ-loop
+slice-write-out c = omega (arith, c .before .loop-test .taken, c .before .before .before .pre .0, c .before .before .loop .inv .same)
 
 add-k : tie.Need-add-k Inv-loop μ-loop
 add-k c = omega arith
@@ -42,8 +42,8 @@ copy-spec =
     Inv-loop
     μ-loop
     loop-holds
-    shared-slice-read-rows
-    slice-write-rows
+    shared-slice-read-out
+    slice-write-out
     add-k
     loop-less
     loop-again

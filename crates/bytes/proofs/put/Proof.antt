@@ -1,27 +1,27 @@
--- `rows::put` meets its contract: on each way to a return, the tests and what the calls ensure say which case of the definition holds.
+-- `bytes::put` meets its contract: on each way to a return, the tests and what the calls ensure say which case of the definition holds.
 use Prim.Native.Nat.{_-_}
 use native.Mathlib.Omega.{arith}
-use Rattle.rows.specs.Turns.{Putting, put-none, put-step, put-done}
-use Rattle.rows.proofs.put.Statement.{statement}
-use Rattle.rows.proofs.put.Tie as tie
+use Rattle.bytes.specs.Laws.{Putting, put-none, put-step, put-done}
+use Rattle.bytes.proofs.put.Statement.{statement}
+use Rattle.bytes.proofs.put.Tie as tie
 
 abbrev Inv-loop : tie.InvT-loop
-Inv-loop rows₀ at width x rest₀ k₀ rows rest k = Putting rows₀ at width x rows rest k
+Inv-loop out₀ at width x rest₀ k₀ out rest k = Putting out₀ at width x out rest k
 
 abbrev μ-loop : tie.MeasureT-loop
-μ-loop rows₀ at width x rest₀ k₀ rows rest k = width - k
+μ-loop out₀ at width x rest₀ k₀ out rest k = width - k
 
 loop-holds : tie.Need-loop-holds Inv-loop μ-loop
 loop-holds c = put-none _ _ _ _
 
-cast-rows : tie.Need-cast-rows Inv-loop μ-loop
-cast-rows c = omega arith
+cast-out : tie.Need-cast-out Inv-loop μ-loop
+cast-out c = omega arith
 
-add-rows : tie.Need-add-rows Inv-loop μ-loop
-add-rows c = omega arith
+add-out : tie.Need-add-out Inv-loop μ-loop
+add-out c = omega arith
 
-slice-write-rows : tie.Need-slice-write-rows Inv-loop μ-loop
-slice-write-rows c = omega arith
+slice-write-out : tie.Need-slice-write-out Inv-loop μ-loop
+slice-write-out c = omega arith
 
 add-k : tie.Need-add-k Inv-loop μ-loop
 add-k c = omega arith
@@ -45,9 +45,9 @@ put-spec =
     Inv-loop
     μ-loop
     loop-holds
-    cast-rows
-    add-rows
-    slice-write-rows
+    cast-out
+    add-out
+    slice-write-out
     add-k
     loop-less
     loop-again

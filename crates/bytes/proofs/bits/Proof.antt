@@ -1,4 +1,4 @@
--- `rows::bits` meets its contract: what differs from itself is a NaN.
+-- `bytes::bits` meets its contract: what differs from itself is a NaN.
 use mathlib.Core.Bool.{Bool, true, false, not}
 use mathlib.Core.Path.{_≡_, sym, _∙_}
 use lib.Dec.{T}
@@ -6,8 +6,8 @@ use lib.Ieee.{Float, nan, inf, fin, binary64, ne, isNan, toBits}
 use lib.Ieee.Compare.{differs-from-itself, nan-differs}
 use mathlib.Core.Bool.{false≢true, true≢false}
 use borrow.Author.Needs.{needs}
-use Rattle.rows.proofs.bits.Statement.{statement}
-use Rattle.rows.proofs.bits.Tie as tie
+use Rattle.bytes.proofs.bits.Statement.{statement}
+use Rattle.bytes.proofs.bits.Tie as tie
 
 is-t : (b : Bool) → b ≡ true → T b
 is-t true e = tt

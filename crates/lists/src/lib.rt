@@ -1,0 +1,1 @@
+// Lists that are gathered index by index, as definitions with their laws. It uses nothing.
