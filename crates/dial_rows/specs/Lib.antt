@@ -2,3 +2,4 @@ pub mod Apart
 pub mod Class
 pub mod Dials
 pub mod Laws
+pub mod Next

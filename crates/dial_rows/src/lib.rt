@@ -1,6 +1,6 @@
 // The rows of a dial list, segment by segment, privilege by privilege, automatic segment by automatic segment, and then the 60 m
-// channels: each offered to lent bytes, and counted. It uses codes, profile, air, layout, table, find, automatic_97_221 and
-// rows; its laws use bit_order.
+// channels: a search that gives one row after the other. It uses codes, profile, air, layout, table, find, automatic_97_221 and
+// rows; its laws use lists and bit_order.
 use air::DialRange;
 use codes::ControlMode;
 use codes::Direction;
@@ -13,6 +13,8 @@ use layout::Record;
 use profile::DataLimit;
 use profile::Range;
 use profile::Shared;
+use rows::SafeDial;
+use table::ChannelBand;
 use table::Channels;
 use table::Privilege;
 use table::Segment;
@@ -24,10 +26,12 @@ ghost use Rattle.layout.specs.Form.{Whole};
 ghost use Rattle.table.specs.Table.{tableOf};
 ghost use Rattle.layout.specs.Layout.{recordAt};
 ghost use Rattle.table.specs.Parts.{segmentOf};
-ghost use Rattle.rows.specs.Pour.{Poured};
 ghost use Rattle.dial_rows.specs.Apart.{belowBits, apartOf};
-ghost use Rattle.dial_rows.specs.Class.{Ahead, Past, Kept, pairRows};
-ghost use Rattle.dial_rows.specs.Dials.{requestOf, pieceRows, onShared, automaticRows, cutRows, mayUse, privilegeRows, tooWide, excludedBand, privilegesRows, segmentRows, dataRows, centreSpan, channelFound, isUpper, channelsOpen, channelRow, channelRows, openRows};
+ghost use Rattle.dial_rows.specs.Class.{Ahead, Past};
+ghost use Rattle.dial_rows.specs.Dials.{requestOf, pieceRows, cut, mayUse, tooWide, excludedBand};
+ghost use Rattle.dial_rows.specs.Dials.{centreSpan, channelFound, isUpper, channelsOpen, channelRow};
+ghost use Rattle.dial_rows.specs.Next.{rowsIn, cutNext, segmentNext, next, cuts, automaticIn, cutAt, cutsFrom, privilegeFrom, pairFrom};
+ghost use Rattle.dial_rows.specs.Next.{spotOf, placeOf, behindOf, privilegesFrom, segmentFrom, channelCount, channelsFrom, rowsFrom, Known};
 
 // The bits of 2^40.
 const LIMIT_BITS: u64 = 0x4270_0000_0000_0000;
@@ -75,80 +79,120 @@ pub fn request_of(
     }
 }
 
-// Offers the row of a piece. Each function from here on takes the count of rows so far and returns it with its own.
-fn piece_row(rows: &mut [u8], n: usize, q: Request, band: u8, rule: u16, piece: Range) -> usize
-    requires { ⌜ n < 0x1_0000_0000 ⌝ }
-    ensures { λ r. ⌜ Poured (now (rows .entry)) n (now (rows .exit)) r (pieceRows q band rule piece) ⌝ }
+// A row, or none.
+pub enum Arise {
+    Row(SafeDial),
+    NoRow,
+}
+
+// The first row of a piece from one of its cuts on, and the cut after it; or no row.
+pub enum CutRow {
+    Row(SafeDial, usize),
+    NoRow,
+}
+
+// A place among the rows of a segment: the privilege, and the cut of the piece that the two share.
+pub struct Spot {
+    pub privilege: usize,
+    pub cut: usize,
+}
+
+pub enum SegmentRow {
+    Row(SafeDial, Spot),
+    NoRow,
+}
+
+// A place among all rows: a segment and a place in it, and behind the last segment a channel.
+pub struct Place {
+    pub segment: usize,
+    pub spot: Spot,
+    pub channel: usize,
+}
+
+// The next row and the place behind it, or the end of the list.
+pub enum NextRow {
+    Row(SafeDial, Place),
+    End,
+}
+
+// What a search for rows knows beforehand: where the tables begin and how much of each is gone through.
+pub struct Search {
+    pub segments: usize,
+    pub segment_count: usize,
+    // Privileges: those of the class lie from first to end.
+    pub privileges: usize,
+    pub first: usize,
+    pub end: usize,
+    // Whether a piece is cut to the automatic segments, and into how many cuts; else it is whole, one cut.
+    pub automatic: usize,
+    pub cut: bool,
+    pub cuts: usize,
+    pub channels: usize,
+    pub channel_count: usize,
+}
+
+// The row of a piece.
+fn piece_row(q: Request, band: u8, rule: u16, piece: Range) -> Arise
+    ensures { λ a. ⌜ rowsIn a ≡ pieceRows q band rule piece ⌝ }
 {
     let sideband = q.sideband;
     let audio = q.audio;
     match air::dial_range(piece, sideband, audio, q.margin_hz) {
-        DialRange::Dials(ends) => {
-            rows::offer(
-                rows,
-                n,
-                band,
-                rule,
-                piece.low_hz,
-                piece.high_hz,
-                ends.low_hz,
-                ends.high_hz,
-            );
-            n + 1
+        DialRange::Dials(ends) => Arise::Row(SafeDial {
+            band,
+            segment: piece,
+            rule,
+            dial_low_hz: ends.low_hz,
+            dial_high_hz: ends.high_hz,
+        }),
+        DialRange::NoDial => Arise::NoRow,
+    }
+}
+
+// The row of a piece inside the automatic segment that begins at a place.
+fn automatic_row(image: &[u8], q: Request, band: u8, piece: Range, at: usize) -> Arise
+    requires { ⌜ at + 32 ≤ length (now image) ⌝ }
+    ensures { λ a. ⌜ rowsIn a ≡ automaticIn q band piece (recordAt (now (image .entry)) at) ⌝ }
+{
+    match profile::intersect(piece, table::span_of(layout::record_at(image, at))) {
+        Shared::Stretch(inside) => piece_row(q, band, q.segments_rule, inside),
+        Shared::Nothing => Arise::NoRow,
+    }
+}
+
+// The row of a cut of a piece.
+fn cut_row(image: &[u8], q: Request, w: Search, s: Segment, piece: Range, k: usize) -> Arise
+    requires { ⌜ (Known (now image) q w) × (k < w .cuts) ⌝ }
+    ensures { λ a. ⌜ rowsIn a ≡ cutAt (tableOf (now (image .entry))) q s piece k ⌝ }
+{
+    if w.cut {
+        return automatic_row(
+            image,
+            q,
+            s.band,
+            piece,
+            w.automatic + layout::RECORD_SIZE * k,
+        );
+    }
+    piece_row(q, s.band, s.rule, piece)
+}
+
+// The first row of a piece from a cut on.
+fn cuts_from(image: &[u8], q: Request, w: Search, s: Segment, piece: Range, from: usize) -> CutRow
+    requires { ⌜ Known (now image) q w ⌝ }
+    ensures { λ a. ⌜ cutsFrom (tableOf (now (image .entry))) q s piece from ≡ cutNext (cutsFrom (tableOf (now (image .entry))) q s piece) a ⌝ }
+{
+    let mut k = from;
+    while k < w.cuts {
+        match cut_row(image, q, w, s, piece, k) {
+            Arise::Row(x) => {
+                return CutRow::Row(x, k + 1);
+            }
+            Arise::NoRow => {}
         }
-        DialRange::NoDial => n,
+        k += 1;
     }
-}
-
-// The same of the stretch that two ranges share.
-fn shared_row(rows: &mut [u8], n: usize, q: Request, band: u8, rule: u16, shared: Shared) -> usize
-    requires { ⌜ n < 0x1_0000_0000 ⌝ }
-    ensures { λ r. ⌜ Poured (now (rows .entry)) n (now (rows .exit)) r (onShared shared (pieceRows q band rule)) ⌝ }
-{
-    match shared {
-        Shared::Stretch(piece) => piece_row(rows, n, q, band, rule, piece),
-        Shared::Nothing => n,
-    }
-}
-
-// The rows of a piece inside each automatic segment.
-fn automatic_rows(
-    image: &[u8],
-    rows: &mut [u8],
-    n: usize,
-    q: Request,
-    band: u8,
-    piece: Range,
-) -> usize
-    requires { ⌜ (Whole (now image)) × (n + 256 ≤ 0x1_0000_0000) ⌝ }
-    ensures { λ r. ⌜ Poured (now (rows .entry)) n (now (rows .exit)) r (automaticRows (tableOf (now (image .entry))) q band piece) ⌝ }
-{
-    let start = layout::start_of(image, layout::AUTOMATIC);
-    let count = layout::count_of(image, layout::AUTOMATIC) as usize;
-    let rule = q.segments_rule;
-    let mut held = n;
-    let mut i: usize = 0;
-    while i < count {
-        let r = layout::record_at(image, start + layout::RECORD_SIZE * i);
-        let shared = profile::intersect(piece, table::span_of(r));
-        held = shared_row(rows, held, q, band, rule, shared);
-        i += 1;
-    }
-    held
-}
-
-// The rows of the piece that a segment and a privilege share.
-fn cut_rows(image: &[u8], rows: &mut [u8], n: usize, q: Request, s: Segment, piece: Range) -> usize
-    requires { ⌜ (Whole (now image)) × (n + 256 ≤ 0x1_0000_0000) ⌝ }
-    ensures { λ r. ⌜ Poured (now (rows .entry)) n (now (rows .exit)) r (cutRows (tableOf (now (image .entry))) q s piece) ⌝ }
-{
-    if q.automatic {
-        if q.elsewhere_ok {
-            return piece_row(rows, n, q, s.band, s.rule, piece);
-        }
-        return automatic_rows(image, rows, n, q, s.band, piece);
-    }
-    piece_row(rows, n, q, s.band, s.rule, piece)
+    CutRow::NoRow
 }
 
 // Whether a privilege is the class's and allows data.
@@ -159,28 +203,28 @@ fn may_use(q: Request, p: Privilege) -> bool
     p.class == q.class && profile::allows(emissions, EmissionKind::Data)
 }
 
-// The rows of a segment under one privilege.
-fn privilege_rows(
+// The first row of a segment under one privilege, from a cut on.
+fn privilege_from(
     image: &[u8],
-    rows: &mut [u8],
-    n: usize,
     q: Request,
+    w: Search,
     s: Segment,
     p: Privilege,
-) -> usize
-    requires { ⌜ (Whole (now image)) × (n + 256 ≤ 0x1_0000_0000) ⌝ }
-    ensures { λ r. ⌜ Poured (now (rows .entry)) n (now (rows .exit)) r (privilegeRows (tableOf (now (image .entry))) q s p) ⌝ }
+    from: usize,
+) -> CutRow
+    requires { ⌜ Known (now image) q w ⌝ }
+    ensures { λ a. ⌜ privilegeFrom (tableOf (now (image .entry))) q s p from ≡ cutNext (privilegeFrom (tableOf (now (image .entry))) q s p) a ⌝ }
 {
     let a = s.range;
     let b = p.range;
     match profile::intersect(a, b) {
         Shared::Stretch(piece) => {
             if may_use(q, p) {
-                return cut_rows(image, rows, n, q, s, piece);
+                return cuts_from(image, q, w, s, piece, from);
             }
-            n
+            CutRow::NoRow
         }
-        Shared::Nothing => n,
+        Shared::Nothing => CutRow::NoRow,
     }
 }
 
@@ -254,102 +298,70 @@ fn apart(image: &[u8], at: usize, r: Record) -> bool
     below(r.high, layout::low_at(image, at)) || below(layout::high_at(image, at), r.low)
 }
 
-// The rows of a segment under the privilege that begins at a place: its class and its range's bits are asked before the rest is read.
-fn record_rows(image: &[u8], rows: &mut [u8], n: usize, q: Request, r: Record, at: usize) -> usize
-    requires { ⌜ (Whole (now image)) × (at + 32 ≤ length (now image)) × (n + 256 ≤ 0x1_0000_0000) ⌝ }
-    ensures { λ x. ⌜ Poured (now (rows .entry)) n (now (rows .exit)) x (pairRows (now (image .entry)) q r at) ⌝ }
+// The same of a segment's record and the privilege that begins at a place: its class and its range's bits are asked before the rest is
+// read.
+fn pair_from(image: &[u8], q: Request, w: Search, r: Record, at: usize, from: usize) -> CutRow
+    requires { ⌜ (at + 32 ≤ length (now image)) × (Known (now image) q w) ⌝ }
+    ensures { λ a. ⌜ pairFrom (now (image .entry)) q r at from ≡ cutNext (pairFrom (now (image .entry)) q r at) a ⌝ }
 {
     if layout::class_at(image, at) == q.class {
         if apart(image, at, r) {
-            return n;
+            return CutRow::NoRow;
         }
         let s = table::segment_of(r);
         let p = table::privilege_of(layout::record_at(image, at));
-        return privilege_rows(image, rows, n, q, s, p);
+        return privilege_from(image, q, w, s, p, from);
     }
-    n
+    CutRow::NoRow
 }
 
-// The rows of a segment under every privilege, in a table from start on in which those of the class lie from first to end.
-fn privileges_rows(
-    image: &[u8],
-    rows: &mut [u8],
-    n: usize,
-    q: Request,
-    r: Record,
-    start: usize,
-    first: usize,
-    end: usize,
-) -> usize
-    requires { ⌜ (Whole (now image)) × (n + 65536 ≤ 0x1_0000_0000) × (Kept (now image) (q .class) start first end) ⌝ }
-    ensures { λ x. ⌜ Poured (now (rows .entry)) n (now (rows .exit)) x (privilegesRows (tableOf (now (image .entry))) q (segmentOf r)) ⌝ }
+// The place behind a row at cut k − 1 of a privilege.
+fn behind(w: Search, privilege: usize, k: usize) -> Spot
+    requires { ⌜ privilege < 0x1_0000 ⌝ }
+    ensures { λ x. ⌜ x ≡ behindOf (w .cuts) privilege k ⌝ }
 {
-    let mut held = n;
-    let mut i = first;
-    while i < end {
-        held = record_rows(image, rows, held, q, r, start + layout::RECORD_SIZE * i);
-        i += 1;
+    if k < w.cuts {
+        return Spot { privilege, cut: k };
     }
-    held
+    Spot {
+        privilege: privilege + 1,
+        cut: 0,
+    }
 }
 
-// The rows of a segment: none where the signal is too wide or kept out.
-fn segment_rows(
-    image: &[u8],
-    rows: &mut [u8],
-    n: usize,
-    q: Request,
-    r: Record,
-    start: usize,
-    first: usize,
-    end: usize,
-) -> usize
-    requires { ⌜ (Whole (now image)) × (n + 65536 ≤ 0x1_0000_0000) × (Kept (now image) (q .class) start first end) ⌝ }
-    ensures { λ x. ⌜ Poured (now (rows .entry)) n (now (rows .exit)) x (segmentRows (tableOf (now (image .entry))) q (segmentOf r)) ⌝ }
+// The first row of a segment's record under the privileges from a place on.
+fn privileges_from(image: &[u8], q: Request, w: Search, r: Record, spot: Spot) -> SegmentRow
+    requires { ⌜ Known (now image) q w ⌝ }
+    ensures { λ a. ⌜ privilegesFrom (tableOf (now (image .entry))) q (segmentOf r) spot ≡ segmentNext (privilegesFrom (tableOf (now (image .entry))) q (segmentOf r)) a ⌝ }
+{
+    let mut i = spot.privilege;
+    let mut from = spot.cut;
+    while i < w.end {
+        match pair_from(image, q, w, r, w.privileges + layout::RECORD_SIZE * i, from) {
+            CutRow::Row(x, k) => {
+                return SegmentRow::Row(x, behind(w, i, k));
+            }
+            CutRow::NoRow => {}
+        }
+        i += 1;
+        from = 0;
+    }
+    SegmentRow::NoRow
+}
+
+// The first row of a segment's record from a place on: none where the signal is too wide or kept out.
+fn segment_from(image: &[u8], q: Request, w: Search, r: Record, spot: Spot) -> SegmentRow
+    requires { ⌜ Known (now image) q w ⌝ }
+    ensures { λ a. ⌜ segmentFrom (tableOf (now (image .entry))) q (segmentOf r) spot ≡ segmentNext (segmentFrom (tableOf (now (image .entry))) q (segmentOf r)) a ⌝ }
 {
     let s = table::segment_of(r);
     if too_wide(q, s) {
-        return n;
+        return SegmentRow::NoRow;
     }
     if excluded(image, q, s) {
-        return n;
+        return SegmentRow::NoRow;
     }
-    privileges_rows(image, rows, n, q, r, start, first, end)
-}
-
-// The rows of every data segment, with the same three numbers.
-fn segments_rows(
-    image: &[u8],
-    rows: &mut [u8],
-    q: Request,
-    privileges: usize,
-    first: usize,
-    end: usize,
-) -> usize
-    requires { ⌜ (Whole (now image)) × (Kept (now image) (q .class) privileges first end) ⌝ }
-    ensures { λ r. ⌜ Poured (now (rows .entry)) 0 (now (rows .exit)) r (dataRows (tableOf (now (image .entry))) q) ⌝ }
-{
-    let start = layout::start_of(image, layout::SEGMENTS);
-    let count = layout::count_of(image, layout::SEGMENTS) as usize;
-    let mut held: usize = 0;
-    let mut i: usize = 0;
-    while i < count {
-        let r = layout::record_at(image, start + layout::RECORD_SIZE * i);
-        held = segment_rows(image, rows, held, q, r, privileges, first, end);
-        i += 1;
-    }
-    held
-}
-
-// The rows of every data segment.
-pub fn data_rows(image: &[u8], rows: &mut [u8], q: Request) -> usize
-    requires { ⌜ Whole (now image) ⌝ }
-    ensures { λ r. ⌜ Poured (now (rows .entry)) 0 (now (rows .exit)) r (dataRows (tableOf (now (image .entry))) q) ⌝ }
-{
-    let start = layout::start_of(image, layout::PRIVILEGES);
-    let first = class_first(image, q.class);
-    let end = class_end(image, q.class);
-    segments_rows(image, rows, q, start, first, end)
+    privileges_from(image, q, w, r, spot)
 }
 
 fn is_upper(sideband: Sideband) -> bool
@@ -417,10 +429,28 @@ fn channel_found(image: &[u8], q: Request) -> bool
     found
 }
 
-// Offers the row of a channel.
-fn channel_row(rows: &mut [u8], n: usize, q: Request, c: Channels, center_hz: f64) -> usize
-    requires { ⌜ n < 0x1_0000_0000 ⌝ }
-    ensures { λ r. ⌜ Poured (now (rows .entry)) n (now (rows .exit)) r (channelRow q c «center_hz») ⌝ }
+// How many channels are gone through: all, where channels are asked for and one is found.
+fn channel_count(image: &[u8], q: Request, band: ChannelBand) -> usize
+    requires { ⌜ Whole (now image) ⌝ }
+    ensures { λ r. ⌜ r ≡ channelCount (tableOf (now (image .entry))) q band ⌝ }
+{
+    match band {
+        ChannelBand::On(_) => {
+            if channels_open(q) {
+                if channel_found(image, q) {
+                    return layout::count_of(image, layout::CHANNELS) as usize;
+                }
+                return 0;
+            }
+            0
+        }
+        ChannelBand::NoChannels => 0,
+    }
+}
+
+// The row of a channel.
+fn channel_row(q: Request, c: Channels, center_hz: f64) -> Arise
+    ensures { λ a. ⌜ rowsIn a ≡ channelRow q c «center_hz» ⌝ }
 {
     let sideband = q.sideband;
     let audio = q.audio;
@@ -428,48 +458,151 @@ fn channel_row(rows: &mut [u8], n: usize, q: Request, c: Channels, center_hz: f6
     let range = profile::channel_range(c.width_hz, center_hz);
     let guarded = air::guarded(q.margin_hz, air::rf_range(dial, sideband, audio));
     if range.holds(guarded) {
-        rows::offer(
-            rows,
-            n,
-            c.band,
-            c.rule,
-            range.low_hz,
-            range.high_hz,
-            dial,
-            dial,
-        );
-        return n + 1;
+        return Arise::Row(SafeDial {
+            band: c.band,
+            segment: range,
+            rule: c.rule,
+            dial_low_hz: dial,
+            dial_high_hz: dial,
+        });
     }
-    n
+    Arise::NoRow
 }
 
-// The rows of every channel.
-fn channel_rows(image: &[u8], rows: &mut [u8], n: usize, q: Request, c: Channels) -> usize
-    requires { ⌜ (Whole (now image)) × (n + 256 ≤ 0x1_0000_0000) ⌝ }
-    ensures { λ r. ⌜ Poured (now (rows .entry)) n (now (rows .exit)) r (channelRows (tableOf (now (image .entry))) q c) ⌝ }
+// The first row of the channels from one on, and the channel after it; or no row.
+fn channels_from(image: &[u8], q: Request, w: Search, c: Channels, from: usize) -> CutRow
+    requires { ⌜ Known (now image) q w ⌝ }
+    ensures { λ a. ⌜ channelsFrom (tableOf (now (image .entry))) q c (w .«channel_count») from ≡ cutNext (channelsFrom (tableOf (now (image .entry))) q c (w .«channel_count»)) a ⌝ }
 {
-    let start = layout::start_of(image, layout::CHANNELS);
-    let count = layout::count_of(image, layout::CHANNELS) as usize;
-    let mut held = n;
-    let mut i: usize = 0;
-    while i < count {
-        let r = layout::record_at(image, start + layout::RECORD_SIZE * i);
-        held = channel_row(rows, held, q, c, table::centre_of(r));
+    let mut i = from;
+    while i < w.channel_count {
+        let r = layout::record_at(image, w.channels + layout::RECORD_SIZE * i);
+        match channel_row(q, c, table::centre_of(r)) {
+            Arise::Row(x) => {
+                return CutRow::Row(x, i + 1);
+            }
+            Arise::NoRow => {}
+        }
         i += 1;
     }
-    held
+    CutRow::NoRow
 }
 
-// The same where channels are asked for and one is found.
-pub fn open_rows(image: &[u8], rows: &mut [u8], n: usize, q: Request, c: Channels) -> usize
-    requires { ⌜ (Whole (now image)) × (n + 256 ≤ 0x1_0000_0000) ⌝ }
-    ensures { λ r. ⌜ Poured (now (rows .entry)) n (now (rows .exit)) r (openRows (tableOf (now (image .entry))) q c) ⌝ }
+// 97.221: whether a piece is cut to the automatic segments.
+fn is_cut(q: Request) -> bool
+    ensures { λ x. ⌜ x ≡ cut q ⌝ }
 {
-    if channels_open(q) {
-        if channel_found(image, q) {
-            return channel_rows(image, rows, n, q, c);
-        }
-        return n;
+    q.automatic && !q.elsewhere_ok
+}
+
+// How many cuts a piece has.
+fn cut_count(image: &[u8], q: Request) -> usize
+    requires { ⌜ Whole (now image) ⌝ }
+    ensures { λ n. ⌜ n ≡ cuts (tableOf (now (image .entry))) q ⌝ }
+{
+    if is_cut(q) {
+        return layout::count_of(image, layout::AUTOMATIC) as usize;
     }
-    n
+    1
+}
+
+// What a search for rows knows beforehand.
+pub fn search_of(image: &[u8], q: Request, band: ChannelBand) -> Search
+    requires { ⌜ Whole (now image) ⌝ }
+    ensures { λ w. ⌜ (Known (now (image .entry)) q w) × (w .«channel_count» ≡ channelCount (tableOf (now (image .entry))) q band) ⌝ }
+{
+    let cut = is_cut(q);
+    Search {
+        segments: layout::start_of(image, layout::SEGMENTS),
+        segment_count: layout::count_of(image, layout::SEGMENTS) as usize,
+        privileges: layout::start_of(image, layout::PRIVILEGES),
+        first: class_first(image, q.class),
+        end: class_end(image, q.class),
+        automatic: layout::start_of(image, layout::AUTOMATIC),
+        cut,
+        cuts: cut_count(image, q),
+        channels: layout::start_of(image, layout::CHANNELS),
+        channel_count: channel_count(image, q, band),
+    }
+}
+
+// The place before the first row.
+pub fn first_place(w: Search) -> Place
+    ensures { λ x. ⌜ x ≡ placeOf 0 (spotOf (w .first) 0) 0 ⌝ }
+{
+    let spot = Spot {
+        privilege: w.first,
+        cut: 0,
+    };
+    Place {
+        segment: 0,
+        spot,
+        channel: 0,
+    }
+}
+
+// The next row behind the last segment: of a channel.
+fn band_next(image: &[u8], q: Request, w: Search, band: ChannelBand, place: Place) -> NextRow
+    requires { ⌜ (Known (now image) q w) × (w .«channel_count» ≡ channelCount (tableOf (now image)) q band) × (w .«segment_count» ≤ place .segment) ⌝ }
+    ensures { λ a. ⌜ rowsFrom (tableOf (now (image .entry))) q band place ≡ next (rowsFrom (tableOf (now (image .entry))) q band) a ⌝ }
+{
+    match band {
+        ChannelBand::On(c) => match channels_from(image, q, w, c, place.channel) {
+            CutRow::Row(x, k) => {
+                let spot = place.spot;
+                NextRow::Row(
+                    x,
+                    Place {
+                        segment: place.segment,
+                        spot,
+                        channel: k,
+                    },
+                )
+            }
+            CutRow::NoRow => NextRow::End,
+        },
+        ChannelBand::NoChannels => NextRow::End,
+    }
+}
+
+// The first row from a place on, and the place behind it.
+pub fn next(image: &[u8], q: Request, w: Search, band: ChannelBand, place: Place) -> NextRow
+    requires { ⌜ (Known (now image) q w) × (w .«channel_count» ≡ channelCount (tableOf (now image)) q band) ⌝ }
+    ensures { λ a. ⌜ rowsFrom (tableOf (now (image .entry))) q band place ≡ next (rowsFrom (tableOf (now (image .entry))) q band) a ⌝ }
+{
+    let channel = place.channel;
+    let mut i = place.segment;
+    let mut spot = place.spot;
+    while i < w.segment_count {
+        let r = layout::record_at(image, w.segments + layout::RECORD_SIZE * i);
+        match segment_from(image, q, w, r, spot) {
+            SegmentRow::Row(x, behind) => {
+                return NextRow::Row(
+                    x,
+                    Place {
+                        segment: i,
+                        spot: behind,
+                        channel,
+                    },
+                );
+            }
+            SegmentRow::NoRow => {}
+        }
+        i += 1;
+        spot = Spot {
+            privilege: w.first,
+            cut: 0,
+        };
+    }
+    band_next(
+        image,
+        q,
+        w,
+        band,
+        Place {
+            segment: i,
+            spot,
+            channel,
+        },
+    )
 }

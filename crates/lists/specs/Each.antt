@@ -1,8 +1,7 @@
 -- What is gathered index by index: what 0 gives, then what 1 gives, and so on.
-use Prim.Native.Nat.{ℕ, zero, suc, _+_, _*_, _≤_}
+use Prim.Native.Nat.{ℕ, zero, suc, _+_, _*_, _<_, _≤_}
 use mathlib.Core.List.{List, [], _∷_, _++_}
-use mathlib.Core.Path.{_≡_, refl}
-use native.Mathlib.Numerals.{add-one}
+use mathlib.Core.Path.{_≡_, refl, ap, _∙_}
 use native.Mathlib.Nat.{suc-mul}
 use native.Mathlib.Omega.{arith}
 use lib.ListN.{length, length-append}
@@ -17,6 +16,13 @@ Every P [] = Unit
 Every P (x ∷ xs) = P x × Every P xs
 
 -- ---- laws
+
+-- Indices that give nothing.
+pub each-bare : {A : Type 0} (n : ℕ) (f : ℕ → List A) → ((i : ℕ) → i < n → f i ≡ []) → each n f ≡ []
+unfolding each
+each-bare zero f h = refl
+each-bare (suc n) f h =
+    ap (λ (xs : List _). xs ++ f n) (each-bare n f (λ i a. h i (omega arith))) ∙ h n (omega arith)
 
 -- At most k each: at most n * k together.
 pub each-few : {A : Type 0} (n k : ℕ) (f : ℕ → List A) → ((i : ℕ) → length (f i) ≤ k) → length (each n f) ≤ n * k

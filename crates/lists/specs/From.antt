@@ -47,6 +47,10 @@ from-step n i f h =
 pub from-skip : {A : Type 0} (n i : ℕ) (f : ℕ → List A) → i < n → f i ≡ [] → from n f i ≡ from n f (i + 1)
 from-skip n i f h e = from-step n i f h ∙ ap (λ (xs : List _). xs ++ from n f (i + 1)) e
 
+-- an index that gives one member
+pub from-row : {A : Type 0} (n i : ℕ) (f : ℕ → List A) (x : A) → i < n → f i ≡ x ∷ [] → from n f i ≡ x ∷ from n f (i + 1)
+from-row n i f x h e = from-step n i f h ∙ ap (λ (xs : List _). xs ++ from n f (i + 1)) e
+
 pub from-end : {A : Type 0} (n i : ℕ) (f : ℕ → List A) → n ≤ i → from n f i ≡ []
 unfolding stretch
 from-end n i f h = let e : n - i ≡ 0 = omega arith in ap (λ (k : ℕ). stretch k i f) e

@@ -1,13 +1,12 @@
 -- `dial_rows::channel_row` meets its contract: on each way to a return, the tests and what the calls ensure say which case of the definition holds.
-use Rattle.dial_rows.specs.Dials.{channelRow, channelHolds}
 use mathlib.Core.Path.{_≡_}
-use Rattle.rows.specs.Pour.{poured-none, poured-one}
+use Rattle.dial_rows.specs.Dials.{channelRow, channelHolds}
 use borrow.Author.Needs.{needs}
 use Rattle.dial_rows.proofs.channel_row.Statement.{statement}
 use Rattle.dial_rows.proofs.channel_row.Tie as tie
 
 -- whether the channel holds the guarded signal
-asked : (c : tie.After-holds) → c .holds .result ≡ channelHolds (c .before .before .before .before .before .before .before .args .q) (c .before .before .before .before .before .before .before .args .c) (c .before .before .before .before .before .before .before .args .center-hz)
+asked : (c : tie.After-holds) → c .holds .result ≡ channelHolds (c .before .before .before .before .before .before .args .q) (c .before .before .before .before .before .before .args .c) (c .before .before .before .before .before .before .args .center-hz)
 asked c =
     rw (c .holds .ensures)
     (rw (c .before .guarded .ensures)
@@ -26,27 +25,18 @@ guarded-requires c κs = search needs
 holds-requires : tie.Need-holds-requires
 holds-requires c κs = search needs
 
-offer-requires : tie.Need-offer-requires
-offer-requires c κs = search needs
-
-add-result : tie.Need-add-result
-add-result c = search needs
-
-same-length : tie.Need-same-length
-same-length c = search needs
-
 returns : tie.Need-returns
 unfolding channelRow
-returns c = rw (← asked (c .before .before .before .before .before))
-    (rw (c .before .before .before .before .if1 .taken)
-    (rw (← c .before .before .before .before .before .before .before .before .channel-range .ensures)
-    (poured-one _ _ _ _ (c .before .before .offer .ensures))))
+returns c =
+    rw (← asked (c .before))
+    (rw (c .if1 .taken)
+    (rw (← c .before .before .before .before .channel-range .ensures)))
 
 returns-2 : tie.Need-returns-2
 unfolding channelRow
-returns-2 c = rw (← asked (c .before))
-    (rw (c .if1 .left)
-    (poured-none _ _))
+returns-2 c =
+    rw (← asked (c .before))
+    (rw (c .if1 .left))
 
 pub channel-row-spec : {M : Type 1} → statement M
 channel-row-spec =
@@ -56,8 +46,5 @@ channel-row-spec =
     rf-range-requires
     guarded-requires
     holds-requires
-    offer-requires
-    add-result
-    same-length
     returns
     returns-2)

@@ -1,5 +1,4 @@
 -- `dial_rows::piece_row` meets its contract: on each way to a return, the tests and what the calls ensure say which case of the definition holds.
-use Rattle.rows.specs.Pour.{poured-none, poured-one}
 use Rattle.dial_rows.specs.Dials.{pieceRows}
 use borrow.Author.Needs.{needs}
 use Rattle.dial_rows.proofs.piece_row.Statement.{statement}
@@ -11,41 +10,21 @@ dial-range-requires c κs = search needs
 enum-known-ends : tie.Need-enum-known-ends
 enum-known-ends c = search needs
 
-offer-requires : tie.Need-offer-requires
-offer-requires c κs = search needs
-
-add-result : tie.Need-add-result
-add-result c = search needs
-
 enum-told : tie.Need-enum-told
 enum-told c = search needs
-
-same-length : tie.Need-same-length
-same-length c = search needs
 
 returns : tie.Need-returns
 unfolding pieceRows
 returns c =
-    rw (← c .before .before .before .before .before .before .before .dial-range .ensures)
-    (rw (c .before .before .before .before .before .ends .given .1)
-    (poured-one _ _ _ _ (c .before .before .offer .ensures)))
+    rw (← c .before .before .before .dial-range .ensures)
+    (rw (c .before .ends .given .1))
 
 returns-2 : tie.Need-returns-2
 unfolding pieceRows
 returns-2 c =
     rw (← c .before .before .dial-range .ensures)
-    (rw (c .enum-told .given .1)
-    (poured-none _ _))
+    (rw (c .enum-told .given .1))
 
 pub piece-row-spec : {M : Type 1} → statement M
 piece-row-spec =
-    tie.close
-    (tie.spec
-    dial-range-requires
-    enum-known-ends
-    offer-requires
-    add-result
-    enum-told
-    same-length
-    returns
-    returns-2)
+    tie.close (tie.spec dial-range-requires enum-known-ends enum-told returns returns-2)
