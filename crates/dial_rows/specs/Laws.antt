@@ -1,11 +1,11 @@
 -- How many rows there can be, that their dials are figures of a double and the lower one a number, and the request and its flags by cases.
-use Prim.Native.Nat.{ℕ, _*_, _≤_}
+use Prim.Native.Nat.{ℕ, _+_, _*_, _≤_}
 use mathlib.Core.Bool.{Bool, true, false, not, cond, _&&_, _||_}
 use mathlib.Core.List.{List, [], _∷_, _++_}
 use mathlib.Core.Path.{_≡_, refl, ap}
 use native.Mathlib.Omega.{arith}
 use lib.Dec.{T}
-use lib.ListN.{length}
+use lib.ListN.{length, length-append}
 use lib.Ieee.{Float, nan, inf, fin, binary64, fits, isNan, add, sub, le}
 use lib.Ieee.Fits.{add-fits, sub-fits}
 use Rattle.codes.specs.Code.{classCode}
@@ -55,7 +55,7 @@ dial-few : (band rule : ℕ) (piece : Range) (d : DialRange) → length (dialRow
 dial-few band rule piece (Dials ends) = omega arith
 dial-few band rule piece NoDial = omega arith
 
-pub piece-few : (q : Request) (band rule : ℕ) (piece : Range) → length (pieceRows q band rule piece) ≤ 1
+piece-few : (q : Request) (band rule : ℕ) (piece : Range) → length (pieceRows q band rule piece) ≤ 1
 unfolding pieceRows
 piece-few q band rule piece = dial-few band rule piece (dialRangeOf piece (q .sideband) (q .audio) (q .«margin_hz»))
 
@@ -63,10 +63,10 @@ shared-few : (s : Shared) (f : Range → List SafeDial) (k : ℕ) → ((r : Rang
 shared-few (Stretch piece) f k h = h piece
 shared-few Nothing f k h = omega arith
 
-pub automatic-at-few : (l : List ℕ) (q : Request) (band : ℕ) (piece : Range) (a : ℕ) → length (automaticAt (tableOf l) q band piece a) ≤ 1
+automatic-at-few : (l : List ℕ) (q : Request) (band : ℕ) (piece : Range) (a : ℕ) → length (automaticAt (tableOf l) q band piece a) ≤ 1
 automatic-at-few l q band piece a = shared-few (intersectOf piece (spanOf (recordIn l automatic a))) (pieceRows q band (q .«segments_rule»)) 1 (piece-few q band (q .«segments_rule»))
 
-pub automatic-few : (l : List ℕ) → Whole l → (q : Request) (band : ℕ) (piece : Range) → length (automaticRows (tableOf l) q band piece) ≤ 256
+automatic-few : (l : List ℕ) → Whole l → (q : Request) (band : ℕ) (piece : Range) → length (automaticRows (tableOf l) q band piece) ≤ 256
 unfolding automaticRows
 automatic-few l w q band piece =
     let a : length (each (countOf l automatic) (automaticAt (tableOf l) q band piece)) ≤ countOf l automatic * 1 =
@@ -74,13 +74,13 @@ automatic-few l w q band piece =
     let b : countOf l automatic ≤ 256 = w .few automatic (omega arith) in
     omega arith
 
-pub cut-few : (l : List ℕ) → Whole l → (q : Request) (s : Segment) (piece : Range) → length (cutRows (tableOf l) q s piece) ≤ 256
+cut-few : (l : List ℕ) → Whole l → (q : Request) (s : Segment) (piece : Range) → length (cutRows (tableOf l) q s piece) ≤ 256
 unfolding cutRows
 cut-few l w q s piece =
     let a : length (pieceRows q (s .band) (s .rule) piece) ≤ 1 = piece-few q (s .band) (s .rule) piece in
     cond-few (cut q) (automaticRows (tableOf l) q (s .band) piece) (pieceRows q (s .band) (s .rule) piece) 256 (automatic-few l w q (s .band) piece) (omega arith)
 
-pub privilege-few : (l : List ℕ) → Whole l → (q : Request) (s : Segment) (p : Privilege) → length (privilegeRows (tableOf l) q s p) ≤ 256
+privilege-few : (l : List ℕ) → Whole l → (q : Request) (s : Segment) (p : Privilege) → length (privilegeRows (tableOf l) q s p) ≤ 256
 unfolding privilegeRows
 privilege-few l w q s p =
     cond-few (mayUse q p) (onShared (intersectOf (s .range) (p .range)) (cutRows (tableOf l) q s)) [] 256
@@ -95,12 +95,12 @@ privileges-few l w q s =
     let b : countOf l privileges ≤ 256 = w .few privileges (omega arith) in
     omega arith
 
-pub segment-few : (l : List ℕ) → Whole l → (q : Request) (s : Segment) → length (segmentRows (tableOf l) q s) ≤ 65536
+segment-few : (l : List ℕ) → Whole l → (q : Request) (s : Segment) → length (segmentRows (tableOf l) q s) ≤ 65536
 unfolding segmentRows
 segment-few l w q s =
     cond-few (tooWide q s || excludedBand (tableOf l) q s) [] (privilegesRows (tableOf l) q s) 65536 (omega arith) (privileges-few l w q s)
 
-pub data-few : (l : List ℕ) → Whole l → (q : Request) → length (dataRows (tableOf l) q) ≤ 16777216
+data-few : (l : List ℕ) → Whole l → (q : Request) → length (dataRows (tableOf l) q) ≤ 16777216
 unfolding dataRows
 data-few l w q =
     let a : length (each (countOf l segments) (segmentAt (tableOf l) q)) ≤ countOf l segments * 65536 =
@@ -108,9 +108,25 @@ data-few l w q =
     let b : countOf l segments ≤ 256 = w .few segments (omega arith) in
     omega arith
 
-pub channel-few : (q : Request) (c : Channels) (centre : Float) → length (channelRow q c centre) ≤ 1
+channel-few : (q : Request) (c : Channels) (centre : Float) → length (channelRow q c centre) ≤ 1
 unfolding channelRow
 channel-few q c centre = cond-one (channelHolds q c centre) (channelSafe c centre)
+
+band-few : (l : List ℕ) → Whole l → (q : Request) (b : ChannelBand) → length (bandRows (tableOf l) q b) ≤ 256
+unfolding openRows channelRows
+band-few l w q (On c) =
+    let a : length (each (countOf l channels) (channelAt (tableOf l) q c)) ≤ countOf l channels * 1 =
+    each-few (countOf l channels) 1 (channelAt (tableOf l) q c) (λ i. channel-few q c (centreOf (recordIn l channels i))) in
+    let b : countOf l channels ≤ 256 = w .few channels (omega arith) in
+    cond-few (channelsOpen q && channelFound (tableOf l) q) (channelRows (tableOf l) q c) [] 256 (omega arith) (omega arith)
+band-few l w q NoChannels = omega arith
+
+pub gathered-few :
+    (l : List ℕ) → Whole l → (q : Request) (b : ChannelBand) → length (dataRows (tableOf l) q ++ bandRows (tableOf l) q b) ≤ 16777472
+gathered-few l w q b =
+    let s : length (dataRows (tableOf l) q ++ bandRows (tableOf l) q b) ≡ length (dataRows (tableOf l) q) + length (bandRows (tableOf l) q b) =
+    length-append (dataRows (tableOf l) q) (bandRows (tableOf l) q b) in
+    omega (arith, data-few l w q, band-few l w q b)
 
 -- ---- both dials of every row are figures that a double holds, and the lower one is a number
 

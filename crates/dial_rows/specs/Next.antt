@@ -140,6 +140,10 @@ pub record Known (l : List ℕ) (q : Request) (w : Search) : Type 0 where
   pub channels-from : w .channels ≡ startOf l channels
   pub channel-most : w .«channel_count» ≤ countOf l channels
 
+-- and how many channels are gone through
+abbrev pub Searched : List ℕ → Request → ChannelBand → Search → Type 0
+Searched l q b w = Known l q w × (w .«channel_count» ≡ channelCount (tableOf l) q b)
+
 -- ---- rows that are the same from every place on
 
 pub cut-same :

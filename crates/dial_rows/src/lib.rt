@@ -31,7 +31,7 @@ ghost use Rattle.dial_rows.specs.Class.{Ahead, Past};
 ghost use Rattle.dial_rows.specs.Dials.{requestOf, pieceRows, cut, mayUse, tooWide, excludedBand};
 ghost use Rattle.dial_rows.specs.Dials.{centreSpan, channelFound, isUpper, channelsOpen, channelRow};
 ghost use Rattle.dial_rows.specs.Next.{rowsIn, cutNext, segmentNext, next, cuts, automaticIn, cutAt, cutsFrom, privilegeFrom, pairFrom};
-ghost use Rattle.dial_rows.specs.Next.{spotOf, placeOf, behindOf, privilegesFrom, segmentFrom, channelCount, channelsFrom, rowsFrom, Known};
+ghost use Rattle.dial_rows.specs.Next.{spotOf, placeOf, behindOf, privilegesFrom, segmentFrom, channelCount, channelsFrom, rowsFrom, Known, Searched};
 
 // The bits of 2^40.
 const LIMIT_BITS: u64 = 0x4270_0000_0000_0000;
@@ -509,7 +509,7 @@ fn cut_count(image: &[u8], q: Request) -> usize
 // What a search for rows knows beforehand.
 pub fn search_of(image: &[u8], q: Request, band: ChannelBand) -> Search
     requires { ⌜ Whole (now image) ⌝ }
-    ensures { λ w. ⌜ (Known (now (image .entry)) q w) × (w .«channel_count» ≡ channelCount (tableOf (now (image .entry))) q band) ⌝ }
+    ensures { λ w. ⌜ Searched (now (image .entry)) q band w ⌝ }
 {
     let cut = is_cut(q);
     Search {
@@ -543,7 +543,7 @@ pub fn first_place(w: Search) -> Place
 
 // The next row behind the last segment: of a channel.
 fn band_next(image: &[u8], q: Request, w: Search, band: ChannelBand, place: Place) -> NextRow
-    requires { ⌜ (Known (now image) q w) × (w .«channel_count» ≡ channelCount (tableOf (now image)) q band) × (w .«segment_count» ≤ place .segment) ⌝ }
+    requires { ⌜ (Searched (now image) q band w) × (w .«segment_count» ≤ place .segment) ⌝ }
     ensures { λ a. ⌜ rowsFrom (tableOf (now (image .entry))) q band place ≡ next (rowsFrom (tableOf (now (image .entry))) q band) a ⌝ }
 {
     match band {
@@ -567,7 +567,7 @@ fn band_next(image: &[u8], q: Request, w: Search, band: ChannelBand, place: Plac
 
 // The first row from a place on, and the place behind it.
 pub fn next(image: &[u8], q: Request, w: Search, band: ChannelBand, place: Place) -> NextRow
-    requires { ⌜ (Known (now image) q w) × (w .«channel_count» ≡ channelCount (tableOf (now image)) q band) ⌝ }
+    requires { ⌜ Searched (now image) q band w ⌝ }
     ensures { λ a. ⌜ rowsFrom (tableOf (now (image .entry))) q band place ≡ next (rowsFrom (tableOf (now (image .entry))) q band) a ⌝ }
 {
     let channel = place.channel;

@@ -5,7 +5,9 @@ use codes::Control;
 use codes::Direction;
 use codes::License;
 use codes::SidebandSet;
+use dial_rows::NextRow;
 use dial_rows::Request;
+use dial_rows::Search;
 use occupancy::Edges;
 use station::Situation;
 use station::StationRecord;
@@ -14,12 +16,12 @@ ghost use mathlib.Core.List.{_++_};
 ghost use mathlib.Core.Path.{_≡_};
 ghost use Prim.Native.Nat.{_*_, _≤_};
 ghost use lib.ListN.{length, drop};
-ghost use lib.Seq.{paste};
 ghost use Rattle.rows.specs.Rows.{sorted, encodeAll};
 ghost use Rattle.layout.specs.Form.{Whole};
 ghost use Rattle.table.specs.Table.{tableOf};
 ghost use Rattle.rows.specs.Pour.{Poured};
 ghost use Rattle.dial_rows.specs.Dials.{dataRows, bandRows};
+ghost use Rattle.dial_rows.specs.Next.{Searched};
 ghost use Rattle.dials.specs.List.{situationRows, Begun, Filled, SafeDials};
 
 // A list of so many rows, or the number of the refusal.
@@ -32,40 +34,54 @@ pub enum DialList {
 const OWN: usize = 2304;
 
 // Every row, one after the other, into bytes that may have room for them or not; and their count.
-fn gather(image: &[u8], rows: &mut [u8], q: Request, band: ChannelBand) -> usize
-    requires { ⌜ Whole (now image) ⌝ }
-    ensures { λ r. ⌜ Poured (now (rows .entry)) 0 (now (rows .exit)) r (dataRows (tableOf (now (image .entry))) q ++ bandRows (tableOf (now (image .entry))) q band) ⌝ }
+fn gather(image: &[u8], rows: &mut [u8], q: Request, w: Search, band: ChannelBand) -> usize
+    requires { ⌜ Searched (now image) q band w ⌝ }
+    ensures { λ r. ⌜ Poured (now (rows .entry)) (now (rows .exit)) r (dataRows (tableOf (now (image .entry))) q ++ bandRows (tableOf (now (image .entry))) q band) ⌝ }
 {
-    let n = dial_rows::data_rows(image, rows, q);
-    match band {
-        ChannelBand::On(c) => dial_rows::open_rows(image, rows, n, q, c),
-        ChannelBand::NoChannels => n,
-    }
-}
-
-// The first bytes of one slice into another.
-fn copy(rows: &mut [u8], own: &[u8], room: usize)
-    requires { ⌜ (room ≤ length (now rows)) × (room ≤ length (now own)) ⌝ }
-    ensures { λ r. ⌜ now (rows .exit) ≡ paste (now (rows .entry)) 0 (now (own .entry)) room ⌝ }
-{
-    let mut k: usize = 0;
-    while k < room {
-        rows[k] = own[k];
-        k += 1;
+    let mut place = dial_rows::first_place(w);
+    let mut n: usize = 0;
+    loop {
+        match dial_rows::next(image, q, w, band, place) {
+            NextRow::Row(x, behind) => {
+                rows::offer(
+                    rows,
+                    n,
+                    x.band,
+                    x.rule,
+                    x.segment.low_hz,
+                    x.segment.high_hz,
+                    x.dial_low_hz,
+                    x.dial_high_hz,
+                );
+                place = behind;
+            }
+            NextRow::End => {
+                return n;
+            }
+        }
+        n += 1;
     }
 }
 
 // Writes the rows, which fit: from the bytes that they were counted on, where these had room for all, and else by one more pass.
-fn settle(image: &[u8], rows: &mut [u8], q: Request, band: ChannelBand, own: &[u8], count: usize)
-    requires { ⌜ (Whole (now image)) × (Begun (dataRows (tableOf (now image)) q ++ bandRows (tableOf (now image)) q band) (now own)) × (count ≡ length (dataRows (tableOf (now image)) q ++ bandRows (tableOf (now image)) q band)) × (count * 36 ≤ length (now rows)) ⌝ }
+fn settle(
+    image: &[u8],
+    rows: &mut [u8],
+    q: Request,
+    w: Search,
+    band: ChannelBand,
+    own: &[u8],
+    count: usize,
+)
+    requires { ⌜ (Searched (now image) q band w) × (Begun (dataRows (tableOf (now image)) q ++ bandRows (tableOf (now image)) q band) (now own)) × (count ≡ length (dataRows (tableOf (now image)) q ++ bandRows (tableOf (now image)) q band)) × (count * 36 ≤ length (now rows)) ⌝ }
     ensures { λ r. ⌜ now (rows .exit) ≡ encodeAll (sorted (dataRows (tableOf (now (image .entry))) q ++ bandRows (tableOf (now (image .entry))) q band)) ++ drop (count * 36) (now (rows .entry)) ⌝ }
 {
     let room = count * rows::ROW_SIZE;
     if room <= own.len() {
-        copy(rows, own, room);
+        bytes::copy(rows, own, room);
         return;
     }
-    gather(image, &mut rows[..room], q, band);
+    gather(image, &mut rows[..room], q, w, band);
 }
 
 // Counts the rows on bytes of their own, refuses a list longer than the whole rows lent, and writes the rows where they fit.
@@ -74,16 +90,17 @@ fn fill_from(
     rows: &mut [u8],
     own: &mut [u8],
     q: Request,
+    w: Search,
     band: ChannelBand,
 ) -> DialList
-    requires { ⌜ Whole (now image) ⌝ }
+    requires { ⌜ Searched (now image) q band w ⌝ }
     ensures { λ a. ⌜ Filled (dataRows (tableOf (now (image .entry))) q ++ bandRows (tableOf (now (image .entry))) q band) (now (rows .entry)) (now (rows .exit)) a ⌝ }
 {
-    let count = gather(image, own, q, band);
+    let count = gather(image, own, q, w, band);
     if rows.len() / rows::ROW_SIZE < count {
         return DialList::Refused(23);
     }
-    settle(image, rows, q, band, own, count);
+    settle(image, rows, q, w, band, own, count);
     DialList::Rows(count)
 }
 
@@ -92,8 +109,9 @@ fn fill(image: &[u8], rows: &mut [u8], q: Request, band: ChannelBand) -> DialLis
     requires { ⌜ Whole (now image) ⌝ }
     ensures { λ a. ⌜ Filled (dataRows (tableOf (now (image .entry))) q ++ bandRows (tableOf (now (image .entry))) q band) (now (rows .entry)) (now (rows .exit)) a ⌝ }
 {
+    let w = dial_rows::search_of(image, q, band);
     let mut own = [0u8; OWN];
-    fill_from(image, rows, &mut own, q, band)
+    fill_from(image, rows, &mut own, q, w, band)
 }
 
 // The list for a station and edges as they are read, under Rules.

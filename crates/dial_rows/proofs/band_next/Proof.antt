@@ -24,17 +24,17 @@ enum-told-2 c = search needs
 returns : tie.Need-returns
 returns c =
     let a = c .before .before .before .before .before .before .before .before .before .args in
-    band-turn _ _ _ (c .before .before .before .before .before .before .before .before .before .pre .0) (a .place) (c .before .before .before .before .before .before .before .before .before .pre .2) (a .band) _ (c .before .before .before .before .channels-from .result) (c .before .before .before .before .before .before .band .given .1) (c .before .before .before .before .before .before .before .before .before .pre .1) (c .before .before .before .before .channels-from .ensures)
+    band-turn _ _ _ (c .before .before .before .before .before .before .before .before .before .pre .0 .0) (a .place) (c .before .before .before .before .before .before .before .before .before .pre .1) (a .band) _ (c .before .before .before .before .channels-from .result) (c .before .before .before .before .before .before .band .given .1) (c .before .before .before .before .before .before .before .before .before .pre .0 .1) (c .before .before .before .before .channels-from .ensures)
     ∙ ap (λ x. next (rowsFrom (tableOf (a .image .now)) (a .q) (a .band)) (channelTurn (a .place) x)) (c .before .before .x .given .1)
 
 returns-2 : tie.Need-returns-2
 returns-2 c =
     let a = c .before .before .before .before .before .before .before .args in
-    band-turn _ _ _ (c .before .before .before .before .before .before .before .pre .0) (a .place) (c .before .before .before .before .before .before .before .pre .2) (a .band) _ (c .before .before .channels-from .result) (c .before .before .before .before .band .given .1) (c .before .before .before .before .before .before .before .pre .1) (c .before .before .channels-from .ensures)
+    band-turn _ _ _ (c .before .before .before .before .before .before .before .pre .0 .0) (a .place) (c .before .before .before .before .before .before .before .pre .1) (a .band) _ (c .before .before .channels-from .result) (c .before .before .before .before .band .given .1) (c .before .before .before .before .before .before .before .pre .0 .1) (c .before .before .channels-from .ensures)
     ∙ ap (λ x. next (rowsFrom (tableOf (a .image .now)) (a .q) (a .band)) (channelTurn (a .place) x)) (c .enum-told .given .1)
 
 returns-3 : tie.Need-returns-3
-returns-3 c = rw (c .enum-told2 .given .1) (no-band _ _ _ (c .before .before .before .pre .0) _ (c .before .before .before .pre .2))
+returns-3 c = rw (c .enum-told2 .given .1) (no-band _ _ _ (c .before .before .before .pre .0 .0) _ (c .before .before .before .pre .1))
 
 pub band-next-spec : {M : Type 1} → statement M
 band-next-spec =

@@ -61,7 +61,7 @@ loop-again c =
     ∙ ap (segmentTurn (a .w .first) (t .i) (segmentsFrom (tableOf (a .image .now)) (a .q))) (c .enum-told .given .1)
 
 band-next-requires : tie.Need-band-next-requires Inv-loop μ-loop
-band-next-requires c κs = (c .before .before .before .before .before .pre .0, c .before .before .before .before .before .pre .1, c .if1 .left)
+band-next-requires c κs = (c .before .before .before .before .before .pre, c .if1 .left)
 
 returns-2 : tie.Need-returns-2 Inv-loop μ-loop
 returns-2 c =

@@ -39,21 +39,22 @@ channel-count-requires : tie.Need-channel-count-requires
 channel-count-requires c κs = search needs
 
 returns : tie.Need-returns
-returns c =
-    (record {
-      whole = c .before .before .before .before .before .before .before .before .before .before .before .pre;
-      segments-from = c .before .before .before .before .before .before .before .before .start-of .ensures;
-      segment-count = c .before .before .before .before .before .before .before .count-of .ensures;
-      privileges-from = c .before .before .before .before .before .before .start-of2 .ensures;
-      ahead = c .before .before .before .before .before .class-first .ensures;
-      past = c .before .before .before .before .class-end .ensures;
-      automatic-from = c .before .before .before .start-of3 .ensures;
-      is-cut = c .before .before .before .before .before .before .before .before .before .is-cut .ensures;
-      cut-count = c .before .before .cut-count .ensures;
-      channels-from = c .before .start-of4 .ensures;
-      channel-most = count-most (tableOf (c .before .before .before .before .before .before .before .before .before .before .before .args .image .now)) (c .before .before .before .before .before .before .before .before .before .before .before .args .q) (c .before .before .before .before .before .before .before .before .before .before .before .args .band) _ (c .channel-count .ensures);
-    },
-    c .channel-count .ensures)
+returns c = (
+  record {
+    whole = c .before .before .before .before .before .before .before .before .before .before .before .pre;
+    segments-from = c .before .before .before .before .before .before .before .before .start-of .ensures;
+    segment-count = c .before .before .before .before .before .before .before .count-of .ensures;
+    privileges-from = c .before .before .before .before .before .before .start-of2 .ensures;
+    ahead = c .before .before .before .before .before .class-first .ensures;
+    past = c .before .before .before .before .class-end .ensures;
+    automatic-from = c .before .before .before .start-of3 .ensures;
+    is-cut = c .before .before .before .before .before .before .before .before .before .is-cut .ensures;
+    cut-count = c .before .before .cut-count .ensures;
+    channels-from = c .before .start-of4 .ensures;
+    channel-most = count-most (tableOf (c .before .before .before .before .before .before .before .before .before .before .before .args .image .now)) (c .before .before .before .before .before .before .before .before .before .before .before .args .q) (c .before .before .before .before .before .before .before .before .before .before .before .args .band) _ (c .channel-count .ensures);
+  },
+  c .channel-count .ensures,
+)
 
 pub search-of-spec : {M : Type 1} → statement M
 search-of-spec =
