@@ -8,9 +8,10 @@ use lib.Ieee.{Float, lt, le, ne}
 use Rattle.figures.specs.Figure.{minOf, maxOf}
 use Rattle.profile.specs.Range.{holdsOf, lengthy, commonOf}
 use Rattle.profile.specs.declared.Range.{Range}
+use Rattle.scan.specs.First.{and-true}
 use Rattle.eighths.specs.Grid.{Figure, Eighths}
 use Rattle.eighths.specs.Laws.{lt-eighths, le-eighths, eq-eighths}
-use Rattle.demand_3.specs.Tests.{and-left, and-right, and-both}
+use Rattle.demand_3.specs.Tests.{and-both}
 
 -- ---- a figure on the grid: above less below, in eighths
 
@@ -95,10 +96,10 @@ ends F = record { low = figure-grid (F .low); high = figure-grid (F .high) }
 
 -- both ends of a range that lies in another
 pub held-low : (r a : Range) → holdsOf r a ≡ true → le (r .«low_hz») (a .«low_hz») ≡ true
-held-low r a h = and-left (le (r .«low_hz») (a .«low_hz»)) (le (a .«high_hz») (r .«high_hz»)) h
+held-low r a h = and-true (le (r .«low_hz») (a .«low_hz»)) (le (a .«high_hz») (r .«high_hz»)) h .0
 
 pub held-high : (r a : Range) → holdsOf r a ≡ true → le (a .«high_hz») (r .«high_hz») ≡ true
-held-high r a h = and-right (le (r .«low_hz») (a .«low_hz»)) (le (a .«high_hz») (r .«high_hz»)) h
+held-high r a h = and-true (le (r .«low_hz») (a .«low_hz»)) (le (a .«high_hz») (r .«high_hz»)) h .1
 
 pub held : (r a : Range) → le (r .«low_hz») (a .«low_hz») ≡ true → le (a .«high_hz») (r .«high_hz») ≡ true → holdsOf r a ≡ true
 held r a h k = and-both (le (r .«low_hz») (a .«low_hz»)) (le (a .«high_hz») (r .«high_hz»)) h k

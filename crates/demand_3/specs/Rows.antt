@@ -1,9 +1,9 @@
 -- The whole list: no channel row counts, so a dial lies in a row that counts exactly if it lies in a data row; and both dials of every
 -- row that counts are on the grid.
 use Prim.Native.Nat.{ℕ, zero, suc, _<_}
-use mathlib.Core.Bool.{Bool, true, false, cond, _&&_, _||_, true≢false}
+use mathlib.Core.Bool.{Bool, true, false, cond, _&&_, _||_, true≢false, or-false}
 use mathlib.Core.List.{List, [], _∷_}
-use mathlib.Core.Path.{_≡_, refl, sym, _∙_}
+use mathlib.Core.Path.{_≡_, refl, sym, ap, _∙_}
 use native.Mathlib.Omega.{arith}
 use lib.Ieee.{Float, le}
 use borrow.Author.Tests.{eq-eqb}
@@ -89,10 +89,6 @@ band-rows table q = go (table .general)
             channel-rows (λ x. isOutside (g .flags) (g .«channel_band») (x .band) ≡ false) table q here (λ _. own-band (g .flags) (g .«channel_band») e)
         by false e = tt
 
-or-false : (a b : Bool) → b ≡ false → (a || b) ≡ a
-or-false true b e = refl
-or-false false b e = e
-
 -- A dial lies in a row that counts exactly if it lies in a data row that counts.
 pub rows-listed :
     (table : Table) (q : Request) (dial : Float)
@@ -100,17 +96,22 @@ pub rows-listed :
     ≡ anyRow (lies (table .general .flags) (table .general .«channel_band») dial) (dataRows table q)
 unfolding rowsOf
 rows-listed table q dial =
-    any-append (lies (table .general .flags) (table .general .«channel_band») dial) (dataRows table q) (bandRows table q (channelsOf (table .general)))
-    ∙ or-false _ _
-    (any-none (lies (table .general .flags) (table .general .«channel_band») dial) (bandRows table q (channelsOf (table .general)))
-    (every-map (OnChannels table) (λ x. lies (table .general .flags) (table .general .«channel_band») dial x ≡ false) (λ x e. rw e)
-    (bandRows table q (channelsOf (table .general))) (band-rows table q)))
+    let test = lies (table .general .flags) (table .general .«channel_band») dial in
+    let channels = bandRows table q (channelsOf (table .general)) in
+    any-append test (dataRows table q) channels
+    ∙ ap (λ (b : Bool). anyRow test (dataRows table q) || b)
+    (any-none test channels (every-map (OnChannels table) (λ x. test x ≡ false) (λ x e. rw e) channels (band-rows table q)))
+    ∙ or-false (anyRow test (dataRows table q))
 
 -- ---- both dials of a row, as sums of figures
 
 pub record RowEnds (x : SafeDial) : Type 0 where
   pub low : RowEnd (x .«dial_low_hz»)
   pub high : RowEnd (x .«dial_high_hz»)
+
+-- of a row outside the channel band
+abbrev pub Counted : ℕ → ℕ → SafeDial → Type 0
+Counted flags channel x = isOutside flags channel (x .band) ≡ true → RowEnds x
 
 module _ (table : Table) (q : Request) (S : Spans table) (M : Figure (q .«margin_hz»)) (A : Figures (q .audio)) where
   piece-ends : (band rule : ℕ) (piece : Range) → Figures piece → Every RowEnds (pieceRows q band rule piece)
@@ -161,11 +162,11 @@ module _ (table : Table) (q : Request) (S : Spans table) (M : Figure (q .«margi
       tt)))
 
   -- Every row that counts has both.
-  pub rows-ends : Every (λ x. isOutside (table .general .flags) (table .general .«channel_band») (x .band) ≡ true → RowEnds x) (rowsOf table q)
+  pub rows-ends : Every (Counted (table .general .flags) (table .general .«channel_band»)) (rowsOf table q)
   unfolding rowsOf
   rows-ends =
-      every-append (λ x. isOutside (table .general .flags) (table .general .«channel_band») (x .band) ≡ true → RowEnds x) (dataRows table q)
-      (bandRows table q (channelsOf (table .general)))
-      (every-map RowEnds (λ x. isOutside (table .general .flags) (table .general .«channel_band») (x .band) ≡ true → RowEnds x) (λ x r _. r) (dataRows table q) data-ends)
-      (every-map (OnChannels table) (λ x. isOutside (table .general .flags) (table .general .«channel_band») (x .band) ≡ true → RowEnds x)
-      (λ x e o. absurd (true≢false (sym o ∙ e))) (bandRows table q (channelsOf (table .general))) (band-rows table q))
+      let counted = Counted (table .general .flags) (table .general .«channel_band») in
+      every-append counted (dataRows table q) (bandRows table q (channelsOf (table .general)))
+      (every-map RowEnds counted (λ x r _. r) (dataRows table q) data-ends)
+      (every-map (OnChannels table) counted (λ x e o. absurd (true≢false (sym o ∙ e))) (bandRows table q (channelsOf (table .general)))
+      (band-rows table q))

@@ -14,7 +14,7 @@ use Rattle.codes.specs.declared.EmissionKind.the-variants.{Data}
 use Rattle.profile.specs.Range.{holdsOf, lengthy, shareOf}
 use Rattle.profile.specs.Limit.{allowsOf}
 use Rattle.profile.specs.declared.Range.{Range}
-use Rattle.scan.specs.First.{first, onFound, first-at, first-nothing, some-false}
+use Rattle.scan.specs.First.{first, onFound, first-at, first-nothing, some-false, and-true}
 use Rattle.scan.specs.declared.Found.{Found}
 use Rattle.scan.specs.declared.Found.the-variants.{At, Nothing}
 use Rattle.layout.specs.Layout.{tables, bands, segments, privileges, automatic, excluded}
@@ -32,7 +32,7 @@ use Rattle.part97.specs.declared.Privileged.{Privileged}
 use Rattle.part97.specs.declared.Privileged.the-variants.{Granted, Forbidden, Unheld}
 use Rattle.distance.specs.Distance.{isOutside}
 use Rattle.eighths.specs.Grid.{Figure}
-use Rattle.demand_3.specs.Tests.{and-left, and-right, and-both, or-left, or-right}
+use Rattle.demand_3.specs.Tests.{and-both, or-left, or-right}
 use Rattle.demand_3.specs.Order.{Ends, Figures, ends, holds-trans, share}
 use Rattle.demand_3.specs.Dial.{guarded-ends}
 use Rattle.demand_3.specs.Listed.{some-index, asks-holds, Spans, guardedAt, Lawful}
@@ -112,8 +112,8 @@ home table h i k =
     record {
       band = s .index;
       below = s .below;
-      number = eqb-true _ _ (and-left _ (holdsOf (spanOf (table .at bands (s .index))) (spanOf (table .at segments i))) (s .passes));
-      holds = and-right (eqb (table .at bands (s .index) .band) (table .at segments i .band)) _ (s .passes);
+      number = eqb-true _ _ (and-true _ (holdsOf (spanOf (table .at bands (s .index))) (spanOf (table .at segments i))) (s .passes) .0);
+      holds = and-true (eqb (table .at bands (s .index) .band) (table .at segments i .band)) _ (s .passes) .1;
     }
 
 -- the parts of a tidy table
@@ -212,16 +212,16 @@ module _
     granted-in p h u e =
         let own : eqb (table .at privileges p .class) mine ≡ true =
         subst (λ (n : ℕ). eqb (table .at privileges p .class) n ≡ true) (m .class)
-        (and-left (eqb (table .at privileges p .class) (q .class)) (allowsOf (privilegeAt table p .emissions) Data) u) in
-        let allows = and-right (eqb (table .at privileges p .class) (q .class)) (allowsOf (privilegeAt table p .emissions) Data) u in
+        (and-true (eqb (table .at privileges p .class) (q .class)) (allowsOf (privilegeAt table p .emissions) Data) u .0) in
+        let allows = and-true (eqb (table .at privileges p .class) (q .class)) (allowsOf (privilegeAt table p .emissions) Data) u .1 in
         let found : first (asked (c .guarded)) (table .count privileges) ≡ At p =
         subst (λ (g : Range). first (asked g) (table .count privileges) ≡ At p) (sym (m .guarded))
         (first-alone (asked signal) (table .count privileges) p h (asked-as p ∙ and-both _ _ own e)
         (λ k hk ek.
         let both = sym (asked-as k) ∙ ek in
         alone-class table S signal G long privileges (omega arith) (T .privileges-apart) k p mine hk h
-        (and-left (eqb (table .at privileges k .class) mine) (held privileges k) both) own
-        (and-right (eqb (table .at privileges k .class) mine) (held privileges k) both) e)) in
+        (and-true (eqb (table .at privileges k .class) mine) (held privileges k) both .0) own
+        (and-true (eqb (table .at privileges k .class) mine) (held privileges k) both .1) e)) in
         ap verdictOn found ∙ ap (λ (b : Bool). cond b Granted Forbidden) allows
 
     record Grant : Type 0 where
@@ -250,9 +250,9 @@ module _
               below = h .below;
               may-use = and-both _ _
                   (subst (λ (n : ℕ). eqb (table .at privileges p .class) n ≡ true) (sym (m .class))
-                  (and-left (eqb (table .at privileges p .class) mine) (held privileges p) both))
+                  (and-true (eqb (table .at privileges p .class) mine) (held privileges p) both .0))
                   (forbids (allowsOf (privilegeAt table p .emissions) Data) v);
-              holds = and-right (eqb (table .at privileges p .class) mine) (held privileges p) both;
+              holds = and-true (eqb (table .at privileges p .class) mine) (held privileges p) both .1;
             }
         go Nothing g v = absurd (unheld v)
 
@@ -275,8 +275,8 @@ module _
 
     met-of : (c .automatic ≡ true → automaticMet table c ≡ true) → cut q ≡ true → inside signal ≡ true
     met-of h e =
-        let a = and-left (q .automatic) (not (q .«elsewhere_ok»)) e in
-        let b = and-right (q .automatic) (not (q .«elsewhere_ok»)) e in
+        let a = and-true (q .automatic) (not (q .«elsewhere_ok»)) e .0 in
+        let b = and-true (q .automatic) (not (q .«elsewhere_ok»)) e .1 in
         subst (λ (g : Range). inside g ≡ true) (m .guarded)
         (or-other (inside (c .guarded)) (elsewhereAllows (elsewhereOf (table .general)) (c .width) (c .direction)) (h (sym (m .automatic) ∙ a))
         (sym (m .elsewhere) ∙ not-true (q .«elsewhere_ok») b))
