@@ -1,6 +1,5 @@
 -- The list and the verdict agree at every dial: a dial lies in a listed row outside the channel band exactly if the gate allows data there.
 -- It is said of a table, a station as it is read, an audio range and a dial, whatever these were read from.
-use Prim.Native.Nat.{ℕ}
 use mathlib.Core.Bool.{Bool, true, false, not, _&&_, true≢false, false≢true}
 use mathlib.Core.List.{List}
 use mathlib.Core.Path.{_≡_, refl, sym, ap, _∙_}
@@ -40,7 +39,8 @@ use Rattle.verdict.specs.Verdict.{caseOf, underRulesOf}
 use Rattle.verdict.specs.Laws.{ready-met, under-met}
 use Rattle.distance.specs.Distance.{isOutside}
 use Rattle.eighths.specs.Grid.{Figure}
-use Rattle.demand_3.specs.Words.{hasControl, hasLicense, hasSideband, hasDial, prerequisitesMet, positiveWidth, channelBandHolds, channelsHold, onChannelBand, tableMet, allows}
+use Rattle.demand_3.specs.Words.{hasControl, hasLicense, hasSideband, hasDial, prerequisitesMet, positiveWidth}
+use Rattle.demand_3.specs.Words.{channelBandHolds, channelsHold, onChannelBand, tableMet, allows}
 use Rattle.demand_3.specs.Tests.{and-both, same}
 use Rattle.demand_3.specs.Order.{Figures}
 use Rattle.demand_3.specs.Dial.{guarded-lengthy}

@@ -2,7 +2,7 @@
 -- sideband and a table with channels among them; and for tidy, eighths, the positive width and a dial off the channel band an input that
 -- meets every other premise and breaks the statement. All of it is computed from bytes.
 use Prim.Native.Nat.{ℕ}
-use mathlib.Core.Bool.{Bool, true, false, not, _&&_}
+use mathlib.Core.Bool.{Bool, true, false, not}
 use mathlib.Core.List.{List, [], _∷_, _++_}
 use mathlib.Core.Path.{_≡_, refl, ap}
 use borrow.Author.Tests.{not-true}
@@ -25,19 +25,25 @@ use Rattle.station.specs.declared.StationRecord.{StationRecord}
 use Rattle.entry.specs.Entry.{edgesValid, edgesRead}
 use Rattle.occupancy.specs.declared.Edges.{Edges}
 use Rattle.decision.specs.Decision.{noAdvice, finishOf, simpleOf, refusedOf}
-use Rattle.part97.specs.Part97.{draftOf, draftInside, draftAutomatic, privilegedOf, noted, notesUpTo, anyNote, planSays, wantsPlan, guidanceOf, adviceOf, adviceWarns, advised, automaticElsewhere, automaticData, considered, nearestUpTo, overshootOf, outsideSegments, insideSegment, judgeData, allowedOnSixty, sixtyChannel, sixtySegment, sixtyPlace, sixtyEmission, sixtyKind, sixty, judgeOnBand, judgeInBand, touching, judge}
+use Rattle.part97.specs.Part97.{draftOf, draftInside, draftAutomatic, privilegedOf, noted, notesUpTo, anyNote, planSays, wantsPlan}
+use Rattle.part97.specs.Part97.{guidanceOf, adviceOf, adviceWarns, advised, automaticElsewhere, automaticData, considered, nearestUpTo}
+use Rattle.part97.specs.Part97.{overshootOf, outsideSegments, insideSegment, judgeData, allowedOnSixty, sixtyChannel, sixtySegment}
+use Rattle.part97.specs.Part97.{sixtyPlace, sixtyEmission, sixtyKind, sixty, judgeOnBand, judgeInBand, touching, judge}
 use Rattle.verdict.specs.Verdict.{airOf, signalOf, caseOf, readyOf, underRulesOf, unruledOf, decideOf, evaluateOf}
 use Rattle.dials.specs.List.{situationRows, listRows, listTests, answerOf, bytesOf, SafeDials}
 use Rattle.dials.specs.declared.DialList.{DialList}
 use Rattle.dials.specs.declared.DialList.the-variants.{Rows}
-use Rattle.dial_rows.specs.Dials.{requestOf, pieceRows, automaticRows, cutRows, privilegeRows, privilegesRows, segmentRows, dataRows, channelFound, channelRow, channelRows, openRows, rowsOf}
+use Rattle.dial_rows.specs.Dials.{requestOf, pieceRows, automaticRows, cutRows, privilegeRows, privilegesRows}
+use Rattle.dial_rows.specs.Dials.{segmentRows, dataRows, channelFound, channelRow, channelRows, openRows, rowsOf}
 use Rattle.rows.specs.Rows.{insertRow, insertAll, little, figuresOf, encodeRow, encodeAll}
 use Rattle.rows.specs.Each.{each}
 use Rattle.eighths.specs.Grid.{inEighths}
 use Rattle.distance.specs.Distance.{isOutside, consideredAt, leastUpTo, distanceOf}
 use Rattle.distance.specs.declared.Distance.{Distance}
 use Rattle.distance.specs.declared.Distance.the-variants.{Hertz, NoneListed}
-use Rattle.demand_3.specs.Words.{recordInEighths, blockInEighths, tableInEighths, edgesInEighths, dialInEighths, stationInEighths, tuned, audioOf, accepted, rulesInForce, unrefused, prerequisitesMet, guardedWidth, positiveWidth, channelBandHolds, onChannelBand, tableMet, stationMet, signalMet, verdictAt, allows, distanceAt, Demand3}
+use Rattle.demand_3.specs.Words.{recordInEighths, blockInEighths, tableInEighths, edgesInEighths, dialInEighths, stationInEighths, tuned}
+use Rattle.demand_3.specs.Words.{audioOf, accepted, rulesInForce, unrefused, prerequisitesMet, guardedWidth, positiveWidth, channelBandHolds}
+use Rattle.demand_3.specs.Words.{onChannelBand, tableMet, stationMet, signalMet, verdictAt, allows, distanceAt, Demand3}
 use Rattle.demand_3.specs.Tests.{and-both}
 use Rattle.demand_3.specs.Grounds.{accepted-of}
 use Rattle.demand_3.specs.Theorem.{demand-3}

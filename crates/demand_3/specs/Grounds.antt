@@ -1,8 +1,7 @@
 -- From the premises to the grid: every figure that list and verdict add or compare is in eighths and at most 2^40 in size. Of the table
 -- the checks of what it holds see to the size, of station and signal the calls' refusals.
-use Prim.Native.Nat.{ℕ, _+_, _<_, _≤_, _^_}
+use Prim.Native.Nat.{ℕ, _+_, _≤_, _^_}
 use mathlib.Core.Bool.{Bool, true, false, not, cond, _&&_, _||_, false≢true}
-use mathlib.Core.List.{List}
 use mathlib.Core.Path.{_≡_, refl, sym, _∙_}
 use native.Mathlib.Omega.{arith}
 use lib.Dec.{eqb}
@@ -33,7 +32,8 @@ use Rattle.tidy.specs.Tidy.{tidyTable}
 use Rattle.eighths.specs.Grid.{Figure, Eighths, inEighths}
 use Rattle.eighths.specs.Laws.{eighths-of, zero-eighths, neg-eighths, eq-eighths, figure-of}
 use Rattle.exact.specs.Air.{width}
-use Rattle.demand_3.specs.Words.{recordInEighths, blockInEighths, offGridAt, offGridIn, tableInEighths, rangeInEighths, edgesInEighths, accepted, unrefused, tableMet}
+use Rattle.demand_3.specs.Words.{recordInEighths, blockInEighths, offGridAt, offGridIn, tableInEighths}
+use Rattle.demand_3.specs.Words.{rangeInEighths, edgesInEighths, accepted, unrefused, tableMet}
 use Rattle.demand_3.specs.Tests.{or-false-both}
 use Rattle.demand_3.specs.Order.{Grid, grid, le-true, le-of, lt-true, lt-false, le-by-lt, by-max, by-min, figure-grid, Figures}
 use Rattle.demand_3.specs.Listed.{Spans}

@@ -2,7 +2,6 @@
 -- excluded, the first data segment that holds it is not too narrow, the first privilege that holds it allows data, and 97.221 is met.
 use Prim.Native.Nat.{ℕ}
 use mathlib.Core.Bool.{Bool, true, false, not, cond, _&&_, _||_, true≢false, false≢true}
-use mathlib.Core.List.{List}
 use mathlib.Core.Path.{_≡_, refl, sym, ap, _∙_}
 use lib.Dec.{eqb}
 use borrow.Author.Tests.{eqb-true, eq-eqb}
@@ -31,11 +30,14 @@ use Rattle.decision.specs.Number.{§97-301, §97-305c, §97-307f9}
 use Rattle.decision.specs.Decision.{noAdvice, finishOf, simpleOf}
 use Rattle.decision.specs.declared.Verdict.the-variants.{Blocked}
 use Rattle.decision.specs.declared.Code.{Code}
-use Rattle.decision.specs.declared.Code.the-variants.{OutOfBand, AutomaticExcluded, TooWide, OutsideDataSegment, NoDataHere, Privilege, Permitted, AutomaticSegment, AutomaticBandwidth, AutomaticOriginate, AutomaticResponse}
+use Rattle.decision.specs.declared.Code.the-variants.{OutOfBand, AutomaticExcluded, TooWide, OutsideDataSegment, NoDataHere, Privilege}
+use Rattle.decision.specs.declared.Code.the-variants.{Permitted, AutomaticSegment, AutomaticBandwidth, AutomaticOriginate, AutomaticResponse}
 use Rattle.decision.specs.declared.BandNumber.the-variants.{Band}
 use Rattle.decision.specs.declared.Draft.{Draft}
 use Rattle.decision.specs.declared.Decision.{Decision}
-use Rattle.part97.specs.Part97.{bandAt, segmentAt, limitFor, tooWide, warned, adviceWarns, automaticRule, draftOf, draftInside, draftAutomatic, privilegedOf, underPrivilege, advised, advisedAutomatic, automaticElsewhere, automaticData, nearestUpTo, onNearest, outsideSegments, overshootOf, insideSegment, judgeData, offSixty, sixty, judgeOnBand, judgeInBand, touching, judge}
+use Rattle.part97.specs.Part97.{bandAt, segmentAt, limitFor, tooWide, warned, adviceWarns, automaticRule, draftOf, draftInside, draftAutomatic}
+use Rattle.part97.specs.Part97.{privilegedOf, underPrivilege, advised, advisedAutomatic, automaticElsewhere, automaticData, nearestUpTo, onNearest}
+use Rattle.part97.specs.Part97.{outsideSegments, overshootOf, insideSegment, judgeData, offSixty, sixty, judgeOnBand, judgeInBand, touching, judge}
 use Rattle.part97.specs.declared.Case.{Case}
 use Rattle.part97.specs.declared.Nearest.{Nearest}
 use Rattle.part97.specs.declared.Nearest.the-variants.{Near, NoneNear}
@@ -78,7 +80,10 @@ module _ (table : Table) (c : Case) where
     where
       go :
           (a b r : Bool)
-          → allows (cond a (simpleOf draft Blocked AutomaticBandwidth (e .rule)) (cond (b && not r) (simpleOf draft Blocked AutomaticOriginate (e .rule)) (advisedAutomatic table c draft AutomaticResponse (e .rule))))
+          → allows
+          (cond a (simpleOf draft Blocked AutomaticBandwidth (e .rule))
+          (cond (b && not r) (simpleOf draft Blocked AutomaticOriginate (e .rule))
+          (advisedAutomatic table c draft AutomaticResponse (e .rule))))
           ≡ (not a && (r || not b))
       go true b r = simple-blocked draft _ (e .rule)
       go false true true = advised-sent table c (c .advised) draft AutomaticResponse (e .rule)
@@ -216,7 +221,9 @@ module _ (table : Table) (c : Case) where
   -- ---- the band
 
   -- off the channel band
-  on-band : (g : General) (band : ℕ) → isOutside (g .flags) (g .«channel_band») band ≡ true → judgeOnBand table c band (channelsOf g) ≡ offSixty table c band (c .kind)
+  on-band :
+      (g : General) (band : ℕ) → isOutside (g .flags) (g .«channel_band») band ≡ true
+      → judgeOnBand table c band (channelsOf g) ≡ offSixty table c band (c .kind)
   unfolding judgeOnBand isOutside
   on-band g band o = go (bitOf (g .flags) 2) o
     where
@@ -231,7 +238,9 @@ module _ (table : Table) (c : Case) where
             sideband = channelSidebandOf g;
           }
 
-      other : (b : Bool) → eqb (g .«channel_band») band ≡ b → not (eqb band (g .«channel_band»)) ≡ true → cond b (sixty table c here) (offSixty table c band (c .kind)) ≡ offSixty table c band (c .kind)
+      other :
+          (b : Bool) → eqb (g .«channel_band») band ≡ b → not (eqb band (g .«channel_band»)) ≡ true
+          → cond b (sixty table c here) (offSixty table c band (c .kind)) ≡ offSixty table c band (c .kind)
       other true e n = absurd (false≢true (sym (ap not (eqb-sym (g .«channel_band») band e)) ∙ n))
       other false e n = refl
 
@@ -295,7 +304,9 @@ module _ (table : Table) (c : Case) where
     judgedAt f =
         onFound f (λ b. judgeInBand table c (bandAt table b .band)) (simpleOf (draftOf c (touching table c)) Blocked OutOfBand §97-301)
 
-    off-band : (b : ℕ) → firstIn table bands (Holds (c .guarded)) ≡ At b → excludedHere (bandAt table b .band) ≡ false → judgeInBand table c (bandAt table b .band) ≡ offSixty table c (bandAt table b .band) Data
+    off-band :
+        (b : ℕ) → firstIn table bands (Holds (c .guarded)) ≡ At b → excludedHere (bandAt table b .band) ≡ false
+        → judgeInBand table c (bandAt table b .band) ≡ offSixty table c (bandAt table b .band) Data
     off-band b f x =
         in-band (bandAt table b .band) x ∙ on-band (table .general) (bandAt table b .band) (off b f)
         ∙ ap (λ (k : EmissionKind). offSixty table c (bandAt table b .band) k) kind

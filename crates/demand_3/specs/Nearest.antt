@@ -207,15 +207,15 @@ module _ (dial : Float) (flags channel : ℕ) (rows : List ℕ) where
       least-of : (n : ℕ) → n ≤ count → LeastOf (leastUpTo dial flags channel rows n) n
       unfolding leastUpTo consideredAt
       least-of zero h = λ i k. absurd (omega arith)
-      least-of (suc n) h = go (countsAt n) refl (least-of n (omega arith))
+      least-of (suc n) h = go (countsAt n) refl (leastUpTo dial flags channel rows n) (least-of n (omega arith))
         where
           go :
-              (b : Bool) → countsAt n ≡ b → LeastOf (leastUpTo dial flags channel rows n) n
-              → LeastOf (cond b (nearerOf (leastUpTo dial flags channel rows n) (distanceTo dial (lowOf n) (highOf n))) (leastUpTo dial flags channel rows n)) (suc n)
-          go true c before =
+              (b : Bool) → countsAt n ≡ b → (best : Distance) → LeastOf best n
+              → LeastOf (cond b (nearerOf best (distanceTo dial (lowOf n) (highOf n))) best) (suc n)
+          go true c best before =
               let e = E n (omega arith) (and-true (isOutside flags channel (bandOf n)) (le (lowOf n) (highOf n)) c .0) in
-              counted n c (row-near dial (lowOf n) (highOf n) D (e .0) (e .1)) (leastUpTo dial flags channel rows n) before
-          go false c before = passed n c (leastUpTo dial flags channel rows n) before
+              counted n c (row-near dial (lowOf n) (highOf n) D (e .0) (e .1)) best before
+          go false c best before = passed n c best before
 
       -- Nought exactly if the dial lies in a row that counts.
       pub least-nought : nought (leastUpTo dial flags channel rows count) ≡ some liesAt count

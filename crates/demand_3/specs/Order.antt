@@ -3,7 +3,7 @@ use Prim.Native.Nat.{ℕ, _+_, _≤_, _<_}
 use mathlib.Core.Bool.{Bool, true, false, not, cond}
 use mathlib.Core.Path.{_≡_, refl, sym, ap, _∙_}
 use native.Mathlib.Omega.{arith}
-use borrow.Author.Tests.{leb-true, le-leb, ltb-true, ltb-false, lt-ltb, le-ltb, eq-eqb}
+use borrow.Author.Tests.{leb-true, le-leb, ltb-true, ltb-false, lt-ltb, eq-eqb}
 use lib.Ieee.{Float, lt, le, ne}
 use Rattle.figures.specs.Figure.{minOf, maxOf}
 use Rattle.profile.specs.Range.{holdsOf, lengthy, commonOf}
@@ -41,9 +41,6 @@ module _ {x y : Float} (X : Grid x) (Y : Grid y) where
 
   pub lt-false : lt x y ≡ false → Y .above + X .below ≤ X .above + Y .below
   lt-false h = ltb-false _ _ (sym (lt-eighths (X .eighths) (Y .eighths)) ∙ h)
-
-  pub not-lt-of : Y .above + X .below ≤ X .above + Y .below → lt x y ≡ false
-  not-lt-of h = lt-eighths (X .eighths) (Y .eighths) ∙ le-ltb _ _ h
 
 -- at most, or above
 pub le-by-lt : {x y : Float} → Grid x → Grid y → le x y ≡ not (lt y x)

@@ -25,7 +25,9 @@ use Rattle.eighths.specs.Grid.{Figure}
 use Rattle.rows.specs.Each.{each, Every, every-append, every-map}
 use Rattle.rows.specs.Order.{anyRow, any-append}
 use Rattle.rows.specs.declared.SafeDial.{SafeDial}
-use Rattle.dial_rows.specs.Dials.{dialRows, pieceRows, onShared, automaticAt, automaticRows, cut, cutRows, mayUse, privilegeRows, privilegeAt, privilegesRows, tooWide, excludedBand, segmentRows, segmentAt, dataRows, channelSafe, channelHolds, channelRow, channelAt, channelRows, channelsOpen, channelFound, openRows, bandRows, rowsOf}
+use Rattle.dial_rows.specs.Dials.{dialRows, pieceRows, onShared, automaticAt, automaticRows, cut, cutRows, mayUse, privilegeRows, privilegeAt}
+use Rattle.dial_rows.specs.Dials.{privilegesRows, tooWide, excludedBand, segmentRows, segmentAt, dataRows, channelSafe, channelHolds}
+use Rattle.dial_rows.specs.Dials.{channelRow, channelAt, channelRows, channelsOpen, channelFound, openRows, bandRows, rowsOf}
 use Rattle.dial_rows.specs.declared.Request.{Request}
 use Rattle.distance.specs.Distance.{isOutside}
 use Rattle.demand_3.specs.Order.{Figures, common-figures}
@@ -57,12 +59,16 @@ own-band : (flags channel : ℕ) → bitOf flags 2 ≡ true → isOutside flags 
 unfolding isOutside
 own-band flags channel e = rw e (rw (eq-eqb channel channel refl))
 
-channel-rows : (P : SafeDial → Type 0) (table : Table) (q : Request) (c : Channels) → ((centre : Float) → P (channelSafe c centre)) → Every P (openRows table q c)
+channel-rows :
+    (P : SafeDial → Type 0) (table : Table) (q : Request) (c : Channels) → ((centre : Float) → P (channelSafe c centre))
+    → Every P (openRows table q c)
 unfolding openRows channelRows channelRow
 channel-rows P table q c h =
     every-cond P (channelsOpen q && channelFound table q) (each (table .count channels) (channelAt table q c)) []
     (every-below P (table .count channels) (channelAt table q c)
-    (λ i _. every-cond P (channelHolds q c (centreOf (table .at channels i))) (channelSafe c (centreOf (table .at channels i)) ∷ []) [] (h (centreOf (table .at channels i)), tt) tt))
+    (λ i _.
+    let centre = centreOf (table .at channels i) in
+    every-cond P (channelHolds q c centre) (channelSafe c centre ∷ []) [] (h centre, tt) tt))
     tt
 
 pub band-rows : (table : Table) (q : Request) → Every (OnChannels table) (bandRows table q (channelsOf (table .general)))
@@ -116,9 +122,12 @@ Counted flags channel x = isOutside flags channel (x .band) ≡ true → RowEnds
 module _ (table : Table) (q : Request) (S : Spans table) (M : Figure (q .«margin_hz»)) (A : Figures (q .audio)) where
   piece-ends : (band rule : ℕ) (piece : Range) → Figures piece → Every RowEnds (pieceRows q band rule piece)
   unfolding pieceRows
-  piece-ends band rule piece P = go (le (dialEndsOf piece (q .sideband) (q .audio) (q .«margin_hz») .«low_hz») (dialEndsOf piece (q .sideband) (q .audio) (q .«margin_hz») .«high_hz»))
+  piece-ends band rule piece P = go (le (dials .«low_hz») (dials .«high_hz»))
     where
-      go : (b : Bool) → Every RowEnds (dialRows band rule piece (cond b (Dials (dialEndsOf piece (q .sideband) (q .audio) (q .«margin_hz»))) NoDial))
+      dials : Range
+      dials = dialEndsOf piece (q .sideband) (q .audio) (q .«margin_hz»)
+
+      go : (b : Bool) → Every RowEnds (dialRows band rule piece (cond b (Dials dials) NoDial))
       go true = (
         record {
           low = end-low piece (q .audio) (q .«margin_hz») P A M (q .sideband);

@@ -2,7 +2,6 @@
 -- the signal's. So what the verdict finds first is what the list has a row for.
 use Prim.Native.Nat.{ℕ, suc, _<_, _≤_}
 use mathlib.Core.Bool.{Bool, true, false, not, cond, _&&_, _||_, true≢false, false≢true}
-use mathlib.Core.List.{List}
 use mathlib.Core.Path.{_≡_, refl, sym, ap, subst, _∙_}
 use native.Mathlib.Omega.{arith}
 use native.Mathlib.Decide.{decLe}
@@ -183,7 +182,9 @@ module _
     -- and the first is a record that holds it
     first-held : (t i : ℕ) → firstIn table t (Holds (c .guarded)) ≡ At i → (i < table .count t) × (held t i ≡ true)
     first-held t i e =
-        let h = first-at (λ k. asks (Holds signal) (table .at t k)) (table .count t) i (subst (λ (g : Range). firstIn table t (Holds g) ≡ At i) (m .guarded) e) in
+        let h =
+        first-at (λ k. asks (Holds signal) (table .at t k)) (table .count t) i
+        (subst (λ (g : Range). firstIn table t (Holds g) ≡ At i) (m .guarded) e) in
         (h .below, sym (asks-holds signal (table .at t i)) ∙ h .passes)
 
     -- a segment's band holds what the segment holds
@@ -207,7 +208,9 @@ module _
     abbrev verdictOn : Found → Privileged
     verdictOn f = onFound f (λ p. cond (allowsOf (privilegeAt table p .emissions) Data) Granted Forbidden) Unheld
 
-    granted-in : (p : ℕ) → p < table .count privileges → mayUse q (privilegeOf (table .at privileges p)) ≡ true → held privileges p ≡ true → privilegedOf table c Data ≡ Granted
+    granted-in :
+        (p : ℕ) → p < table .count privileges → mayUse q (privilegeOf (table .at privileges p)) ≡ true → held privileges p ≡ true
+        → privilegedOf table c Data ≡ Granted
     unfolding privilegedOf
     granted-in p h u e =
         let own : eqb (table .at privileges p .class) mine ≡ true =
@@ -243,7 +246,9 @@ module _
 
         go : (f : Found) → first (asked (c .guarded)) (table .count privileges) ≡ f → verdictOn f ≡ Granted → Grant
         go (At p) g v =
-            let h = first-at (asked signal) (table .count privileges) p (subst (λ (r : Range). first (asked r) (table .count privileges) ≡ At p) (m .guarded) g) in
+            let h =
+            first-at (asked signal) (table .count privileges) p
+            (subst (λ (r : Range). first (asked r) (table .count privileges) ≡ At p) (m .guarded) g) in
             let both = sym (asked-as p) ∙ h .passes in
             record {
               privilege = p;
@@ -280,10 +285,6 @@ module _
         subst (λ (g : Range). inside g ≡ true) (m .guarded)
         (or-other (inside (c .guarded)) (elsewhereAllows (elsewhereOf (table .general)) (c .width) (c .direction)) (h (sym (m .automatic) ∙ a))
         (sym (m .elsewhere) ∙ not-true (q .«elsewhere_ok») b))
-      where
-        not-true : (b : Bool) → not b ≡ true → b ≡ false
-        not-true true e = absurd (false≢true e)
-        not-true false e = refl
 
     -- ---- both ways
 

@@ -53,7 +53,9 @@ use Rattle.verdict.specs.Verdict.{underRulesOf, decideOf, besideValid, edgeTest
 use Rattle.distance.specs.Distance.{leastUpTo, distanceOf}
 use Rattle.distance.specs.declared.Distance.the-variants.{NoneListed}
 use Rattle.eighths.specs.Grid.{Figure, inEighths}
-use Rattle.demand_3.specs.Words.{tableInEighths, edgesInEighths, stationInEighths, tuned, audioOf, accepted, rulesInForce, unrefused, prerequisitesMet, positiveWidth, onChannelBand, tableMet, stationMet, signalMet, verdictAt, sent, allows, distanceAt, nought, answers, NoneOutside, Premises, Demand3}
+use Rattle.demand_3.specs.Words.{tableInEighths, edgesInEighths, stationInEighths, tuned, audioOf, accepted, rulesInForce}
+use Rattle.demand_3.specs.Words.{unrefused, prerequisitesMet, positiveWidth, onChannelBand, tableMet, stationMet, signalMet}
+use Rattle.demand_3.specs.Words.{verdictAt, sent, allows, distanceAt, nought, answers, NoneOutside, Premises, Demand3}
 use Rattle.demand_3.specs.Tests.{and-both}
 use Rattle.demand_3.specs.Order.{Figures}
 use Rattle.demand_3.specs.Listed.{lies}
@@ -77,16 +79,16 @@ judged-of-refusal Accepted d e = refl
 judged-of-refusal (Refused n) d e = e
 
 -- a table that the tidy call finds tidy
+tidy-of : (c : Checked) (b : Bool) → tidinessOf c b ≡ Tidy → (c ≡ Accepted) × (b ≡ true)
+tidy-of Accepted true e = (refl, refl)
+tidy-of Accepted false e = absurd (let z : _≡_ {A = ℕ} 0 1 = cc in omega arith)
+tidy-of (Refused n) b e = absurd (let z : _≡_ {A = ℕ} 0 1 = cc in omega arith)
+
 pub tidy-met : (l : List ℕ) → tidyOf l ≡ Tidy → tableInEighths (tableOf l) ≡ true → tableMet (tableOf l) ≡ true
 unfolding tableMet checkOf
-tidy-met l t on = go (checkOf l) (tidyTable (tableOf l)) refl refl t
-  where
-    go : (c : Checked) (b : Bool) → checkOf l ≡ c → tidyTable (tableOf l) ≡ b → tidinessOf c b ≡ Tidy → tableMet (tableOf l) ≡ true
-    go Accepted true p q e =
-        and-both (unrefused (tableOf l)) (tidyTable (tableOf l) && tableInEighths (tableOf l))
-        (ap accepted (refusal-both (formTests l) (contentTests (tableOf l)) p .1)) (and-both (tidyTable (tableOf l)) (tableInEighths (tableOf l)) q on)
-    go Accepted false p q e = absurd (let z : _≡_ {A = ℕ} 0 1 = cc in omega arith)
-    go (Refused n) b p q e = absurd (let z : _≡_ {A = ℕ} 0 1 = cc in omega arith)
+tidy-met l t on =
+    let both = tidy-of (checkOf l) (tidyTable (tableOf l)) t in
+    and-both _ _ (ap accepted (refusal-both (formTests l) (contentTests (tableOf l)) (both .0) .1)) (and-both _ _ (both .1) on)
 
 blocked-of : (v : Verdict) → sent v ≡ false → v ≡ Blocked
 blocked-of Legal e = absurd (true≢false e)

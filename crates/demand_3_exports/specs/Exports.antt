@@ -1,15 +1,13 @@
 -- Demand 3 over the exports: of the flat answers that the library hands out, distance_hz is nought exactly when the verdict is not 2, and
 -- with none listed it is not nought. No mark is looked at.
 use Prim.Native.Nat.{ℕ}
-use mathlib.Core.Bool.{Bool, true, false, not, true≢false}
+use mathlib.Core.Bool.{true, false, not, true≢false}
 use mathlib.Core.List.{List}
 use mathlib.Core.Path.{_≡_, refl, sym, ap, _∙_}
 use native.Mathlib.Omega.{arith}
 use lib.Dec.{eqb}
 use lib.Ieee.{Float, eq, ofBits}
 use Rattle.figures.specs.Figure.{zeroHz, readHz}
-use Rattle.codes.specs.declared.Checked.the-variants.{Accepted}
-use Rattle.occupancy.specs.declared.Edges.{Edges}
 use Rattle.station.specs.Station.{situationOf}
 use Rattle.station.specs.declared.StationRecord.{StationRecord}
 use Rattle.layout.specs.Layout.{generalOf}
@@ -25,9 +23,10 @@ use Rattle.verdict.specs.Verdict.{evaluateOf}
 use Rattle.distance.specs.Distance.{distanceOf}
 use Rattle.distance.specs.declared.Distance.{Distance}
 use Rattle.distance.specs.declared.Distance.the-variants.{Hertz, NoneListed, Refused as NoAnswer}
-use Rattle.demand_3.specs.Words.{tableInEighths, dialInEighths, tuned, audioOf, onChannelBand, stationMet, signalMet, verdictAt, sent, allows, distanceAt, nought, answers, NoneOutside, Demand3}
+use Rattle.demand_3.specs.Words.{tableInEighths, dialInEighths, tuned, audioOf, onChannelBand, stationMet}
+use Rattle.demand_3.specs.Words.{signalMet, verdictAt, sent, allows, distanceAt, nought, answers, NoneOutside}
 use Rattle.demand_3.specs.Theorem.{tidy-met, demand-3}
-use Rattle.pamuklid.specs.Flat.{recordOf, edgesOf, flatOf, tidinessFlat, FlatDialed, infinityHz, distanceFlat}
+use Rattle.pamuklid.specs.Flat.{recordOf, edgesOf, flatOf, tidinessFlat, FlatDialed, distanceFlat}
 use Rattle.pamuklid.specs.Safe.{verdict-not-refused, list-not-refused}
 use Rattle.pamuklid.specs.declared.FlatStation.{FlatStation}
 use Rattle.pamuklid.specs.declared.FlatEdges.{FlatEdges}
