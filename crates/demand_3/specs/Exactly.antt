@@ -51,14 +51,14 @@ use Rattle.demand_3.specs.Same.{Match, lawful-judged, judged-lawful}
 use Rattle.demand_3.specs.Grounds.{spans, tidied-of, comparable}
 
 -- the rows for a station and an audio range, before they are sorted
-abbrev pub knownRows : Table → Situation → Direction → Range → Sideband → LicenseClass → ControlMode → List SafeDial
-knownRows table s direction audio sideband class control =
+abbrev pub rowsKnown : Table → Situation → Direction → Range → Sideband → LicenseClass → ControlMode → List SafeDial
+rowsKnown table s direction audio sideband class control =
     rowsOf table (requestOf (table .general) class sideband control direction (s .«margin_hz») audio)
 
 abbrev pub rowsFor : Table → Situation → Direction → Range → List SafeDial
 rowsFor table s direction audio =
     withSideband (s .sideband)
-    (λ sideband. withLicense (s .license) (λ class. withControl (s .control) (knownRows table s direction audio sideband class)))
+    (λ sideband. withLicense (s .license) (λ class. withControl (s .control) (rowsKnown table s direction audio sideband class)))
 
 -- a dial lies in one of them, outside the channel band
 abbrev pub listedAt : Table → Situation → Direction → Range → Float → Bool
@@ -71,7 +71,7 @@ allowedAt table s direction audio dial = allows (underRulesOf table s (Known dia
 
 -- ---- the prerequisites taken apart
 
-pub record Met (table : Table) (s : Situation) : Type 0 where
+pub record Prerequisites (table : Table) (s : Situation) : Type 0 where
   pub region : eqb (s .«itu_region») (table .general .region) ≡ true
   pub control : ControlMode
   pub class : LicenseClass
@@ -80,16 +80,16 @@ pub record Met (table : Table) (s : Situation) : Type 0 where
   pub has-license : s .license ≡ LicenseIs class
   pub has-sideband : s .sideband ≡ SidebandIs sideband
 
-pub met : (table : Table) (s : Situation) → prerequisitesMet table s ≡ true → Met table s
+pub prerequisites : (table : Table) (s : Situation) → prerequisitesMet table s ≡ true → Prerequisites table s
 unfolding prerequisitesMet
-met table s e = go (s .control) (s .license) (s .sideband) refl refl refl e
+prerequisites table s e = go (s .control) (s .license) (s .sideband) refl refl refl e
   where
     here : Bool
     here = eqb (s .«itu_region») (table .general .region)
 
     go :
         (x : Control) (y : License) (z : SidebandSet) → s .control ≡ x → s .license ≡ y → s .sideband ≡ z
-        → (here && (hasControl x && (hasLicense y && (hasSideband z && hasDial (s .dial))))) ≡ true → Met table s
+        → (here && (hasControl x && (hasLicense y && (hasSideband z && hasDial (s .dial))))) ≡ true → Prerequisites table s
     go (ControlIs k) (LicenseIs c) (SidebandIs b) p q r e =
         record {
           region = and-true here (hasDial (s .dial)) e .0;
@@ -106,7 +106,7 @@ met table s e = go (s .control) (s .license) (s .sideband) refl refl refl e
 
 -- ---- one list and one verdict
 
-module _ (table : Table) (s : Situation) (direction : Direction) (audio : Range) (dial : Float) (P : Met table s) where
+module _ (table : Table) (s : Situation) (direction : Direction) (audio : Range) (dial : Float) (P : Prerequisites table s) where
   abbrev pub requested : Request
   requested = requestOf (table .general) (P .class) (P .sideband) (P .control) direction (s .«margin_hz») audio
 
@@ -121,10 +121,10 @@ module _ (table : Table) (s : Situation) (direction : Direction) (audio : Range)
   rows-are =
       ap
       (λ (x : SidebandSet).
-      withSideband x (λ sb. withLicense (s .license) (λ cl. withControl (s .control) (knownRows table s direction audio sb cl))))
+      withSideband x (λ sb. withLicense (s .license) (λ cl. withControl (s .control) (rowsKnown table s direction audio sb cl))))
       (P .has-sideband)
-      ∙ ap (λ (x : License). withLicense x (λ cl. withControl (s .control) (knownRows table s direction audio (P .sideband) cl))) (P .has-license)
-      ∙ ap (λ (x : Control). withControl x (knownRows table s direction audio (P .sideband) (P .class))) (P .has-control)
+      ∙ ap (λ (x : License). withLicense x (λ cl. withControl (s .control) (rowsKnown table s direction audio (P .sideband) cl))) (P .has-license)
+      ∙ ap (λ (x : Control). withControl x (rowsKnown table s direction audio (P .sideband) (P .class))) (P .has-control)
 
   ruling : underRulesOf table s (Known dial) Data direction audio ≡ judge table judgedCase
   ruling =
@@ -197,4 +197,4 @@ pub listed-exactly :
     → tableMet table ≡ true → prerequisitesMet table s ≡ true → Figure (s .«margin_hz») → Figures audio → Figure dial
     → positiveWidth s audio ≡ true → onChannelBand table s audio dial ≡ false
     → listedAt table s direction audio dial ≡ allowedAt table s direction audio dial
-listed-exactly table s direction audio dial T P M A D W off = exactly table s direction audio dial (met table s P) T D M A W off
+listed-exactly table s direction audio dial T P M A D W off = exactly table s direction audio dial (prerequisites table s P) T D M A W off

@@ -1,17 +1,19 @@
 -- From the premises to the grid: every figure that list and verdict add or compare is in eighths and at most 2^40 in size. Of the table
 -- the checks of what it holds see to the size, of station and signal the calls' refusals.
 use Prim.Native.Nat.{ℕ, _+_, _≤_, _^_}
-use mathlib.Core.Bool.{Bool, true, false, not, cond, _&&_, _||_, false≢true}
-use mathlib.Core.Path.{_≡_, refl, sym, _∙_}
+use mathlib.Core.Bool.{Bool, true, false, not, cond, _||_, false≢true}
+use mathlib.Core.List.{List}
+use mathlib.Core.Path.{_≡_, refl, sym, ap, subst, _∙_}
 use native.Mathlib.Omega.{arith}
 use lib.Dec.{eqb}
 use borrow.Author.Tests.{eqb-true, not-true, not-false}
 use lib.Ieee.{Float, ofBits, neg, lt, le, eq}
 use Rattle.figures.specs.Figure.{zeroHz, limit40, negativeZeroBits, inSize, readHz, figureOf, minOf, maxOf}
-use Rattle.codes.specs.Code.{bitOf}
-use Rattle.codes.specs.Refusal.{refusalOf, none-fails}
+use Rattle.codes.specs.Code.{bitOf, policyCode}
+use Rattle.codes.specs.Refusal.{refusalOf, none-fails, refusal-both}
 use Rattle.codes.specs.declared.Checked.{Checked}
 use Rattle.codes.specs.declared.Checked.the-variants.{Accepted, Refused}
+use Rattle.codes.specs.declared.Policy.the-variants.{Unset, NoProfile, Rules, Broken}
 use Rattle.profile.specs.declared.Range.{Range}
 use Rattle.occupancy.specs.Edges.{rangeOf}
 use Rattle.occupancy.specs.declared.Edges.{Edges}
@@ -19,32 +21,31 @@ use Rattle.occupancy.specs.declared.Reading.{Reading}
 use Rattle.occupancy.specs.declared.Reading.the-variants.{Power, Spectral, Wider}
 use Rattle.air.specs.Air.{widthOf}
 use Rattle.scan.specs.First.{some, some-false, and-true}
+use Rattle.station.specs.Station.{underRules, figureValid, figuresValid, figureRead, stationTests, situationOf}
+use Rattle.station.specs.declared.Figure.the-variants.{Known, Absent}
+use Rattle.station.specs.declared.StationRecord.{StationRecord}
+use Rattle.layout.specs.Form.{formTests}
 use Rattle.layout.specs.Layout.{tables, power}
 use Rattle.layout.specs.declared.General.{General}
 use Rattle.table.specs.Parts.{elsewhereOf}
-use Rattle.table.specs.Table.{Table}
+use Rattle.table.specs.Table.{Table, tableOf}
 use Rattle.table.specs.declared.ElsewhereRule.the-variants.{Under, Nowhere}
 use Rattle.find.specs.Question.{asks, soundBits, soundRecord}
 use Rattle.find.specs.declared.Question.the-variants.{Unsound}
-use Rattle.image.specs.Check.{contentTests, soundBlock, unsoundIn, unsound}
-use Rattle.entry.specs.Entry.{pairValid, edgesValid, pairRead, edgesRead}
-use Rattle.tidy.specs.Tidy.{tidyTable}
+use Rattle.image.specs.Check.{contentTests, checkOf, soundBlock, unsoundIn, unsound}
+use Rattle.entry.specs.Entry.{imageTests, entryTests, pairValid, edgesValid, pairRead, edgesRead}
+use Rattle.tidy.specs.Tidy.{tidyTable, tidinessOf, tidyOf}
+use Rattle.tidy.specs.declared.Tidiness.the-variants.{Tidy}
 use Rattle.eighths.specs.Grid.{Figure, Eighths, inEighths}
 use Rattle.eighths.specs.Laws.{eighths-of, zero-eighths, neg-eighths, eq-eighths, figure-of}
 use Rattle.exact.specs.Air.{width}
-use Rattle.demand_3.specs.Words.{recordInEighths, blockInEighths, offGridAt, offGridIn, tableInEighths}
-use Rattle.demand_3.specs.Words.{rangeInEighths, edgesInEighths, accepted, unrefused, tableMet}
-use Rattle.demand_3.specs.Tests.{or-false-both}
+use Rattle.demand_3.specs.Words.{recordInEighths, blockInEighths, offGridAt, offGridIn, tableInEighths, rangeInEighths}
+use Rattle.demand_3.specs.Words.{edgesInEighths, dialInEighths, stationInEighths, accepted, rulesInForce, unrefused, tableMet}
+use Rattle.demand_3.specs.Tests.{all-three, and-both, or-false-both}
 use Rattle.demand_3.specs.Order.{Grid, grid, le-true, le-of, lt-true, lt-false, le-by-lt, by-max, by-min, figure-grid, Figures}
 use Rattle.demand_3.specs.Listed.{Spans}
 use Rattle.demand_3.specs.Judged.{Comparable}
 use Rattle.demand_3.specs.Same.{Tidied, tidied}
-
-pub all-three : (a b c : Bool) → (a && (b && c)) ≡ true → (a ≡ true) × (b ≡ true) × (c ≡ true)
-all-three a b c e =
-    let both = and-true a (b && c) e in
-    let last = and-true b c (both .1) in
-    (both .0, last .0, last .1)
 
 -- ---- one figure
 
@@ -143,13 +144,9 @@ module _ (table : Table) (T : tableMet table ≡ true) where
   unfolding soundBlock blockInEighths
   elsewhere-figure =
       let g = table .general in
-      let s =
-      and-true (soundBits (g .«data_limit»))
-      (soundBits (g .«elsewhere_limit»)
-      && (soundBits (g .«channel_width») && (soundBits (g .«carrier_offset») && soundBits (g .«carrier_tolerance»)))) (sound .0) .1 in
-      let o = and-true (inEighths (figureOf (g .«data_limit»))) _ (on-grid .0) .1 in
-      bits-figure (g .«elsewhere_limit») (and-true (soundBits (g .«elsewhere_limit»)) _ s .0)
-      (and-true (inEighths (figureOf (g .«elsewhere_limit»))) _ o .0)
+      let s = all-three (soundBits (g .«data_limit»)) (soundBits (g .«elsewhere_limit»)) _ (sound .0) in
+      let o = all-three (inEighths (figureOf (g .«data_limit»))) (inEighths (figureOf (g .«elsewhere_limit»))) _ (on-grid .0) in
+      bits-figure (g .«elsewhere_limit») (s .1) (o .1)
 
   -- It compares with the width of figures both ways.
   pub comparable : (audio : Range) → Figures audio → Comparable (elsewhereOf (table .general)) (widthOf audio)
@@ -177,6 +174,60 @@ module _ (table : Table) (T : tableMet table ≡ true) where
               (widthOf audio)
           by true = le-by-lt wide (figure-grid F)
           by false = tt
+
+-- A table that the tidy call finds tidy.
+tidy-of : (c : Checked) (b : Bool) → tidinessOf c b ≡ Tidy → (c ≡ Accepted) × (b ≡ true)
+tidy-of Accepted true e = (refl, refl)
+tidy-of Accepted false e = absurd (let z : _≡_ {A = ℕ} 0 1 = cc in omega arith)
+tidy-of (Refused n) b e = absurd (let z : _≡_ {A = ℕ} 0 1 = cc in omega arith)
+
+pub tidy-met : (l : List ℕ) → tidyOf l ≡ Tidy → tableInEighths (tableOf l) ≡ true → tableMet (tableOf l) ≡ true
+unfolding tableMet checkOf
+tidy-met l t on =
+    let both = tidy-of (checkOf l) (tidyTable (tableOf l)) t in
+    and-both _ _ (ap accepted (refusal-both (formTests l) (contentTests (tableOf l)) (both .0) .1)) (and-both _ _ (both .1) on)
+
+-- ---- the station
+
+pub under-rules : (r : StationRecord) → rulesInForce (situationOf r) ≡ true → underRules r ≡ true
+unfolding situationOf
+under-rules r e = go (eqb (r .policy) 0) (eqb (r .policy) 1) (eqb (r .policy) 2) e
+  where
+    go : (a b c : Bool) → eqb (policyCode (cond a Unset (cond b NoProfile (cond c Rules Broken)))) (policyCode Rules) ≡ true → c ≡ true
+    go true b c e = absurd (false≢true e)
+    go false true c e = absurd (false≢true e)
+    go false false true e = refl
+    go false false false e = absurd (false≢true e)
+
+-- a station record that a call does not refuse
+module _ (r : StationRecord) (beside : Bool) (l : List ℕ) (ok : refusalOf (entryTests r beside l) ≡ Accepted) where
+  pub figures-valid :
+      (inSize limit40 (r .«margin_hz») ≡ true) × (figureValid (r .«dial_known») (r .«dial_hz») ≡ true)
+      × (figureValid (r .«power_known») (r .«power_w») ≡ true)
+  unfolding figuresValid
+  figures-valid =
+      all-three (inSize limit40 (r .«margin_hz»)) (figureValid (r .«dial_known») (r .«dial_hz»)) (figureValid (r .«power_known») (r .«power_w»))
+      (not-false (figuresValid r)
+      (none-fails (stationTests r beside l) (refusal-both (stationTests r beside l) (imageTests r l) ok .0) .1 .0))
+
+  module _ (on : stationInEighths (situationOf r) ≡ true) where
+    grids : (inEighths (readHz (r .«margin_hz»)) ≡ true) × (dialInEighths (figureRead (r .«dial_known») (r .«dial_hz»)) ≡ true)
+    unfolding stationInEighths situationOf
+    grids = and-true (inEighths (readHz (r .«margin_hz»))) (dialInEighths (figureRead (r .«dial_known») (r .«dial_hz»))) on
+
+    pub margin-figure : Figure (situationOf r .«margin_hz»)
+    unfolding situationOf
+    margin-figure = figure-read (r .«margin_hz») (grids .0) (figures-valid .0)
+
+    pub dial-figure : (x : Float) → situationOf r .dial ≡ Known x → Figure x
+    unfolding situationOf
+    dial-figure x e = go (eqb (r .«dial_known») 0) (figures-valid .1) (grids .1) e
+      where
+        go :
+            (b : Bool) → (b || inSize limit40 (r .«dial_hz»)) ≡ true → dialInEighths (cond b Absent (Known (readHz (r .«dial_hz»)))) ≡ true
+            → cond b Absent (Known (readHz (r .«dial_hz»))) ≡ Known x → Figure x
+        go true v on e = absurd (let z : _≡_ {A = ℕ} 0 1 = cc in omega arith)
+        go false v on e = let same : readHz (r .«dial_hz») ≡ x = cc in subst Figure same (figure-read (r .«dial_hz») on v)
 
 -- ---- the edges
 

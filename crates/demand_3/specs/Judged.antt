@@ -22,6 +22,7 @@ use Rattle.table.specs.declared.Segment.{Segment}
 use Rattle.table.specs.declared.ElsewhereRule.{ElsewhereRule}
 use Rattle.table.specs.declared.ElsewhereRule.the-variants.{Under, Nowhere}
 use Rattle.table.specs.declared.Channels.{Channels}
+use Rattle.table.specs.declared.ChannelBand.{ChannelBand}
 use Rattle.table.specs.declared.ChannelBand.the-variants.{On, NoChannels}
 use Rattle.find.specs.Question.{firstIn, someIn}
 use Rattle.find.specs.declared.Question.the-variants.{Holds, OfBand}
@@ -60,8 +61,27 @@ advised-sent table c r d code rule = go (adviceWarns table c r)
     go true = refl
     go false = refl
 
-eqb-sym : (a b : ℕ) → eqb a b ≡ true → eqb b a ≡ true
-eqb-sym a b e = eq-eqb b a (sym (eqb-true a b e))
+-- The channels that a table has are of the channel band.
+pub by-channels :
+    (g : General) (P : ChannelBand → Type 0) → ((c : Channels) → isOutside (g .flags) (g .«channel_band») (c .band) ≡ false → P (On c))
+    → P NoChannels → P (channelsOf g)
+unfolding isOutside
+by-channels g P on none = go (bitOf (g .flags) 2) refl
+  where
+    here : Channels
+    here =
+        record {
+          band = g .«channel_band»;
+          rule = g .«channels_rule»;
+          «width_hz» = figureOf (g .«channel_width»);
+          «carrier_offset_hz» = figureOf (g .«carrier_offset»);
+          «carrier_tolerance_hz» = figureOf (g .«carrier_tolerance»);
+          sideband = channelSidebandOf g;
+        }
+
+    go : (b : Bool) → bitOf (g .flags) 2 ≡ b → P (cond b (On here) NoChannels)
+    go true e = on here (rw e (rw (eq-eqb (g .«channel_band») (g .«channel_band») refl)))
+    go false e = none
 
 -- the limit of 97.221(c) compares with a width both ways
 abbrev pub Comparable : ElsewhereRule → Float → Type 0
@@ -224,31 +244,15 @@ module _ (table : Table) (c : Case) where
   on-band :
       (g : General) (band : ℕ) → isOutside (g .flags) (g .«channel_band») band ≡ true
       → judgeOnBand table c band (channelsOf g) ≡ offSixty table c band (c .kind)
-  unfolding judgeOnBand isOutside
-  on-band g band o = go (bitOf (g .flags) 2) o
+  unfolding judgeOnBand
+  on-band g band o =
+      by-channels g (λ x. judgeOnBand table c band x ≡ offSixty table c band (c .kind)) (λ ch own. go ch own (eqb (ch .band) band) refl) refl
     where
-      here : Channels
-      here =
-          record {
-            band = g .«channel_band»;
-            rule = g .«channels_rule»;
-            «width_hz» = figureOf (g .«channel_width»);
-            «carrier_offset_hz» = figureOf (g .«carrier_offset»);
-            «carrier_tolerance_hz» = figureOf (g .«carrier_tolerance»);
-            sideband = channelSidebandOf g;
-          }
-
-      other :
-          (b : Bool) → eqb (g .«channel_band») band ≡ b → not (eqb band (g .«channel_band»)) ≡ true
-          → cond b (sixty table c here) (offSixty table c band (c .kind)) ≡ offSixty table c band (c .kind)
-      other true e n = absurd (false≢true (sym (ap not (eqb-sym (g .«channel_band») band e)) ∙ n))
-      other false e n = refl
-
       go :
-          (b : Bool) → not (b && eqb band (g .«channel_band»)) ≡ true
-          → judgeOnBand table c band (cond b (On here) NoChannels) ≡ offSixty table c band (c .kind)
-      go true n = other (eqb (g .«channel_band») band) refl n
-      go false n = refl
+          (ch : Channels) → isOutside (g .flags) (g .«channel_band») (ch .band) ≡ false → (b : Bool) → eqb (ch .band) band ≡ b
+          → cond b (sixty table c ch) (offSixty table c band (c .kind)) ≡ offSixty table c band (c .kind)
+      go ch own true e = absurd (false≢true (sym own ∙ ap (isOutside (g .flags) (g .«channel_band»)) (eqb-true (ch .band) band e) ∙ o))
+      go ch own false e = refl
 
   abbrev excludedHere : ℕ → Bool
   excludedHere band = c .automatic && someIn table excluded (OfBand band)

@@ -6,21 +6,16 @@ use mathlib.Core.List.{List, [], _∷_}
 use mathlib.Core.Path.{_≡_, refl, sym, ap, _∙_}
 use native.Mathlib.Omega.{arith}
 use lib.Ieee.{Float, le}
-use borrow.Author.Tests.{eq-eqb}
-use Rattle.figures.specs.Figure.{figureOf}
-use Rattle.codes.specs.Code.{bitOf}
 use Rattle.profile.specs.Range.{lengthy, commonOf, intersectOf}
 use Rattle.profile.specs.declared.Range.{Range}
 use Rattle.profile.specs.declared.Shared.the-variants.{Stretch, Nothing}
 use Rattle.air.specs.Air.{dialEndsOf}
 use Rattle.air.specs.declared.DialRange.the-variants.{Dials, NoDial}
 use Rattle.layout.specs.Layout.{segments, channels, privileges, automatic}
-use Rattle.layout.specs.declared.General.{General}
 use Rattle.table.specs.Table.{Table}
-use Rattle.table.specs.Parts.{spanOf, segmentOf, privilegeOf, channelsOf, channelSidebandOf, centreOf}
+use Rattle.table.specs.Parts.{spanOf, segmentOf, privilegeOf, channelsOf, centreOf}
 use Rattle.table.specs.declared.Segment.{Segment}
 use Rattle.table.specs.declared.Channels.{Channels}
-use Rattle.table.specs.declared.ChannelBand.the-variants.{On, NoChannels}
 use Rattle.eighths.specs.Grid.{Figure}
 use Rattle.rows.specs.Each.{each, Every, every-append, every-map}
 use Rattle.rows.specs.Order.{anyRow, any-append}
@@ -33,6 +28,7 @@ use Rattle.distance.specs.Distance.{isOutside}
 use Rattle.demand_3.specs.Order.{Figures, common-figures}
 use Rattle.demand_3.specs.Dial.{RowEnd, end-low, end-high}
 use Rattle.demand_3.specs.Listed.{lies, Spans}
+use Rattle.demand_3.specs.Judged.{by-channels}
 
 -- What fails of every row fails of the list.
 pub any-none : (test : SafeDial → Bool) (xs : List SafeDial) → Every (λ x. test x ≡ false) xs → anyRow test xs ≡ false
@@ -55,10 +51,6 @@ every-cond P false xs ys p q = q
 abbrev pub OnChannels : Table → SafeDial → Type 0
 OnChannels table x = isOutside (table .general .flags) (table .general .«channel_band») (x .band) ≡ false
 
-own-band : (flags channel : ℕ) → bitOf flags 2 ≡ true → isOutside flags channel channel ≡ false
-unfolding isOutside
-own-band flags channel e = rw e (rw (eq-eqb channel channel refl))
-
 channel-rows :
     (P : SafeDial → Type 0) (table : Table) (q : Request) (c : Channels) → ((centre : Float) → P (channelSafe c centre))
     → Every P (openRows table q c)
@@ -72,28 +64,8 @@ channel-rows P table q c h =
     tt
 
 pub band-rows : (table : Table) (q : Request) → Every (OnChannels table) (bandRows table q (channelsOf (table .general)))
-band-rows table q = go (table .general)
-  where
-    go : (g : General) → Every (λ x. isOutside (g .flags) (g .«channel_band») (x .band) ≡ false) (bandRows table q (channelsOf g))
-    go g = by (bitOf (g .flags) 2) refl
-      where
-        here : Channels
-        here =
-            record {
-              band = g .«channel_band»;
-              rule = g .«channels_rule»;
-              «width_hz» = figureOf (g .«channel_width»);
-              «carrier_offset_hz» = figureOf (g .«carrier_offset»);
-              «carrier_tolerance_hz» = figureOf (g .«carrier_tolerance»);
-              sideband = channelSidebandOf g;
-            }
-
-        by :
-            (b : Bool) → bitOf (g .flags) 2 ≡ b
-            → Every (λ x. isOutside (g .flags) (g .«channel_band») (x .band) ≡ false) (bandRows table q (cond b (On here) NoChannels))
-        by true e =
-            channel-rows (λ x. isOutside (g .flags) (g .«channel_band») (x .band) ≡ false) table q here (λ _. own-band (g .flags) (g .«channel_band») e)
-        by false e = tt
+band-rows table q =
+    by-channels (table .general) (λ x. Every (OnChannels table) (bandRows table q x)) (λ c own. channel-rows (OnChannels table) table q c (λ _. own)) tt
 
 -- A dial lies in a row that counts exactly if it lies in a data row that counts.
 pub rows-listed :

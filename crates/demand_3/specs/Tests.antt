@@ -1,6 +1,13 @@
 -- Tests joined by `&&` and `||`.
 use mathlib.Core.Bool.{Bool, true, false, _&&_, _||_, true≢false}
 use mathlib.Core.Path.{_≡_, refl, sym}
+use Rattle.scan.specs.First.{and-true}
+
+pub all-three : (a b c : Bool) → (a && (b && c)) ≡ true → (a ≡ true) × (b ≡ true) × (c ≡ true)
+all-three a b c e =
+    let both = and-true a (b && c) e in
+    let last = and-true b c (both .1) in
+    (both .0, last .0, last .1)
 
 pub and-both : (a b : Bool) → a ≡ true → b ≡ true → (a && b) ≡ true
 and-both a b p q = rw p (rw q)

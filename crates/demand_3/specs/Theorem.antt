@@ -2,38 +2,31 @@
 -- dial that the gate doesn't refuse and whose guarded range the channel band doesn't hold, the distance of the dial from the rows that the
 -- list call left is nought exactly when the gate allows data at that dial. The list's own dial is another than the one asked.
 use Prim.Native.Nat.{ℕ, _+_, _*_, _/_, _≤_}
-use mathlib.Core.Bool.{Bool, true, false, not, cond, _&&_, true≢false, false≢true}
+use mathlib.Core.Bool.{true, false, not, true≢false}
 use mathlib.Core.List.{List, [], _∷_, _++_}
 use mathlib.Core.Path.{_≡_, refl, sym, ap, subst, _∙_}
 use native.Mathlib.Omega.{arith}
-use lib.Dec.{eqb}
 use lib.ListN.{length, drop, length-append}
 use borrow.Author.Tests.{eqb-true, le-ltb, not-false}
 use lib.Ieee.{Float}
 use Rattle.figures.specs.Figure.{limit40, inSize, readHz}
-use Rattle.codes.specs.Code.{policyCode}
 use Rattle.codes.specs.Read.{policyOf, directionOf, directionValid}
 use Rattle.codes.specs.Refusal.{test, refusalOf, refusal-both, none-fails}
 use Rattle.codes.specs.declared.Checked.{Checked}
 use Rattle.codes.specs.declared.Checked.the-variants.{Accepted, Refused}
 use Rattle.codes.specs.declared.Policy.{Policy}
-use Rattle.codes.specs.declared.Policy.the-variants.{Unset, NoProfile, Rules, Broken}
 use Rattle.codes.specs.declared.EmissionKind.the-variants.{Data}
 use Rattle.profile.specs.declared.Range.{Range}
 use Rattle.occupancy.specs.declared.Edges.{Edges}
 use Rattle.scan.specs.First.{and-true, cond-yes}
-use Rattle.station.specs.Station.{underRules, figuresValid, figureValid, stationTests, situationOf}
+use Rattle.station.specs.Station.{underRules, situationOf}
 use Rattle.station.specs.declared.Figure.the-variants.{Known}
 use Rattle.station.specs.declared.StationRecord.{StationRecord}
 use Rattle.station.specs.declared.Situation.{Situation}
-use Rattle.layout.specs.Form.{formTests}
 use Rattle.layout.specs.Layout.{generalOf}
 use Rattle.table.specs.Table.{tableOf}
 use Rattle.table.specs.Parts.{readingOf}
-use Rattle.image.specs.Check.{contentTests, checkOf}
-use Rattle.entry.specs.Entry.{imageTests, entryTests, edgesValid, edgesRead}
-use Rattle.tidy.specs.Tidy.{tidyTable, tidinessOf, tidyOf}
-use Rattle.tidy.specs.declared.Tidiness.the-variants.{Tidy}
+use Rattle.entry.specs.Entry.{entryTests, edgesValid, edgesRead}
 use Rattle.rows.specs.Rows.{rowSize, sorted, encodeAll}
 use Rattle.rows.specs.Back.{length-encode}
 use Rattle.rows.specs.Each.{Every}
@@ -52,18 +45,17 @@ use Rattle.decision.specs.declared.Decision.{Decision}
 use Rattle.verdict.specs.Verdict.{underRulesOf, decideOf, besideValid, edgeTests, evaluateTests, unlessRefused, evaluateOf}
 use Rattle.distance.specs.Distance.{leastUpTo, distanceOf}
 use Rattle.distance.specs.declared.Distance.the-variants.{NoneListed}
-use Rattle.eighths.specs.Grid.{Figure, inEighths}
-use Rattle.demand_3.specs.Words.{tableInEighths, edgesInEighths, stationInEighths, tuned, audioOf, accepted, rulesInForce}
-use Rattle.demand_3.specs.Words.{unrefused, prerequisitesMet, positiveWidth, onChannelBand, tableMet, stationMet, signalMet}
-use Rattle.demand_3.specs.Words.{verdictAt, sent, allows, distanceAt, nought, answers, NoneOutside, Premises, Demand3}
-use Rattle.demand_3.specs.Tests.{and-both}
+use Rattle.eighths.specs.Grid.{Figure}
+use Rattle.demand_3.specs.Words.{edgesInEighths, stationInEighths, tuned, audioOf, rulesInForce, prerequisitesMet, positiveWidth, onChannelBand}
+use Rattle.demand_3.specs.Words.{stationMet, signalMet, verdictAt, sent, allows, distanceAt, nought, answers, NoneOutside, Premises, Demand3}
+use Rattle.demand_3.specs.Tests.{all-three}
 use Rattle.demand_3.specs.Order.{Figures}
 use Rattle.demand_3.specs.Listed.{lies}
 use Rattle.demand_3.specs.Rows.{Counted, rows-ends}
 use Rattle.demand_3.specs.Nearest.{least-none, least-answers}
 use Rattle.demand_3.specs.Read.{sorted-nought}
-use Rattle.demand_3.specs.Grounds.{all-three, figure-read, spans, audio-figures}
-use Rattle.demand_3.specs.Exactly.{rowsFor, Met, met, requested, rows-are, listed-exactly}
+use Rattle.demand_3.specs.Grounds.{spans, under-rules, figures-valid, margin-figure, dial-figure, audio-figures}
+use Rattle.demand_3.specs.Exactly.{rowsFor, Prerequisites, prerequisites, requested, rows-are, listed-exactly}
 
 -- ---- what the calls' answers say of their tests
 
@@ -78,46 +70,10 @@ unfolding refusedOf
 judged-of-refusal Accepted d e = refl
 judged-of-refusal (Refused n) d e = e
 
--- a table that the tidy call finds tidy
-tidy-of : (c : Checked) (b : Bool) → tidinessOf c b ≡ Tidy → (c ≡ Accepted) × (b ≡ true)
-tidy-of Accepted true e = (refl, refl)
-tidy-of Accepted false e = absurd (let z : _≡_ {A = ℕ} 0 1 = cc in omega arith)
-tidy-of (Refused n) b e = absurd (let z : _≡_ {A = ℕ} 0 1 = cc in omega arith)
-
-pub tidy-met : (l : List ℕ) → tidyOf l ≡ Tidy → tableInEighths (tableOf l) ≡ true → tableMet (tableOf l) ≡ true
-unfolding tableMet checkOf
-tidy-met l t on =
-    let both = tidy-of (checkOf l) (tidyTable (tableOf l)) t in
-    and-both _ _ (ap accepted (refusal-both (formTests l) (contentTests (tableOf l)) (both .0) .1)) (and-both _ _ (both .1) on)
-
 blocked-of : (v : Verdict) → sent v ≡ false → v ≡ Blocked
 blocked-of Legal e = absurd (true≢false e)
 blocked-of Warning e = absurd (true≢false e)
 blocked-of Blocked e = refl
-
-rules-code : (n : ℕ) → eqb (policyCode (policyOf n)) (policyCode Rules) ≡ true → eqb n (policyCode Rules) ≡ true
-rules-code n e = go (eqb n 0) (eqb n 1) (eqb n 2) e
-  where
-    go : (a b c : Bool) → eqb (policyCode (cond a Unset (cond b NoProfile (cond c Rules Broken)))) (policyCode Rules) ≡ true → c ≡ true
-    go true b c e = absurd (false≢true e)
-    go false true c e = absurd (false≢true e)
-    go false false true e = refl
-    go false false false e = absurd (false≢true e)
-
--- the sizes of margin and dial, of a verdict that was not refused
-sized :
-    (r : StationRecord) (direction : ℕ) (e : Edges) (l : List ℕ) (dial : Float) → refusalOf (evaluateTests (tuned r dial) 0 direction e l) ≡ Accepted
-    → (inSize limit40 (r .«margin_hz») ≡ true) × (inSize limit40 dial ≡ true)
-unfolding figuresValid tuned
-sized r direction e l dial ok =
-    let t = tuned r dial in
-    let entry = refusal-both (entryTests t (besideValid 0 direction) l) (edgeTests e) ok .0 in
-    let station = refusal-both (stationTests t (besideValid 0 direction) l) (imageTests t l) entry .0 in
-    let v = not-false (figuresValid t) (none-fails (stationTests t (besideValid 0 direction) l) station .1 .0) in
-    let a = inSize limit40 (r .«margin_hz») in
-    let b = inSize limit40 dial in
-    let c = figureValid (r .«power_known») (r .«power_w») in
-    (and-true a (b && c) v .0, and-true b c (and-true a (b && c) v .1) .0)
 
 -- ---- the distance call answers
 
@@ -186,23 +142,19 @@ module _
     signal = and-true (edgesInEighths (edgesRead e)) (positiveWidth (situationOf r) audio) (P .signal)
 
     rules : underRules r ≡ true
-    unfolding situationOf tuned
-    rules = rules-code (r .policy) (station .0)
+    unfolding tuned
+    rules = under-rules (tuned r dial) (station .0)
 
     -- the figures
-    size : (inSize limit40 (r .«margin_hz») ≡ true) × (inSize limit40 dial ≡ true)
-    size = sized r direction e l dial judged
-
-    grids : (inEighths (readHz (r .«margin_hz»)) ≡ true) × (inEighths (readHz dial) ≡ true)
-    unfolding stationInEighths situationOf tuned
-    grids = and-true (inEighths (readHz (r .«margin_hz»))) (inEighths (readHz dial)) (station .2)
+    entered : refusalOf (entryTests (tuned r dial) (besideValid 0 direction) l) ≡ Accepted
+    entered = refusal-both (entryTests (tuned r dial) (besideValid 0 direction) l) (edgeTests e) judged .0
 
     D : Figure (readHz dial)
-    D = figure-read dial (grids .1) (size .1)
+    unfolding situationOf tuned
+    D = dial-figure (tuned r dial) (besideValid 0 direction) l entered (station .2) (readHz dial) refl
 
     M : Figure (there .«margin_hz»)
-    unfolding situationOf tuned
-    M = figure-read (r .«margin_hz») (grids .0) (size .0)
+    M = margin-figure (tuned r dial) (besideValid 0 direction) l entered (station .2)
 
     A : Figures audio
     A = audio-figures e (readingOf (generalOf l)) edges-valid (signal .0)
@@ -217,8 +169,8 @@ module _
     verdict-is =
         ap (λ (x : Checked). unlessRefused x (decided (there .policy))) judged ∙ ap (λ (n : ℕ). decided (policyOf n)) (eqb-true (r .policy) 2 rules)
 
-    known : Met (tableOf l) there
-    known = met (tableOf l) there (station .1)
+    known : Prerequisites (tableOf l) there
+    known = prerequisites (tableOf l) there (station .1)
 
     abbrev asked : Request
     asked = requested (tableOf l) there (directionOf direction) audio (readHz dial) known
@@ -230,9 +182,10 @@ module _
     distance-is :
         distanceAt l count left dial
         ≡ leastUpTo (readHz dial) (generalOf l .flags) (generalOf l .«channel_band») (encodeAll (sorted xs) ++ rest) (length xs)
+    unfolding tuned
     distance-is =
         ap (λ (n : ℕ). distanceAt l n left dial) (sym (fit .1)) ∙ ap (λ (m : List ℕ). distanceAt l (length xs) m dial) left-is
-        ∙ answered xs rest l dial (size .1)
+        ∙ answered xs rest l dial (figures-valid (tuned r dial) (besideValid 0 direction) l entered .1)
 
     nought-exactly : nought (distanceAt l count left dial) ≡ allows (verdictAt r direction e l dial)
     unfolding requestOf onChannelBand situationOf tuned

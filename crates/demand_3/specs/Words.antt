@@ -72,14 +72,14 @@ offGridIn table t = some (offGridAt table t) (table .count t)
 unfoldable pub tableInEighths : Table → Bool
 tableInEighths table = blockInEighths (table .general) && not (some (offGridIn table) tables)
 
--- both pairs, also the one that isn't read
 abbrev pub rangeInEighths : Range → Bool
 rangeInEighths r = inEighths (r .«low_hz») && inEighths (r .«high_hz»)
 
+-- both pairs, also the one that isn't read
 unfoldable pub edgesInEighths : Edges → Bool
 edgesInEighths e = rangeInEighths (e .power) && rangeInEighths (e .spectral)
 
--- "at 0 the figure isn't looked at"
+-- "at 0 the figure isn't looked at"; negative zero, which reads as zero, is in eighths as zero is
 abbrev pub dialInEighths : Figure → Bool
 dialInEighths (Known x) = inEighths x
 dialInEighths Absent = true
@@ -118,7 +118,7 @@ accepted (Refused n) = false
 abbrev pub rulesInForce : Situation → Bool
 rulesInForce s = eqb (policyCode (s .policy)) (policyCode Rules)
 
--- what the table holds; the form of its bytes (1 to 4) is the calls' to refuse
+-- of a table, the checks of what it holds (5 to 14); those of its bytes (1 to 4) are met by every call that isn't refused
 abbrev pub unrefused : Table → Bool
 unrefused table = accepted (refusalOf (contentTests table))
 
@@ -167,15 +167,18 @@ channelsHold table audio margin dial NoSideband = false
 unfoldable pub onChannelBand : Table → Situation → Range → Float → Bool
 onChannelBand table s audio dial = channelsHold table audio (s .«margin_hz») dial (s .sideband)
 
--- ---- the premises on table, station and signal, each by itself: "a tidy table in force, all hertz figures in eighths, prerequisites met, a
--- positive guarded width". Station and edges are as they are read; the dial is one of the station's figures.
+-- ---- "a tidy table in force, all hertz figures in eighths, prerequisites met, a positive guarded width": what of it is on the table, on the
+-- station and on the signal, station and edges as they are read
 
+-- tidy, refused by no check, in eighths
 unfoldable pub tableMet : Table → Bool
 tableMet table = unrefused table && (tidyTable table && tableInEighths table)
 
+-- Rules in force, prerequisites met, margin and dial in eighths
 unfoldable pub stationMet : Table → Situation → Bool
 stationMet table s = rulesInForce s && (prerequisitesMet table s && stationInEighths s)
 
+-- edges in eighths, a positive guarded width
 unfoldable pub signalMet : Table → Situation → Edges → Bool
 signalMet table s e = edgesInEighths e && positiveWidth s (audioOf table e)
 
@@ -225,8 +228,8 @@ NoneOutside l count left =
 
 pub record Premises (r : StationRecord) (direction : ℕ) (e : Edges) (l : List ℕ) (count : ℕ) (answer : DialList) (dial : Float) : Type 0 where
   pub table : tableMet (tableOf l) ≡ true
+  -- at the dial asked; the list's own dial is in eighths too
   pub station : stationMet (tableOf l) (situationOf (tuned r dial)) ≡ true
-  -- the list's own dial
   pub own-dial : dialInEighths (situationOf r .dial) ≡ true
   pub signal : signalMet (tableOf l) (situationOf r) (edgesRead e) ≡ true
   pub fitted : Fitted answer count

@@ -25,7 +25,8 @@ use Rattle.distance.specs.declared.Distance.{Distance}
 use Rattle.distance.specs.declared.Distance.the-variants.{Hertz, NoneListed, Refused as NoAnswer}
 use Rattle.demand_3.specs.Words.{tableInEighths, dialInEighths, tuned, audioOf, onChannelBand, stationMet}
 use Rattle.demand_3.specs.Words.{signalMet, verdictAt, sent, allows, distanceAt, nought, answers, NoneOutside}
-use Rattle.demand_3.specs.Theorem.{tidy-met, demand-3}
+use Rattle.demand_3.specs.Grounds.{tidy-met}
+use Rattle.demand_3.specs.Theorem.{demand-3}
 use Rattle.pamuklid.specs.Flat.{recordOf, edgesOf, flatOf, tidinessFlat, FlatDialed, distanceFlat}
 use Rattle.pamuklid.specs.Safe.{verdict-not-refused, list-not-refused}
 use Rattle.pamuklid.specs.declared.FlatStation.{FlatStation}
