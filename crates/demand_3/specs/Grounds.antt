@@ -26,9 +26,9 @@ use Rattle.station.specs.declared.Figure.the-variants.{Known, Absent}
 use Rattle.station.specs.declared.StationRecord.{StationRecord}
 use Rattle.layout.specs.Form.{formTests}
 use Rattle.layout.specs.Layout.{tables, power}
-use Rattle.layout.specs.declared.General.{General}
 use Rattle.table.specs.Parts.{elsewhereOf}
 use Rattle.table.specs.Table.{Table, tableOf}
+use Rattle.table.specs.declared.Elsewhere.{Elsewhere}
 use Rattle.table.specs.declared.ElsewhereRule.the-variants.{Under, Nowhere}
 use Rattle.find.specs.Question.{asks, soundBits, soundRecord}
 use Rattle.find.specs.declared.Question.the-variants.{Unsound}
@@ -99,6 +99,12 @@ pub accepted-of : (c : Checked) → accepted c ≡ true → c ≡ Accepted
 accepted-of Accepted e = refl
 accepted-of (Refused n) e = absurd (false≢true e)
 
+comparable-if :
+    (w : Float) (b : Bool) (e : Elsewhere) → le w (e .«max_bandwidth_hz») ≡ not (lt (e .«max_bandwidth_hz») w)
+    → Comparable (cond b (Under e) Nowhere) w
+comparable-if w true e k = k
+comparable-if w false e k = tt
+
 module _ (table : Table) (T : tableMet table ≡ true) where
   parts : (unrefused table ≡ true) × (tidyTable table ≡ true) × (tableInEighths table ≡ true)
   unfolding tableMet
@@ -150,30 +156,12 @@ module _ (table : Table) (T : tableMet table ≡ true) where
 
   -- It compares with the width of figures both ways.
   pub comparable : (audio : Range) → Figures audio → Comparable (elsewhereOf (table .general)) (widthOf audio)
-  comparable audio A = go (table .general) elsewhere-figure
-    where
-      wide : Grid (widthOf audio)
-      wide =
-          grid
-          (width (audio .«low_hz») (audio .«low_hz») (audio .«low_hz») (audio .«high_hz») (audio .«low_hz») (A .low) (A .low) (A .low) (A .high) (A .low))
-
-      go : (g : General) → Figure (figureOf (g .«elsewhere_limit»)) → Comparable (elsewhereOf g) (widthOf audio)
-      go g F = by (bitOf (g .flags) 0)
-        where
-          by :
-              (b : Bool)
-              → Comparable
-              (cond b
-              (Under
-              (record {
-                «max_bandwidth_hz» = figureOf (g .«elsewhere_limit»);
-                «requires_response» = bitOf (g .flags) 1;
-                rule = g .«elsewhere_rule»;
-              }))
-              Nowhere)
-              (widthOf audio)
-          by true = le-by-lt wide (figure-grid F)
-          by false = tt
+  comparable audio A =
+      comparable-if (widthOf audio) (bitOf (table .general .flags) 0) _
+      (le-by-lt
+      (grid
+      (width (audio .«low_hz») (audio .«low_hz») (audio .«low_hz») (audio .«high_hz») (audio .«low_hz») (A .low) (A .low) (A .low) (A .high) (A .low)))
+      (figure-grid elsewhere-figure))
 
 -- A table that the tidy call finds tidy.
 tidy-of : (c : Checked) (b : Bool) → tidinessOf c b ≡ Tidy → (c ≡ Accepted) × (b ≡ true)

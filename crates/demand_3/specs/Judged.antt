@@ -6,7 +6,6 @@ use mathlib.Core.Path.{_≡_, refl, sym, ap, _∙_}
 use lib.Dec.{eqb}
 use borrow.Author.Tests.{eqb-true, eq-eqb}
 use lib.Ieee.{Float, lt, le}
-use Rattle.figures.specs.Figure.{figureOf}
 use Rattle.codes.specs.Code.{bitOf}
 use Rattle.codes.specs.declared.EmissionKind.{EmissionKind}
 use Rattle.codes.specs.declared.EmissionKind.the-variants.{Data}
@@ -17,7 +16,7 @@ use Rattle.scan.specs.declared.Found.the-variants.{At, Nothing}
 use Rattle.layout.specs.Layout.{bands, segments, automatic, excluded}
 use Rattle.layout.specs.declared.General.{General}
 use Rattle.table.specs.Table.{Table}
-use Rattle.table.specs.Parts.{spanOf, excludedOf, elsewhereOf, channelsOf, channelSidebandOf}
+use Rattle.table.specs.Parts.{spanOf, excludedOf, elsewhereOf, channelsOf}
 use Rattle.table.specs.declared.Segment.{Segment}
 use Rattle.table.specs.declared.ElsewhereRule.{ElsewhereRule}
 use Rattle.table.specs.declared.ElsewhereRule.the-variants.{Under, Nowhere}
@@ -66,22 +65,11 @@ pub by-channels :
     (g : General) (P : ChannelBand → Type 0) → ((c : Channels) → isOutside (g .flags) (g .«channel_band») (c .band) ≡ false → P (On c))
     → P NoChannels → P (channelsOf g)
 unfolding isOutside
-by-channels g P on none = go (bitOf (g .flags) 2) refl
+by-channels g P on none = go (bitOf (g .flags) 2) _ refl refl
   where
-    here : Channels
-    here =
-        record {
-          band = g .«channel_band»;
-          rule = g .«channels_rule»;
-          «width_hz» = figureOf (g .«channel_width»);
-          «carrier_offset_hz» = figureOf (g .«carrier_offset»);
-          «carrier_tolerance_hz» = figureOf (g .«carrier_tolerance»);
-          sideband = channelSidebandOf g;
-        }
-
-    go : (b : Bool) → bitOf (g .flags) 2 ≡ b → P (cond b (On here) NoChannels)
-    go true e = on here (rw e (rw (eq-eqb (g .«channel_band») (g .«channel_band») refl)))
-    go false e = none
+    go : (b : Bool) (here : Channels) → bitOf (g .flags) 2 ≡ b → here .band ≡ g .«channel_band» → P (cond b (On here) NoChannels)
+    go true here e f = on here (rw e (rw (eq-eqb (here .band) (g .«channel_band») f)))
+    go false here e f = none
 
 -- the limit of 97.221(c) compares with a width both ways
 abbrev pub Comparable : ElsewhereRule → Float → Type 0
@@ -257,17 +245,18 @@ module _ (table : Table) (c : Case) where
   abbrev excludedHere : ℕ → Bool
   excludedHere band = c .automatic && someIn table excluded (OfBand band)
 
+  abbrev banded : ℕ → Bool → Found → Decision
+  banded band a f =
+      cond a
+      (onFound f (λ x. simpleOf (draftOf c (Band band)) Blocked AutomaticExcluded (excludedOf (table .at excluded x) .rule))
+      (judgeOnBand table c band (channelsOf (table .general))))
+      (judgeOnBand table c band (channelsOf (table .general)))
+
   in-band : (band : ℕ) → excludedHere band ≡ false → judgeInBand table c band ≡ judgeOnBand table c band (channelsOf (table .general))
   unfolding judgeInBand
   in-band band e = go (c .automatic) (firstIn table excluded (OfBand band)) e
     where
-      go :
-          (a : Bool) (f : Found) → (a && isAt f) ≡ false
-          → cond a
-          (onFound f (λ x. simpleOf (draftOf c (Band band)) Blocked AutomaticExcluded (excludedOf (table .at excluded x) .rule))
-          (judgeOnBand table c band (channelsOf (table .general))))
-          (judgeOnBand table c band (channelsOf (table .general)))
-          ≡ judgeOnBand table c band (channelsOf (table .general))
+      go : (a : Bool) (f : Found) → (a && isAt f) ≡ false → banded band a f ≡ judgeOnBand table c band (channelsOf (table .general))
       go true (At i) e = absurd (true≢false e)
       go true Nothing e = refl
       go false f e = refl
@@ -276,15 +265,7 @@ module _ (table : Table) (c : Case) where
   unfolding judgeInBand
   in-band-of band e = go (c .automatic) (firstIn table excluded (OfBand band)) e
     where
-      go :
-          (a : Bool) (f : Found)
-          → allows
-          (cond a
-          (onFound f (λ x. simpleOf (draftOf c (Band band)) Blocked AutomaticExcluded (excludedOf (table .at excluded x) .rule))
-          (judgeOnBand table c band (channelsOf (table .general))))
-          (judgeOnBand table c band (channelsOf (table .general))))
-          ≡ true
-          → (a && isAt f) ≡ false
+      go : (a : Bool) (f : Found) → allows (banded band a f) ≡ true → (a && isAt f) ≡ false
       go true (At i) e =
           absurd (false≢true (sym (simple-blocked (draftOf c (Band band)) AutomaticExcluded (excludedOf (table .at excluded i) .rule)) ∙ e))
       go true Nothing e = refl

@@ -1,7 +1,7 @@
 -- When a dial lies in a row outside the channel band: exactly if some data segment and some privilege that may use it hold the guarded
 -- signal there, and, where the list is cut to them, some automatic segment does.
 use Prim.Native.Nat.{ℕ, _<_}
-use mathlib.Core.Bool.{Bool, true, false, cond, _&&_, _||_, true≢false, false≢true}
+use mathlib.Core.Bool.{Bool, true, false, cond, _&&_, _||_, true≢false, false≢true, or-false}
 use mathlib.Core.List.{List, []}
 use mathlib.Core.Path.{_≡_, refl, sym, _∙_}
 use native.Mathlib.Omega.{arith}
@@ -11,7 +11,7 @@ use Rattle.profile.specs.declared.Range.{Range}
 use Rattle.profile.specs.declared.Shared.the-variants.{Stretch, Nothing}
 use Rattle.air.specs.Air.{rfRangeOf, guardedOf, dialEndsOf}
 use Rattle.air.specs.declared.DialRange.the-variants.{Dials, NoDial}
-use Rattle.scan.specs.First.{first, some, isAt, first-at, some-true}
+use Rattle.scan.specs.First.{first, some, isAt, first-at, some-true, and-true}
 use Rattle.scan.specs.declared.Found.{Found}
 use Rattle.scan.specs.declared.Found.the-variants.{At, Nothing as NotFound}
 use Rattle.layout.specs.Layout.{segments, privileges, automatic, tables}
@@ -72,11 +72,10 @@ all-yes : {o b m n : Bool} → o ≡ true → b ≡ true → m ≡ true → n �
 all-yes p q r s = rw p (rw q (rw r (rw s)))
 
 all-of : (o b m n : Bool) → (((o && b) && (m && n)) || false) ≡ true → (o ≡ true) × (m ≡ true) × (n ≡ true)
-all-of true true true true e = (refl, refl, refl)
-all-of true true true false e = absurd (false≢true e)
-all-of true true false n e = absurd (false≢true e)
-all-of true false m n e = absurd (false≢true e)
-all-of false b m n e = absurd (false≢true e)
+all-of o b m n e =
+    let both = and-true (o && b) (m && n) (sym (or-false ((o && b) && (m && n))) ∙ e) in
+    let last = and-true m n (both .1) in
+    (and-true o b (both .0) .0, last .0, last .1)
 
 row-end-grid : {x : Float} → RowEnd x → Grid x
 row-end-grid R = grid (R .eighths)

@@ -1,7 +1,7 @@
 -- In a tidy table at most one band, one segment and one privilege of a class hold a signal of positive length, and a segment's band is
 -- the signal's. So what the verdict finds first is what the list has a row for.
 use Prim.Native.Nat.{ℕ, suc, _<_, _≤_}
-use mathlib.Core.Bool.{Bool, true, false, not, cond, _&&_, _||_, true≢false, false≢true}
+use mathlib.Core.Bool.{Bool, true, false, not, cond, _&&_, _||_, true≢false}
 use mathlib.Core.Path.{_≡_, refl, sym, ap, subst, _∙_}
 use native.Mathlib.Omega.{arith}
 use native.Mathlib.Decide.{decLe}
@@ -31,7 +31,7 @@ use Rattle.part97.specs.declared.Privileged.{Privileged}
 use Rattle.part97.specs.declared.Privileged.the-variants.{Granted, Forbidden, Unheld}
 use Rattle.distance.specs.Distance.{isOutside}
 use Rattle.eighths.specs.Grid.{Figure}
-use Rattle.demand_3.specs.Tests.{and-both, or-left, or-right}
+use Rattle.demand_3.specs.Tests.{all-three, and-both, or-left, or-right}
 use Rattle.demand_3.specs.Order.{Ends, Figures, ends, holds-trans, share}
 use Rattle.demand_3.specs.Dial.{guarded-ends}
 use Rattle.demand_3.specs.Listed.{some-index, asks-holds, Spans, guardedAt, Lawful}
@@ -124,16 +124,17 @@ pub record Tidied (table : Table) : Type 0 where
 
 pub tidied : (table : Table) → tidyTable table ≡ true → Tidied table
 unfolding tidyTable
-tidied table e = go (homelessOf table true) (twoShare table bands false) (twoShare table segments false) (twoShare table privileges true) refl refl refl refl e
-  where
-    go :
-        (a b c d : Bool) → homelessOf table true ≡ a → twoShare table bands false ≡ b → twoShare table segments false ≡ c → twoShare table privileges true ≡ d
-        → (not a && (not b && (not c && not d))) ≡ true → Tidied table
-    go false false false false p q r s e = record { homes = p; bands-apart = q; segments-apart = r; privileges-apart = s }
-    go false false false true p q r s e = absurd (false≢true e)
-    go false false true d p q r s e = absurd (false≢true e)
-    go false true c d p q r s e = absurd (false≢true e)
-    go true b c d p q r s e = absurd (false≢true e)
+tidied table e =
+    let shared = twoShare table segments false in
+    let classes = twoShare table privileges true in
+    let parts = all-three (not (homelessOf table true)) (not (twoShare table bands false)) (not shared && not classes) e in
+    let last = and-true (not shared) (not classes) (parts .2) in
+    record {
+      homes = not-true (homelessOf table true) (parts .0);
+      bands-apart = not-true (twoShare table bands false) (parts .1);
+      segments-apart = not-true shared (last .0);
+      privileges-apart = not-true classes (last .1);
+    }
 
 -- ---- the list's request and the verdict's case, of one station, signal and dial
 
