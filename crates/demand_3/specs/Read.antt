@@ -50,7 +50,7 @@ any-of test (x ∷ xs) e = go (test x) refl (any-of test xs) e
     go true p next q = record { index = 0; below = omega arith; passes = p }
     go false p next q = let s = next q in record { index = suc (s .index); below = omega (arith, s .below); passes = s .passes }
 
-module _ (dial : Float) (flags channel : ℕ) (D : Figure dial) (ys : List SafeDial) (rest : List ℕ) (F : Every DialsFit ys) where
+module _ (dial : Float) (flags channel : ℕ) (ys : List SafeDial) (rest : List ℕ) (F : Every DialsFit ys) where
   abbrev bytes : List ℕ
   bytes = encodeAll ys ++ rest
 
@@ -78,8 +78,9 @@ module _ (dial : Float) (flags channel : ℕ) (D : Figure dial) (ys : List SafeD
       let s = any-of (lies flags channel dial) ys e in
       some-true (liesAt dial flags channel bytes) (length ys) (s .index) (s .below) (lies-is (s .index) (s .below) ∙ s .passes))
 
-  rows-nought : Every (Counted flags channel) ys → nought (leastUpTo dial flags channel bytes (length ys)) ≡ anyRow (lies flags channel dial) ys
-  rows-nought E =
+  -- So the distance is nought exactly then.
+  rows-nought : Figure dial → Every (Counted flags channel) ys → nought (leastUpTo dial flags channel bytes (length ys)) ≡ anyRow (lies flags channel dial) ys
+  rows-nought D E =
       least-nought dial flags channel bytes (length ys) D
       (λ i h o.
       let r = every-get (Counted flags channel) ys E i h (ap (isOutside flags channel) (sym (band-is i h)) ∙ o) in
@@ -92,5 +93,5 @@ pub sorted-nought :
     → nought (leastUpTo dial flags channel (encodeAll (sorted xs) ++ rest) (length xs)) ≡ anyRow (lies flags channel dial) xs
 sorted-nought dial flags channel D xs rest F E =
     ap (λ (n : ℕ). nought (leastUpTo dial flags channel (encodeAll (sorted xs) ++ rest) n)) (sym (length-sorted xs))
-    ∙ rows-nought dial flags channel D (sorted xs) rest (every-sorted DialsFit xs F) (every-sorted (Counted flags channel) xs E)
+    ∙ rows-nought dial flags channel (sorted xs) rest (every-sorted DialsFit xs F) D (every-sorted (Counted flags channel) xs E)
     ∙ any-sorted (lies flags channel dial) xs
