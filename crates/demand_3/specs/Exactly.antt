@@ -192,6 +192,8 @@ module _ (table : Table) (s : Situation) (direction : Direction) (audio : Range)
           (judged-of table judgedCase limit-compares (off-channels off) kind-data h)))
           ∙ ap allows (sym ruling)
 
+-- For a tidy table in force, in eighths, a station with its prerequisites, a positive guarded width, and a dial off the channel band; margin,
+-- audio range and dial are in eighths and at most 2^40 in size.
 pub listed-exactly :
     (table : Table) (s : Situation) (direction : Direction) (audio : Range) (dial : Float)
     → tableMet table ≡ true → prerequisitesMet table s ≡ true → Figure (s .«margin_hz») → Figures audio → Figure dial
