@@ -13,7 +13,8 @@ use Rattle.profile.specs.declared.Range.{Range}
 use Rattle.air.specs.Air.{rfRangeOf, guardedOf, dialEndsOf}
 use Rattle.eighths.specs.Grid.{Figure, Eighths, plusEighths, minusEighths}
 use Rattle.eighths.specs.Laws.{zero-eighths, add-eighths, le-eighths}
-use Rattle.exact.specs.Air.{guarded-usb-low, guarded-usb-high, guarded-lsb-low, guarded-lsb-high, width, dial-usb-low, dial-usb-high, dial-lsb-low, dial-lsb-high}
+use Rattle.exact.specs.Air.{guarded-usb-low, guarded-usb-high, guarded-lsb-low, guarded-lsb-high}
+use Rattle.exact.specs.Air.{width, dial-usb-low, dial-usb-high, dial-lsb-low, dial-lsb-high}
 use Rattle.demand_3.specs.Words.{guardedWidth}
 use Rattle.demand_3.specs.Order.{grid, lt-true, lt-of, Ends, Figures}
 
@@ -104,12 +105,16 @@ module _ (dial margin : Float) (audio : Range) (D : Figure dial) (M : Figure mar
 module _ (piece audio : Range) (margin : Float) (P : Figures piece) (A : Figures audio) (M : Figure margin) where
   pub end-low : (sideband : Sideband) → RowEnd (dialEndsOf piece sideband audio margin .«low_hz»)
   end-low Usb =
-      row-end (dial-usb-low (piece .«low_hz») (piece .«high_hz») (audio .«low_hz») (audio .«high_hz») margin (P .low) (P .high) (A .low) (A .high) M) (omega arith) (omega arith)
+      row-end (dial-usb-low (piece .«low_hz») (piece .«high_hz») (audio .«low_hz») (audio .«high_hz») margin (P .low) (P .high) (A .low) (A .high) M)
+      (omega arith) (omega arith)
   end-low Lsb =
-      row-end (dial-lsb-low (piece .«low_hz») (piece .«high_hz») (audio .«low_hz») (audio .«high_hz») margin (P .low) (P .high) (A .low) (A .high) M) (omega arith) (omega arith)
+      row-end (dial-lsb-low (piece .«low_hz») (piece .«high_hz») (audio .«low_hz») (audio .«high_hz») margin (P .low) (P .high) (A .low) (A .high) M)
+      (omega arith) (omega arith)
 
   pub end-high : (sideband : Sideband) → RowEnd (dialEndsOf piece sideband audio margin .«high_hz»)
   end-high Usb =
-      row-end (dial-usb-high (piece .«low_hz») (piece .«high_hz») (audio .«low_hz») (audio .«high_hz») margin (P .low) (P .high) (A .low) (A .high) M) (omega arith) (omega arith)
+      row-end (dial-usb-high (piece .«low_hz») (piece .«high_hz») (audio .«low_hz») (audio .«high_hz») margin (P .low) (P .high) (A .low) (A .high) M)
+      (omega arith) (omega arith)
   end-high Lsb =
-      row-end (dial-lsb-high (piece .«low_hz») (piece .«high_hz») (audio .«low_hz») (audio .«high_hz») margin (P .low) (P .high) (A .low) (A .high) M) (omega arith) (omega arith)
+      row-end (dial-lsb-high (piece .«low_hz») (piece .«high_hz») (audio .«low_hz») (audio .«high_hz») margin (P .low) (P .high) (A .low) (A .high) M)
+      (omega arith) (omega arith)

@@ -2,18 +2,16 @@
 -- sideband and a table with channels among them; and for tidy, eighths, the positive width and a dial off the channel band an input that
 -- meets every other premise and breaks the statement. All of it is computed from bytes.
 use Prim.Native.Nat.{ℕ}
-use mathlib.Core.Bool.{Bool, true, false, not, false≢true}
+use mathlib.Core.Bool.{Bool, true, false, not}
 use mathlib.Core.List.{List, [], _∷_, _++_}
 use mathlib.Core.Path.{_≡_, refl, ap}
 use borrow.Author.Tests.{not-true}
 use lib.IntN.{pos}
 use lib.ListN.{replicate, getD}
 use lib.Ieee.{Float, binary64, ofBits, toBits, ofInt, lt, le, eq, ne, neg, add, sub, mul, div}
-use Rattle.figures.specs.Figure.{zeroHz}
+use Rattle.figures.specs.Figure.{zeroHz, readHz}
 use Rattle.scan.specs.First.{firstFrom}
 use Rattle.codes.specs.Refusal.{refusalOf}
-use Rattle.codes.specs.declared.Checked.{Checked}
-use Rattle.codes.specs.declared.Checked.the-variants.{Accepted, Refused}
 use Rattle.layout.specs.Bytes.{u16At, u32At, u64At}
 use Rattle.layout.specs.Layout.{recordsBefore, recordAt, generalOf}
 use Rattle.coded.specs.Coded.{codedOf, codedGeneral}
@@ -21,28 +19,34 @@ use Rattle.find.specs.Question.{asks, soundBits, soundRecord}
 use Rattle.profile.specs.Range.{range}
 use Rattle.image.specs.Check.{codedBlock, miscoded, soundBlock, unsound, bare, unlimited, checkOf}
 use Rattle.table.specs.Table.{recordIn, tableOf}
-use Rattle.tidy.specs.Tidy.{twoShare, tidyTable, tidyOf}
-use Rattle.tidy.specs.declared.Tidiness.{Tidiness}
-use Rattle.tidy.specs.declared.Tidiness.the-variants.{Tidy, Untidy, NotJudged}
+use Rattle.tidy.specs.Tidy.{twoShare, tidyTable}
 use Rattle.station.specs.Station.{codesValid, figuresValid, situationOf}
 use Rattle.station.specs.declared.StationRecord.{StationRecord}
 use Rattle.entry.specs.Entry.{edgesValid, edgesRead}
 use Rattle.occupancy.specs.declared.Edges.{Edges}
 use Rattle.decision.specs.Decision.{noAdvice, finishOf, simpleOf, refusedOf}
-use Rattle.part97.specs.Part97.{draftOf, draftInside, draftAutomatic, privilegedOf, noted, notesUpTo, anyNote, planSays, wantsPlan, guidanceOf, adviceOf, adviceWarns, advised, automaticElsewhere, automaticData, considered, nearestUpTo, overshootOf, outsideSegments, insideSegment, judgeData, allowedOnSixty, sixtyChannel, sixtySegment, sixtyPlace, sixtyEmission, sixtyKind, sixty, judgeOnBand, judgeInBand, touching, judge}
+use Rattle.part97.specs.Part97.{draftOf, draftInside, draftAutomatic, privilegedOf, noted, notesUpTo, anyNote, planSays, wantsPlan}
+use Rattle.part97.specs.Part97.{guidanceOf, adviceOf, adviceWarns, advised, automaticElsewhere, automaticData, considered, nearestUpTo}
+use Rattle.part97.specs.Part97.{overshootOf, outsideSegments, insideSegment, judgeData, allowedOnSixty, sixtyChannel, sixtySegment}
+use Rattle.part97.specs.Part97.{sixtyPlace, sixtyEmission, sixtyKind, sixty, judgeOnBand, judgeInBand, touching, judge}
 use Rattle.verdict.specs.Verdict.{airOf, signalOf, caseOf, readyOf, underRulesOf, unruledOf, decideOf, evaluateOf}
 use Rattle.dials.specs.List.{situationRows, listRows, listTests, answerOf, bytesOf, SafeDials}
 use Rattle.dials.specs.declared.DialList.{DialList}
 use Rattle.dials.specs.declared.DialList.the-variants.{Rows}
-use Rattle.dial_rows.specs.Dials.{requestOf, pieceRows, automaticRows, cutRows, privilegeRows, privilegesRows, segmentRows, dataRows, channelFound, channelRow, channelRows, openRows, rowsOf}
+use Rattle.dial_rows.specs.Dials.{requestOf, pieceRows, automaticRows, cutRows, privilegeRows, privilegesRows}
+use Rattle.dial_rows.specs.Dials.{segmentRows, dataRows, channelFound, channelRow, channelRows, openRows, rowsOf}
 use Rattle.bytes.specs.Bytes.{little}
-use Rattle.lists.specs.Each.{each}
 use Rattle.rows.specs.Rows.{insertRow, insertAll, figuresOf, encodeRow, encodeAll}
+use Rattle.lists.specs.Each.{each}
 use Rattle.eighths.specs.Grid.{inEighths}
 use Rattle.distance.specs.Distance.{isOutside, consideredAt, leastUpTo, distanceOf}
 use Rattle.distance.specs.declared.Distance.{Distance}
 use Rattle.distance.specs.declared.Distance.the-variants.{Hertz, NoneListed}
-use Rattle.demand_3.specs.Words.{recordInEighths, blockInEighths, tableInEighths, edgesInEighths, stationInEighths, hertzInEighths, tuned, accepted, inForce, prerequisitesMet, guardedWidth, positiveWidth, channelBandHolds, onChannelBand, verdictAt, allows, distanceAt, Demand3}
+use Rattle.demand_3.specs.Words.{recordInEighths, blockInEighths, tableInEighths, edgesInEighths, dialInEighths, stationInEighths, tuned}
+use Rattle.demand_3.specs.Words.{audioOf, accepted, rulesInForce, unrefused, prerequisitesMet, guardedWidth, positiveWidth, channelBandHolds}
+use Rattle.demand_3.specs.Words.{onChannelBand, tableMet, stationMet, signalMet, verdictAt, allows, distanceAt, Demand3}
+use Rattle.demand_3.specs.Tests.{and-both}
+use Rattle.demand_3.specs.Grounds.{accepted-of}
 use Rattle.demand_3.specs.Theorem.{demand-3}
 
 -- ---- small tables, put together field by field
@@ -153,11 +157,6 @@ narrow = edges zeroHz (hz 5)
 abbrev lent : List ℕ
 lent = replicate 72 0
 
-abbrev isTidy : Tidiness → Bool
-isTidy Tidy = true
-isTidy Untidy = false
-isTidy (NotJudged n) = false
-
 -- ---- the list call's answer and bytes, and the premises' truth
 
 module _ (r : StationRecord) (e : Edges) (l : List ℕ) where
@@ -170,11 +169,17 @@ module _ (r : StationRecord) (e : Edges) (l : List ℕ) where
   call : SafeDials r 0 e l lent left answer
   call = record { answered = refl; bytes = refl }
 
-  -- tidy, in force, eighths, prerequisites, width, not refused, off the channel band
+  -- of the table: no check refuses it, tidy, in eighths; of the station: Rules, prerequisites, in eighths, the list's own dial too; of the
+  -- signal: in eighths, a positive width; of the dial: not refused, off the channel band
   abbrev premises : Float → List Bool
   premises dial =
-      isTidy (tidyOf l) ∷ inForce r l ∷ hertzInEighths r e (tableOf l) dial ∷ prerequisitesMet (tableOf l) (situationOf (tuned r dial)) ∷ positiveWidth r e (tableOf l)
-      ∷ accepted (verdictAt r 0 e l dial .refusal) ∷ not (onChannelBand r e (tableOf l) dial) ∷ []
+      let table = tableOf l in
+      let s = situationOf r in
+      let there = situationOf (tuned r dial) in
+      let audio = audioOf table (edgesRead e) in
+      unrefused table ∷ tidyTable table ∷ tableInEighths table ∷ rulesInForce there ∷ prerequisitesMet table there ∷ stationInEighths there
+      ∷ dialInEighths (s .dial) ∷ edgesInEighths (edgesRead e) ∷ positiveWidth s audio ∷ accepted (verdictAt r 0 e l dial .refusal)
+      ∷ not (onChannelBand table s audio (readHz dial)) ∷ []
 
   -- what an input comes to
   record Outcome (dial : Float) (count : ℕ) (met : List Bool) (distance : Distance) (allowed : Bool) : Type 0 where
@@ -184,37 +189,28 @@ module _ (r : StationRecord) (e : Edges) (l : List ℕ) where
     verdict-is : allows (verdictAt r 0 e l dial) ≡ allowed
 
 abbrev all : List Bool
-all = true ∷ true ∷ true ∷ true ∷ true ∷ true ∷ true ∷ []
+all = replicate 11 true
 
 -- ---- every premise met is demand 3's premises
 
 abbrev at : ℕ → List Bool → Bool
 at n bs = getD bs n false
 
-tidy-yes : (t : Tidiness) → isTidy t ≡ true → t ≡ Tidy
-tidy-yes Tidy e = refl
-tidy-yes Untidy e = absurd (false≢true e)
-tidy-yes (NotJudged n) e = absurd (false≢true e)
-
-accepted-yes : (c : Checked) → accepted c ≡ true → c ≡ Accepted
-accepted-yes Accepted e = refl
-accepted-yes (Refused n) e = absurd (false≢true e)
-
 -- So the statement holds of such an input.
 holds :
     (r : StationRecord) (e : Edges) (l : List ℕ) (dial : Float) (count : ℕ) (distance : Distance) (allowed : Bool)
     → Outcome r e l dial count all distance allowed → Demand3 r 0 e l count (left r e l) dial
+unfolding tableMet stationMet signalMet
 holds r e l dial count distance allowed o =
     demand-3 r 0 e l lent (left r e l) (answer r e l) count dial (call r e l)
     (record {
-      tidy = tidy-yes (tidyOf l) (ap (at 0) (o .premises-are));
-      in-force = ap (at 1) (o .premises-are);
-      eighths = ap (at 2) (o .premises-are);
-      prerequisites = ap (at 3) (o .premises-are);
-      width = ap (at 4) (o .premises-are);
+      table = and-both _ _ (ap (at 0) (o .premises-are)) (and-both _ _ (ap (at 1) (o .premises-are)) (ap (at 2) (o .premises-are)));
+      station = and-both _ _ (ap (at 3) (o .premises-are)) (and-both _ _ (ap (at 4) (o .premises-are)) (ap (at 5) (o .premises-are)));
+      own-dial = ap (at 6) (o .premises-are);
+      signal = and-both _ _ (ap (at 7) (o .premises-are)) (ap (at 8) (o .premises-are));
       fitted = o .fitted;
-      not-refused = accepted-yes (verdictAt r 0 e l dial .refusal) (ap (at 5) (o .premises-are));
-      off-channels = not-true (onChannelBand r e (tableOf l) dial) (ap (at 6) (o .premises-are));
+      not-refused = accepted-of (verdictAt r 0 e l dial .refusal) (ap (at 9) (o .premises-are));
+      off-channels = not-true _ (ap (at 10) (o .premises-are));
     })
 
 -- ---- computed
@@ -230,7 +226,7 @@ unfolding
     simpleOf finishOf noAdvice edgesRead edgesValid situationOf codesValid figuresValid checkOf codedBlock miscoded soundBlock unsound bare
     unlimited asks soundBits soundRecord codedOf codedGeneral recordsBefore recordAt generalOf u16At u32At u64At firstFrom lt le eq ne neg add
     sub mul div ofInt ofBits recordIn tidyTable twoShare inEighths recordInEighths blockInEighths tableInEighths edgesInEighths stationInEighths
-    hertzInEighths tuned inForce prerequisitesMet guardedWidth positiveWidth channelBandHolds onChannelBand isOutside consideredAt leastUpTo
+    tuned prerequisitesMet guardedWidth positiveWidth channelBandHolds onChannelBand isOutside consideredAt leastUpTo
     distanceOf
 opened = tt
 
@@ -284,23 +280,23 @@ beside-away = record { premises-are = refl; fitted = refl; distance-is = refl; v
 -- ---- inputs that meet every premise but one
 
 -- without tidy: the list goes by any privilege that allows data, the verdict by the first that holds
-without-tidy : Outcome usual narrow untidy (hz 30) 1 (false ∷ true ∷ true ∷ true ∷ true ∷ true ∷ true ∷ []) (Hertz zeroHz) false
+without-tidy : Outcome usual narrow untidy (hz 30) 1 (true ∷ false ∷ replicate 9 true) (Hertz zeroHz) false
 unfolding opened
 without-tidy = record { premises-are = refl; fitted = refl; distance-is = refl; verdict-is = refl }
 
 -- without eighths: margin 12.200000000000001, edges 0.3–0.7, dial 31.9 is listed and blocked
 without-eighths :
     Outcome (station 0 0 (ofBits binary64 0x4028666666666667)) (edges (ofBits binary64 0x3fd3333333333333) (ofBits binary64 0x3fe6666666666666)) broad
-    (ofBits binary64 0x403fe66666666666) 1 (true ∷ true ∷ false ∷ true ∷ true ∷ true ∷ true ∷ []) (Hertz zeroHz) false
+    (ofBits binary64 0x403fe66666666666) 1 (replicate 5 true ++ (false ∷ true ∷ false ∷ replicate 3 true)) (Hertz zeroHz) false
 unfolding opened
 without-eighths = record { premises-are = refl; fitted = refl; distance-is = refl; verdict-is = refl }
 
 -- without the positive width: privilege and segment share one figure, where no stretch is listed and data is allowed
-without-width : Outcome usual (edges zeroHz zeroHz) meeting (hz 20) 0 (true ∷ true ∷ true ∷ true ∷ false ∷ true ∷ true ∷ []) NoneListed true
+without-width : Outcome usual (edges zeroHz zeroHz) meeting (hz 20) 0 (replicate 8 true ++ (false ∷ replicate 2 true)) NoneListed true
 unfolding opened
 without-width = record { premises-are = refl; fitted = refl; distance-is = refl; verdict-is = refl }
 
 -- without a dial off the channel band: a channel allows data, and its rows do not count
-without-channels : Outcome usual narrow channelled (hz 88) 2 (true ∷ true ∷ true ∷ true ∷ true ∷ true ∷ false ∷ []) NoneListed true
+without-channels : Outcome usual narrow channelled (hz 88) 2 (replicate 10 true ++ (false ∷ [])) NoneListed true
 unfolding opened
 without-channels = record { premises-are = refl; fitted = refl; distance-is = refl; verdict-is = refl }

@@ -2,12 +2,10 @@
 -- excluded, the first data segment that holds it is not too narrow, the first privilege that holds it allows data, and 97.221 is met.
 use Prim.Native.Nat.{ℕ}
 use mathlib.Core.Bool.{Bool, true, false, not, cond, _&&_, _||_, true≢false, false≢true}
-use mathlib.Core.List.{List}
 use mathlib.Core.Path.{_≡_, refl, sym, ap, _∙_}
 use lib.Dec.{eqb}
 use borrow.Author.Tests.{eqb-true, eq-eqb}
 use lib.Ieee.{Float, lt, le}
-use Rattle.figures.specs.Figure.{figureOf}
 use Rattle.codes.specs.Code.{bitOf}
 use Rattle.codes.specs.declared.EmissionKind.{EmissionKind}
 use Rattle.codes.specs.declared.EmissionKind.the-variants.{Data}
@@ -18,11 +16,12 @@ use Rattle.scan.specs.declared.Found.the-variants.{At, Nothing}
 use Rattle.layout.specs.Layout.{bands, segments, automatic, excluded}
 use Rattle.layout.specs.declared.General.{General}
 use Rattle.table.specs.Table.{Table}
-use Rattle.table.specs.Parts.{spanOf, excludedOf, elsewhereOf, channelsOf, channelSidebandOf}
+use Rattle.table.specs.Parts.{spanOf, excludedOf, elsewhereOf, channelsOf}
 use Rattle.table.specs.declared.Segment.{Segment}
 use Rattle.table.specs.declared.ElsewhereRule.{ElsewhereRule}
 use Rattle.table.specs.declared.ElsewhereRule.the-variants.{Under, Nowhere}
 use Rattle.table.specs.declared.Channels.{Channels}
+use Rattle.table.specs.declared.ChannelBand.{ChannelBand}
 use Rattle.table.specs.declared.ChannelBand.the-variants.{On, NoChannels}
 use Rattle.find.specs.Question.{firstIn, someIn}
 use Rattle.find.specs.declared.Question.the-variants.{Holds, OfBand}
@@ -31,11 +30,14 @@ use Rattle.decision.specs.Number.{§97-301, §97-305c, §97-307f9}
 use Rattle.decision.specs.Decision.{noAdvice, finishOf, simpleOf}
 use Rattle.decision.specs.declared.Verdict.the-variants.{Blocked}
 use Rattle.decision.specs.declared.Code.{Code}
-use Rattle.decision.specs.declared.Code.the-variants.{OutOfBand, AutomaticExcluded, TooWide, OutsideDataSegment, NoDataHere, Privilege, Permitted, AutomaticSegment, AutomaticBandwidth, AutomaticOriginate, AutomaticResponse}
+use Rattle.decision.specs.declared.Code.the-variants.{OutOfBand, AutomaticExcluded, TooWide, OutsideDataSegment, NoDataHere, Privilege}
+use Rattle.decision.specs.declared.Code.the-variants.{Permitted, AutomaticSegment, AutomaticBandwidth, AutomaticOriginate, AutomaticResponse}
 use Rattle.decision.specs.declared.BandNumber.the-variants.{Band}
 use Rattle.decision.specs.declared.Draft.{Draft}
 use Rattle.decision.specs.declared.Decision.{Decision}
-use Rattle.part97.specs.Part97.{bandAt, segmentAt, limitFor, tooWide, warned, adviceWarns, automaticRule, draftOf, draftInside, draftAutomatic, privilegedOf, underPrivilege, advised, advisedAutomatic, automaticElsewhere, automaticData, nearestUpTo, onNearest, outsideSegments, overshootOf, insideSegment, judgeData, offSixty, sixty, judgeOnBand, judgeInBand, touching, judge}
+use Rattle.part97.specs.Part97.{bandAt, segmentAt, limitFor, tooWide, warned, adviceWarns, automaticRule, draftOf, draftInside, draftAutomatic}
+use Rattle.part97.specs.Part97.{privilegedOf, underPrivilege, advised, advisedAutomatic, automaticElsewhere, automaticData, nearestUpTo, onNearest}
+use Rattle.part97.specs.Part97.{outsideSegments, overshootOf, insideSegment, judgeData, offSixty, sixty, judgeOnBand, judgeInBand, touching, judge}
 use Rattle.part97.specs.declared.Case.{Case}
 use Rattle.part97.specs.declared.Nearest.{Nearest}
 use Rattle.part97.specs.declared.Nearest.the-variants.{Near, NoneNear}
@@ -58,8 +60,16 @@ advised-sent table c r d code rule = go (adviceWarns table c r)
     go true = refl
     go false = refl
 
-eqb-sym : (a b : ℕ) → eqb a b ≡ true → eqb b a ≡ true
-eqb-sym a b e = eq-eqb b a (sym (eqb-true a b e))
+-- The channels that a table has are of the channel band.
+pub by-channels :
+    (g : General) (P : ChannelBand → Type 0) → ((c : Channels) → isOutside (g .flags) (g .«channel_band») (c .band) ≡ false → P (On c))
+    → P NoChannels → P (channelsOf g)
+unfolding isOutside
+by-channels g P on none = go (bitOf (g .flags) 2) _ refl refl
+  where
+    go : (b : Bool) (here : Channels) → bitOf (g .flags) 2 ≡ b → here .band ≡ g .«channel_band» → P (cond b (On here) NoChannels)
+    go true here e f = on here (rw e (rw (eq-eqb (here .band) (g .«channel_band») f)))
+    go false here e f = none
 
 -- the limit of 97.221(c) compares with a width both ways
 abbrev pub Comparable : ElsewhereRule → Float → Type 0
@@ -78,7 +88,10 @@ module _ (table : Table) (c : Case) where
     where
       go :
           (a b r : Bool)
-          → allows (cond a (simpleOf draft Blocked AutomaticBandwidth (e .rule)) (cond (b && not r) (simpleOf draft Blocked AutomaticOriginate (e .rule)) (advisedAutomatic table c draft AutomaticResponse (e .rule))))
+          → allows
+          (cond a (simpleOf draft Blocked AutomaticBandwidth (e .rule))
+          (cond (b && not r) (simpleOf draft Blocked AutomaticOriginate (e .rule))
+          (advisedAutomatic table c draft AutomaticResponse (e .rule))))
           ≡ (not a && (r || not b))
       go true b r = simple-blocked draft _ (e .rule)
       go false true true = advised-sent table c (c .advised) draft AutomaticResponse (e .rule)
@@ -216,45 +229,34 @@ module _ (table : Table) (c : Case) where
   -- ---- the band
 
   -- off the channel band
-  on-band : (g : General) (band : ℕ) → isOutside (g .flags) (g .«channel_band») band ≡ true → judgeOnBand table c band (channelsOf g) ≡ offSixty table c band (c .kind)
-  unfolding judgeOnBand isOutside
-  on-band g band o = go (bitOf (g .flags) 2) o
+  on-band :
+      (g : General) (band : ℕ) → isOutside (g .flags) (g .«channel_band») band ≡ true
+      → judgeOnBand table c band (channelsOf g) ≡ offSixty table c band (c .kind)
+  unfolding judgeOnBand
+  on-band g band o =
+      by-channels g (λ x. judgeOnBand table c band x ≡ offSixty table c band (c .kind)) (λ ch own. go ch own (eqb (ch .band) band) refl) refl
     where
-      here : Channels
-      here =
-          record {
-            band = g .«channel_band»;
-            rule = g .«channels_rule»;
-            «width_hz» = figureOf (g .«channel_width»);
-            «carrier_offset_hz» = figureOf (g .«carrier_offset»);
-            «carrier_tolerance_hz» = figureOf (g .«carrier_tolerance»);
-            sideband = channelSidebandOf g;
-          }
-
-      other : (b : Bool) → eqb (g .«channel_band») band ≡ b → not (eqb band (g .«channel_band»)) ≡ true → cond b (sixty table c here) (offSixty table c band (c .kind)) ≡ offSixty table c band (c .kind)
-      other true e n = absurd (false≢true (sym (ap not (eqb-sym (g .«channel_band») band e)) ∙ n))
-      other false e n = refl
-
       go :
-          (b : Bool) → not (b && eqb band (g .«channel_band»)) ≡ true
-          → judgeOnBand table c band (cond b (On here) NoChannels) ≡ offSixty table c band (c .kind)
-      go true n = other (eqb (g .«channel_band») band) refl n
-      go false n = refl
+          (ch : Channels) → isOutside (g .flags) (g .«channel_band») (ch .band) ≡ false → (b : Bool) → eqb (ch .band) band ≡ b
+          → cond b (sixty table c ch) (offSixty table c band (c .kind)) ≡ offSixty table c band (c .kind)
+      go ch own true e = absurd (false≢true (sym own ∙ ap (isOutside (g .flags) (g .«channel_band»)) (eqb-true (ch .band) band e) ∙ o))
+      go ch own false e = refl
 
   abbrev excludedHere : ℕ → Bool
   excludedHere band = c .automatic && someIn table excluded (OfBand band)
+
+  abbrev banded : ℕ → Bool → Found → Decision
+  banded band a f =
+      cond a
+      (onFound f (λ x. simpleOf (draftOf c (Band band)) Blocked AutomaticExcluded (excludedOf (table .at excluded x) .rule))
+      (judgeOnBand table c band (channelsOf (table .general))))
+      (judgeOnBand table c band (channelsOf (table .general)))
 
   in-band : (band : ℕ) → excludedHere band ≡ false → judgeInBand table c band ≡ judgeOnBand table c band (channelsOf (table .general))
   unfolding judgeInBand
   in-band band e = go (c .automatic) (firstIn table excluded (OfBand band)) e
     where
-      go :
-          (a : Bool) (f : Found) → (a && isAt f) ≡ false
-          → cond a
-          (onFound f (λ x. simpleOf (draftOf c (Band band)) Blocked AutomaticExcluded (excludedOf (table .at excluded x) .rule))
-          (judgeOnBand table c band (channelsOf (table .general))))
-          (judgeOnBand table c band (channelsOf (table .general)))
-          ≡ judgeOnBand table c band (channelsOf (table .general))
+      go : (a : Bool) (f : Found) → (a && isAt f) ≡ false → banded band a f ≡ judgeOnBand table c band (channelsOf (table .general))
       go true (At i) e = absurd (true≢false e)
       go true Nothing e = refl
       go false f e = refl
@@ -263,15 +265,7 @@ module _ (table : Table) (c : Case) where
   unfolding judgeInBand
   in-band-of band e = go (c .automatic) (firstIn table excluded (OfBand band)) e
     where
-      go :
-          (a : Bool) (f : Found)
-          → allows
-          (cond a
-          (onFound f (λ x. simpleOf (draftOf c (Band band)) Blocked AutomaticExcluded (excludedOf (table .at excluded x) .rule))
-          (judgeOnBand table c band (channelsOf (table .general))))
-          (judgeOnBand table c band (channelsOf (table .general))))
-          ≡ true
-          → (a && isAt f) ≡ false
+      go : (a : Bool) (f : Found) → allows (banded band a f) ≡ true → (a && isAt f) ≡ false
       go true (At i) e =
           absurd (false≢true (sym (simple-blocked (draftOf c (Band band)) AutomaticExcluded (excludedOf (table .at excluded i) .rule)) ∙ e))
       go true Nothing e = refl
@@ -295,7 +289,9 @@ module _ (table : Table) (c : Case) where
     judgedAt f =
         onFound f (λ b. judgeInBand table c (bandAt table b .band)) (simpleOf (draftOf c (touching table c)) Blocked OutOfBand §97-301)
 
-    off-band : (b : ℕ) → firstIn table bands (Holds (c .guarded)) ≡ At b → excludedHere (bandAt table b .band) ≡ false → judgeInBand table c (bandAt table b .band) ≡ offSixty table c (bandAt table b .band) Data
+    off-band :
+        (b : ℕ) → firstIn table bands (Holds (c .guarded)) ≡ At b → excludedHere (bandAt table b .band) ≡ false
+        → judgeInBand table c (bandAt table b .band) ≡ offSixty table c (bandAt table b .band) Data
     off-band b f x =
         in-band (bandAt table b .band) x ∙ on-band (table .general) (bandAt table b .band) (off b f)
         ∙ ap (λ (k : EmissionKind). offSixty table c (bandAt table b .band) k) kind

@@ -9,5 +9,6 @@ pub mod Read
 pub mod Judged
 pub mod Same
 pub mod Grounds
+pub mod Exactly
 pub mod Theorem
 pub mod Examples

@@ -1,7 +1,7 @@
 -- When a dial lies in a row outside the channel band: exactly if some data segment and some privilege that may use it hold the guarded
 -- signal there, and, where the list is cut to them, some automatic segment does.
 use Prim.Native.Nat.{ℕ, _<_}
-use mathlib.Core.Bool.{Bool, true, false, cond, _&&_, _||_, true≢false, false≢true}
+use mathlib.Core.Bool.{Bool, true, false, cond, _&&_, _||_, true≢false, false≢true, or-false}
 use mathlib.Core.List.{List, []}
 use mathlib.Core.Path.{_≡_, refl, sym, _∙_}
 use native.Mathlib.Omega.{arith}
@@ -11,7 +11,7 @@ use Rattle.profile.specs.declared.Range.{Range}
 use Rattle.profile.specs.declared.Shared.the-variants.{Stretch, Nothing}
 use Rattle.air.specs.Air.{rfRangeOf, guardedOf, dialEndsOf}
 use Rattle.air.specs.declared.DialRange.the-variants.{Dials, NoDial}
-use Rattle.scan.specs.First.{first, some, isAt, first-at, first-nothing, some-true}
+use Rattle.scan.specs.First.{first, some, isAt, first-at, some-true, and-true}
 use Rattle.scan.specs.declared.Found.{Found}
 use Rattle.scan.specs.declared.Found.the-variants.{At, Nothing as NotFound}
 use Rattle.layout.specs.Layout.{segments, privileges, automatic, tables}
@@ -26,10 +26,12 @@ use Rattle.eighths.specs.Grid.{Figure}
 use Rattle.lists.specs.Each.{each}
 use Rattle.rows.specs.Order.{anyRow, Index, any-each-in, any-each-of}
 use Rattle.rows.specs.declared.SafeDial.{SafeDial}
-use Rattle.dial_rows.specs.Dials.{dialRows, pieceRows, onShared, automaticAt, automaticRows, cut, cutRows, mayUse, privilegeRows, privilegeAt, privilegesRows, tooWide, excludedBand, segmentRows, segmentAt, dataRows}
+use Rattle.dial_rows.specs.Dials.{dialRows, pieceRows, onShared, automaticAt, automaticRows, cut, cutRows, mayUse, privilegeRows}
+use Rattle.dial_rows.specs.Dials.{privilegeAt, privilegesRows, tooWide, excludedBand, segmentRows, segmentAt, dataRows}
 use Rattle.dial_rows.specs.declared.Request.{Request}
 use Rattle.distance.specs.Distance.{isOutside, counts}
-use Rattle.demand_3.specs.Order.{Grid, grid, le-trans, Ends, Figures, ends, held, held-low, held-high, common-holds, holds-common, share, common-figures, figure-grid}
+use Rattle.demand_3.specs.Order.{Grid, grid, le-trans, Ends, Figures, ends, held, held-low, held-high}
+use Rattle.demand_3.specs.Order.{common-holds, holds-common, share, common-figures, figure-grid}
 use Rattle.demand_3.specs.Dial.{RowEnd, guarded-ends, dial-low, dial-high, end-low, end-high}
 
 -- ---- a scan that found one
@@ -70,11 +72,10 @@ all-yes : {o b m n : Bool} → o ≡ true → b ≡ true → m ≡ true → n �
 all-yes p q r s = rw p (rw q (rw r (rw s)))
 
 all-of : (o b m n : Bool) → (((o && b) && (m && n)) || false) ≡ true → (o ≡ true) × (m ≡ true) × (n ≡ true)
-all-of true true true true e = (refl, refl, refl)
-all-of true true true false e = absurd (false≢true e)
-all-of true true false n e = absurd (false≢true e)
-all-of true false m n e = absurd (false≢true e)
-all-of false b m n e = absurd (false≢true e)
+all-of o b m n e =
+    let both = and-true (o && b) (m && n) (sym (or-false ((o && b) && (m && n))) ∙ e) in
+    let last = and-true m n (both .1) in
+    (and-true o b (both .0) .0, last .0, last .1)
 
 row-end-grid : {x : Float} → RowEnd x → Grid x
 row-end-grid R = grid (R .eighths)
@@ -102,7 +103,9 @@ module _ (flags channel : ℕ) (q : Request) (dial : Float) (D : Figure dial) (M
         (row-end-grid (end-high piece (q .audio) (q .«margin_hz») P A M (q .sideband))) h k
 
     -- A piece that holds the guarded signal has a row, and the dial lies in it.
-    pub piece-in : isOutside flags channel band ≡ true → holdsOf piece (guardedAt q dial) ≡ true → anyRow (lies flags channel dial) (pieceRows q band rule piece) ≡ true
+    pub piece-in :
+        isOutside flags channel band ≡ true → holdsOf piece (guardedAt q dial) ≡ true
+        → anyRow (lies flags channel dial) (pieceRows q band rule piece) ≡ true
     unfolding pieceRows
     piece-in o h =
         let a : low ≡ true = low-as ∙ held-low piece (guardedAt q dial) h in
@@ -162,7 +165,9 @@ module _ (flags channel : ℕ) (q : Request) (dial : Float) (D : Figure dial) (M
     unfolding cutRows automaticRows
     cut-in s piece P o h auto = go (cut q) auto
       where
-        inside : Some (λ i. asks (Holds signal) (table .at automatic i)) (table .count automatic) → listed (each (table .count automatic) (automaticAt table q (s .band) piece)) ≡ true
+        inside :
+            Some (λ i. asks (Holds signal) (table .at automatic i)) (table .count automatic)
+            → listed (each (table .count automatic) (automaticAt table q (s .band) piece)) ≡ true
         inside a =
             any-each-in (lies flags channel dial) (table .count automatic) (automaticAt table q (s .band) piece) (a .index) (a .below)
             (shared-in piece (spanOf (table .at automatic (a .index))) P (S .span automatic (a .index) (omega arith) (a .below))
@@ -224,7 +229,8 @@ module _ (flags channel : ℕ) (q : Request) (dial : Float) (D : Figure dial) (M
     unfolding privilegeRows
     pair-in s p FS FP x =
         rw (x .may-use)
-        (shared-in (s .range) (p .range) FS FP (cutRows table q s) (λ r R k. cut-in s r R (x .outside) k (x .automatic-holds)) (x .segment-holds) (x .privilege-holds))
+        (shared-in (s .range) (p .range) FS FP (cutRows table q s) (λ r R k. cut-in s r R (x .outside) k (x .automatic-holds))
+        (x .segment-holds) (x .privilege-holds))
 
     pair-of : (s : Segment) (p : Privilege) → Figures (s .range) → Figures (p .range) → listed (privilegeRows table q s p) ≡ true → PairOf s p
     unfolding privilegeRows

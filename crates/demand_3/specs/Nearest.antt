@@ -8,7 +8,7 @@ use native.Mathlib.Decide.{decLe}
 use borrow.Author.Tests.{eqb-true, eq-eqb, ne-eqb}
 use lib.Ieee.{Float, binary64, sub, lt, le, eq}
 use Rattle.figures.specs.Figure.{zeroHz}
-use Rattle.scan.specs.First.{some, some-true}
+use Rattle.scan.specs.First.{some, some-true, and-true}
 use Rattle.eighths.specs.Grid.{Figure}
 use Rattle.eighths.specs.Laws.{zero-eighths, eq-eighths}
 use Rattle.exact.specs.Air.{distance, distance-above}
@@ -17,7 +17,7 @@ use Rattle.distance.specs.Distance.{isOutside, counts, distanceTo, nearerOf, co
 use Rattle.distance.specs.declared.Distance.{Distance}
 use Rattle.distance.specs.declared.Distance.the-variants.{Hertz, NoneListed, Refused as NoAnswer}
 use Rattle.demand_3.specs.Words.{nought, answers}
-use Rattle.demand_3.specs.Tests.{and-left, and-right, and-both, same}
+use Rattle.demand_3.specs.Tests.{and-both, same}
 use Rattle.demand_3.specs.Order.{Grid, grid, figure-grid, lt-true, lt-false, le-by-lt}
 use Rattle.demand_3.specs.Dial.{RowEnd}
 use Rattle.demand_3.specs.Listed.{Some, some-index}
@@ -145,7 +145,7 @@ module _ (dial : Float) (flags channel : ℕ) (rows : List ℕ) where
         record { index = n; below = omega arith; passes = and-both (countsAt n) (between dial (lowOf n) (highOf n)) c (sym (N .exactly) ∙ e) }
 
     nought-here : liesAt n ≡ true → eq by zeroHz ≡ true
-    nought-here e = N .exactly ∙ and-right (countsAt n) (between dial (lowOf n) (highOf n)) e
+    nought-here e = N .exactly ∙ and-true (countsAt n) (between dial (lowOf n) (highOf n)) e .1
 
     counted : (best : Distance) → LeastOf best n → LeastOf (nearerOf best by) (suc n)
     counted NoneListed before =
@@ -153,7 +153,7 @@ module _ (dial : Float) (flags channel : ℕ) (rows : List ℕ) where
           size = N .size;
           nought-of = here;
           of-nought = last-or n (λ i. liesAt i ≡ true → eq by zeroHz ≡ true) nought-here
-              (λ i h e. absurd (true≢false (sym (and-left (countsAt i) (between dial (lowOf i) (highOf i)) e) ∙ before i h)));
+              (λ i h e. absurd (true≢false (sym (and-true (countsAt i) (between dial (lowOf i) (highOf i)) e .0) ∙ before i h)));
         }
     counted (NoAnswer k) before = absurd before
     counted (Hertz a) before = go (lt by a) refl
@@ -196,7 +196,7 @@ module _ (dial : Float) (flags channel : ℕ) (rows : List ℕ) where
         size = before .size;
         nought-of = λ e. more (before .nought-of e);
         of-nought = last-or n (λ i. liesAt i ≡ true → eq a zeroHz ≡ true)
-            (λ e. absurd (true≢false (sym (and-left (countsAt n) (between dial (lowOf n) (highOf n)) e) ∙ c)))
+            (λ e. absurd (true≢false (sym (and-true (countsAt n) (between dial (lowOf n) (highOf n)) e .0) ∙ c)))
             (λ i h e. before .of-nought i h e);
       }
 
@@ -207,15 +207,15 @@ module _ (dial : Float) (flags channel : ℕ) (rows : List ℕ) where
       least-of : (n : ℕ) → n ≤ count → LeastOf (leastUpTo dial flags channel rows n) n
       unfolding leastUpTo consideredAt
       least-of zero h = λ i k. absurd (omega arith)
-      least-of (suc n) h = go (countsAt n) refl (least-of n (omega arith))
+      least-of (suc n) h = go (countsAt n) refl (leastUpTo dial flags channel rows n) (least-of n (omega arith))
         where
           go :
-              (b : Bool) → countsAt n ≡ b → LeastOf (leastUpTo dial flags channel rows n) n
-              → LeastOf (cond b (nearerOf (leastUpTo dial flags channel rows n) (distanceTo dial (lowOf n) (highOf n))) (leastUpTo dial flags channel rows n)) (suc n)
-          go true c before =
-              let e = E n (omega arith) (and-left (isOutside flags channel (bandOf n)) (le (lowOf n) (highOf n)) c) in
-              counted n c (row-near dial (lowOf n) (highOf n) D (e .0) (e .1)) (leastUpTo dial flags channel rows n) before
-          go false c before = passed n c (leastUpTo dial flags channel rows n) before
+              (b : Bool) → countsAt n ≡ b → (best : Distance) → LeastOf best n
+              → LeastOf (cond b (nearerOf best (distanceTo dial (lowOf n) (highOf n))) best) (suc n)
+          go true c best before =
+              let e = E n (omega arith) (and-true (isOutside flags channel (bandOf n)) (le (lowOf n) (highOf n)) c .0) in
+              counted n c (row-near dial (lowOf n) (highOf n) D (e .0) (e .1)) best before
+          go false c best before = passed n c best before
 
       -- Nought exactly if the dial lies in a row that counts.
       pub least-nought : nought (leastUpTo dial flags channel rows count) ≡ some liesAt count
@@ -231,7 +231,7 @@ module _ (dial : Float) (flags channel : ℕ) (rows : List ℕ) where
               let s = some-index liesAt count e in
               absurd
               (true≢false
-              (sym (and-left (countsAt (s .index)) (between dial (lowOf (s .index)) (highOf (s .index))) (s .passes)) ∙ L (s .index) (s .below))))
+              (sym (and-true (countsAt (s .index)) (between dial (lowOf (s .index)) (highOf (s .index))) (s .passes) .0) ∙ L (s .index) (s .below))))
           go (NoAnswer k) L = absurd L
 
   -- None listed if no row counts.

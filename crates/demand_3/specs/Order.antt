@@ -3,14 +3,15 @@ use Prim.Native.Nat.{ℕ, _+_, _≤_, _<_}
 use mathlib.Core.Bool.{Bool, true, false, not, cond}
 use mathlib.Core.Path.{_≡_, refl, sym, ap, _∙_}
 use native.Mathlib.Omega.{arith}
-use borrow.Author.Tests.{leb-true, le-leb, ltb-true, ltb-false, lt-ltb, le-ltb, eq-eqb}
+use borrow.Author.Tests.{leb-true, le-leb, ltb-true, ltb-false, lt-ltb, eq-eqb}
 use lib.Ieee.{Float, lt, le, ne}
 use Rattle.figures.specs.Figure.{minOf, maxOf}
 use Rattle.profile.specs.Range.{holdsOf, lengthy, commonOf}
 use Rattle.profile.specs.declared.Range.{Range}
+use Rattle.scan.specs.First.{and-true}
 use Rattle.eighths.specs.Grid.{Figure, Eighths}
 use Rattle.eighths.specs.Laws.{lt-eighths, le-eighths, eq-eighths}
-use Rattle.demand_3.specs.Tests.{and-left, and-right, and-both}
+use Rattle.demand_3.specs.Tests.{and-both}
 
 -- ---- a figure on the grid: above less below, in eighths
 
@@ -40,9 +41,6 @@ module _ {x y : Float} (X : Grid x) (Y : Grid y) where
 
   pub lt-false : lt x y ≡ false → Y .above + X .below ≤ X .above + Y .below
   lt-false h = ltb-false _ _ (sym (lt-eighths (X .eighths) (Y .eighths)) ∙ h)
-
-  pub not-lt-of : Y .above + X .below ≤ X .above + Y .below → lt x y ≡ false
-  not-lt-of h = lt-eighths (X .eighths) (Y .eighths) ∙ le-ltb _ _ h
 
 -- at most, or above
 pub le-by-lt : {x y : Float} → Grid x → Grid y → le x y ≡ not (lt y x)
@@ -79,6 +77,20 @@ module _ {x y : Float} (X : Grid x) (Y : Grid y) (P : Float → Type 0) where
       go true e = f e
       go false e = g e
 
+-- what is at least the greater is at least both, and what is at most the lesser at most both
+module _ {x y z : Float} (X : Grid x) (Y : Grid y) (Z : Grid z) where
+  max-le : le (maxOf x y) z ≡ true → (le x z ≡ true) × (le y z ≡ true)
+  max-le =
+      by-max X Y (λ w. le w z ≡ true → (le x z ≡ true) × (le y z ≡ true))
+      (λ e l. (le-of X Z (omega (arith, lt-true X Y e, le-true Y Z l)), l))
+      (λ e l. (l, le-of Y Z (omega (arith, lt-false X Y e, le-true X Z l))))
+
+  le-min : le z (minOf x y) ≡ true → (le z x ≡ true) × (le z y ≡ true)
+  le-min =
+      by-min X Y (λ w. le z w ≡ true → (le z x ≡ true) × (le z y ≡ true))
+      (λ e l. (le-of Z X (omega (arith, lt-true Y X e, le-true Z Y l)), l))
+      (λ e l. (l, le-of Z Y (omega (arith, lt-false Y X e, le-true Z X l))))
+
 -- ---- ranges on the grid
 
 pub record Ends (r : Range) : Type 0 where
@@ -95,10 +107,10 @@ ends F = record { low = figure-grid (F .low); high = figure-grid (F .high) }
 
 -- both ends of a range that lies in another
 pub held-low : (r a : Range) → holdsOf r a ≡ true → le (r .«low_hz») (a .«low_hz») ≡ true
-held-low r a h = and-left (le (r .«low_hz») (a .«low_hz»)) (le (a .«high_hz») (r .«high_hz»)) h
+held-low r a h = and-true (le (r .«low_hz») (a .«low_hz»)) (le (a .«high_hz») (r .«high_hz»)) h .0
 
 pub held-high : (r a : Range) → holdsOf r a ≡ true → le (a .«high_hz») (r .«high_hz») ≡ true
-held-high r a h = and-right (le (r .«low_hz») (a .«low_hz»)) (le (a .«high_hz») (r .«high_hz»)) h
+held-high r a h = and-true (le (r .«low_hz») (a .«low_hz»)) (le (a .«high_hz») (r .«high_hz»)) h .1
 
 pub held : (r a : Range) → le (r .«low_hz») (a .«low_hz») ≡ true → le (a .«high_hz») (r .«high_hz») ≡ true → holdsOf r a ≡ true
 held r a h k = and-both (le (r .«low_hz») (a .«low_hz»)) (le (a .«high_hz») (r .«high_hz»)) h k
@@ -120,33 +132,9 @@ module _ (a b c : Range) (A : Ends a) (B : Ends b) (C : Ends c) where
 
   pub holds-common : holdsOf (commonOf a b) c ≡ true → (holdsOf a c ≡ true) × (holdsOf b c ≡ true)
   holds-common h =
-      let low = held-low (commonOf a b) c h in
-      let high = held-high (commonOf a b) c h in
-      (held a c (low-left low) (high-left high), held b c (low-right low) (high-right high))
-    where
-      low-left : le (maxOf (a .«low_hz») (b .«low_hz»)) (c .«low_hz») ≡ true → le (a .«low_hz») (c .«low_hz») ≡ true
-      low-left =
-          by-max (A .low) (B .low) (λ x. le x (c .«low_hz») ≡ true → le (a .«low_hz») (c .«low_hz») ≡ true)
-          (λ e l. le-of (A .low) (C .low) (omega (arith, lt-true (A .low) (B .low) e, le-true (B .low) (C .low) l)))
-          (λ e l. l)
-
-      low-right : le (maxOf (a .«low_hz») (b .«low_hz»)) (c .«low_hz») ≡ true → le (b .«low_hz») (c .«low_hz») ≡ true
-      low-right =
-          by-max (A .low) (B .low) (λ x. le x (c .«low_hz») ≡ true → le (b .«low_hz») (c .«low_hz») ≡ true)
-          (λ e l. l)
-          (λ e l. le-of (B .low) (C .low) (omega (arith, lt-false (A .low) (B .low) e, le-true (A .low) (C .low) l)))
-
-      high-left : le (c .«high_hz») (minOf (a .«high_hz») (b .«high_hz»)) ≡ true → le (c .«high_hz») (a .«high_hz») ≡ true
-      high-left =
-          by-min (A .high) (B .high) (λ x. le (c .«high_hz») x ≡ true → le (c .«high_hz») (a .«high_hz») ≡ true)
-          (λ e l. le-of (C .high) (A .high) (omega (arith, lt-true (B .high) (A .high) e, le-true (C .high) (B .high) l)))
-          (λ e l. l)
-
-      high-right : le (c .«high_hz») (minOf (a .«high_hz») (b .«high_hz»)) ≡ true → le (c .«high_hz») (b .«high_hz») ≡ true
-      high-right =
-          by-min (A .high) (B .high) (λ x. le (c .«high_hz») x ≡ true → le (c .«high_hz») (b .«high_hz») ≡ true)
-          (λ e l. l)
-          (λ e l. le-of (C .high) (B .high) (omega (arith, lt-false (B .high) (A .high) e, le-true (C .high) (A .high) l)))
+      let low = max-le (A .low) (B .low) (C .low) (held-low (commonOf a b) c h) in
+      let high = le-min (A .high) (B .high) (C .high) (held-high (commonOf a b) c h) in
+      (held a c (low .0) (high .0), held b c (low .1) (high .1))
 
   -- Two ranges that hold a range of positive length share a stretch of positive length.
   pub share : lengthy c ≡ true → holdsOf a c ≡ true → holdsOf b c ≡ true → lengthy (commonOf a b) ≡ true

@@ -11,9 +11,9 @@ use Rattle.figures.specs.Figure.{zeroHz}
 use Rattle.profile.specs.Range.{range}
 use Rattle.scan.specs.First.{some, some-true}
 use Rattle.eighths.specs.Grid.{Figure}
+use Rattle.rows.specs.Rows.{rowSize, encodeAll, sorted, lowAt, highAt, bandAt}
 use Rattle.lists.specs.Each.{Every}
-use Rattle.rows.specs.Rows.{rowSize, encodeAll, lowAt, highAt, bandAt}
-use Rattle.rows.specs.Order.{anyRow}
+use Rattle.rows.specs.Order.{anyRow, any-sorted, length-sorted, every-sorted}
 use Rattle.rows.specs.Read.{low-of, high-of, band-of}
 use Rattle.rows.specs.declared.SafeDial.{SafeDial}
 use Rattle.dial_rows.specs.Laws.{DialsFit}
@@ -22,7 +22,7 @@ use Rattle.demand_3.specs.Tests.{or-left, or-right, same}
 use Rattle.demand_3.specs.Words.{nought}
 use Rattle.demand_3.specs.Dial.{RowEnd}
 use Rattle.demand_3.specs.Listed.{Some, some-index, lies}
-use Rattle.demand_3.specs.Rows.{RowEnds}
+use Rattle.demand_3.specs.Rows.{Counted}
 use Rattle.demand_3.specs.Nearest.{liesAt, least-nought}
 
 -- a row for places past the end
@@ -50,7 +50,7 @@ any-of test (x ∷ xs) e = go (test x) refl (any-of test xs) e
     go true p next q = record { index = 0; below = omega arith; passes = p }
     go false p next q = let s = next q in record { index = suc (s .index); below = omega (arith, s .below); passes = s .passes }
 
-module _ (dial : Float) (flags channel : ℕ) (D : Figure dial) (ys : List SafeDial) (rest : List ℕ) (F : Every DialsFit ys) where
+module _ (dial : Float) (flags channel : ℕ) (ys : List SafeDial) (rest : List ℕ) (F : Every DialsFit ys) where
   abbrev bytes : List ℕ
   bytes = encodeAll ys ++ rest
 
@@ -67,17 +67,31 @@ module _ (dial : Float) (flags channel : ℕ) (D : Figure dial) (ys : List SafeD
     lies-is : liesAt dial flags channel bytes i ≡ lies flags channel dial (getD ys i noRow)
     lies-is = rw low-is (rw high-is (rw band-is))
 
-  module _ (E : Every (λ x. isOutside flags channel (x .band) ≡ true → RowEnds x) ys) where
-    pub rows-nought : nought (leastUpTo dial flags channel bytes (length ys)) ≡ anyRow (lies flags channel dial) ys
-    rows-nought =
-        least-nought dial flags channel bytes (length ys) D
-        (λ i h o.
-        let r = every-get (λ x. isOutside flags channel (x .band) ≡ true → RowEnds x) ys E i h (ap (λ (b : ℕ). isOutside flags channel b) (sym (band-is i h)) ∙ o) in
-        (subst RowEnd (sym (low-is i h)) (r .low), subst RowEnd (sym (high-is i h)) (r .high)))
-        ∙ same (some (liesAt dial flags channel bytes) (length ys)) (anyRow (lies flags channel dial) ys)
-        (λ e.
-        let s = some-index (liesAt dial flags channel bytes) (length ys) e in
-        any-in (lies flags channel dial) ys (s .index) (s .below) (sym (lies-is (s .index) (s .below)) ∙ s .passes))
-        (λ e.
-        let s = any-of (lies flags channel dial) ys e in
-        some-true (liesAt dial flags channel bytes) (length ys) (s .index) (s .below) (lies-is (s .index) (s .below) ∙ s .passes))
+  -- whether the dial lies in a row that counts, of the bytes
+  pub lies-read : some (liesAt dial flags channel bytes) (length ys) ≡ anyRow (lies flags channel dial) ys
+  lies-read =
+      same (some (liesAt dial flags channel bytes) (length ys)) (anyRow (lies flags channel dial) ys)
+      (λ e.
+      let s = some-index (liesAt dial flags channel bytes) (length ys) e in
+      any-in (lies flags channel dial) ys (s .index) (s .below) (sym (lies-is (s .index) (s .below)) ∙ s .passes))
+      (λ e.
+      let s = any-of (lies flags channel dial) ys e in
+      some-true (liesAt dial flags channel bytes) (length ys) (s .index) (s .below) (lies-is (s .index) (s .below) ∙ s .passes))
+
+  -- So the distance is nought exactly then.
+  rows-nought : Figure dial → Every (Counted flags channel) ys → nought (leastUpTo dial flags channel bytes (length ys)) ≡ anyRow (lies flags channel dial) ys
+  rows-nought D E =
+      least-nought dial flags channel bytes (length ys) D
+      (λ i h o.
+      let r = every-get (Counted flags channel) ys E i h (ap (isOutside flags channel) (sym (band-is i h)) ∙ o) in
+      (subst RowEnd (sym (low-is i h)) (r .low), subst RowEnd (sym (high-is i h)) (r .high)))
+      ∙ lies-read
+
+-- The same of the rows in their order, as the list call leaves them.
+pub sorted-nought :
+    (dial : Float) (flags channel : ℕ) → Figure dial → (xs : List SafeDial) (rest : List ℕ) → Every DialsFit xs → Every (Counted flags channel) xs
+    → nought (leastUpTo dial flags channel (encodeAll (sorted xs) ++ rest) (length xs)) ≡ anyRow (lies flags channel dial) xs
+sorted-nought dial flags channel D xs rest F E =
+    ap (λ (n : ℕ). nought (leastUpTo dial flags channel (encodeAll (sorted xs) ++ rest) n)) (sym (length-sorted xs))
+    ∙ rows-nought dial flags channel (sorted xs) rest (every-sorted DialsFit xs F) D (every-sorted (Counted flags channel) xs E)
+    ∙ any-sorted (lies flags channel dial) xs

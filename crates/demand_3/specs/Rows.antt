@@ -1,36 +1,34 @@
 -- The whole list: no channel row counts, so a dial lies in a row that counts exactly if it lies in a data row; and both dials of every
 -- row that counts are on the grid.
 use Prim.Native.Nat.{ℕ, zero, suc, _<_}
-use mathlib.Core.Bool.{Bool, true, false, cond, _&&_, _||_, true≢false}
+use mathlib.Core.Bool.{Bool, true, false, cond, _&&_, _||_, true≢false, or-false}
 use mathlib.Core.List.{List, [], _∷_}
-use mathlib.Core.Path.{_≡_, refl, sym, _∙_}
+use mathlib.Core.Path.{_≡_, refl, sym, ap, _∙_}
 use native.Mathlib.Omega.{arith}
 use lib.Ieee.{Float, le}
-use borrow.Author.Tests.{eq-eqb}
-use Rattle.figures.specs.Figure.{figureOf}
-use Rattle.codes.specs.Code.{bitOf}
 use Rattle.profile.specs.Range.{lengthy, commonOf, intersectOf}
 use Rattle.profile.specs.declared.Range.{Range}
 use Rattle.profile.specs.declared.Shared.the-variants.{Stretch, Nothing}
 use Rattle.air.specs.Air.{dialEndsOf}
 use Rattle.air.specs.declared.DialRange.the-variants.{Dials, NoDial}
 use Rattle.layout.specs.Layout.{segments, channels, privileges, automatic}
-use Rattle.layout.specs.declared.General.{General}
 use Rattle.table.specs.Table.{Table}
-use Rattle.table.specs.Parts.{spanOf, segmentOf, privilegeOf, channelsOf, channelSidebandOf, centreOf}
+use Rattle.table.specs.Parts.{spanOf, segmentOf, privilegeOf, channelsOf, centreOf}
 use Rattle.table.specs.declared.Segment.{Segment}
 use Rattle.table.specs.declared.Channels.{Channels}
-use Rattle.table.specs.declared.ChannelBand.the-variants.{On, NoChannels}
 use Rattle.eighths.specs.Grid.{Figure}
 use Rattle.lists.specs.Each.{Every, each, every-append, every-map}
 use Rattle.rows.specs.Order.{anyRow, any-append}
 use Rattle.rows.specs.declared.SafeDial.{SafeDial}
-use Rattle.dial_rows.specs.Dials.{dialRows, pieceRows, onShared, automaticAt, automaticRows, cut, cutRows, mayUse, privilegeRows, privilegeAt, privilegesRows, tooWide, excludedBand, segmentRows, segmentAt, dataRows, channelSafe, channelHolds, channelRow, channelAt, channelRows, channelsOpen, channelFound, openRows, bandRows, rowsOf}
+use Rattle.dial_rows.specs.Dials.{dialRows, pieceRows, onShared, automaticAt, automaticRows, cut, cutRows, mayUse, privilegeRows, privilegeAt}
+use Rattle.dial_rows.specs.Dials.{privilegesRows, tooWide, excludedBand, segmentRows, segmentAt, dataRows, channelSafe, channelHolds}
+use Rattle.dial_rows.specs.Dials.{channelRow, channelAt, channelRows, channelsOpen, channelFound, openRows, bandRows, rowsOf}
 use Rattle.dial_rows.specs.declared.Request.{Request}
 use Rattle.distance.specs.Distance.{isOutside}
 use Rattle.demand_3.specs.Order.{Figures, common-figures}
 use Rattle.demand_3.specs.Dial.{RowEnd, end-low, end-high}
 use Rattle.demand_3.specs.Listed.{lies, Spans}
+use Rattle.demand_3.specs.Judged.{by-channels}
 
 -- What fails of every row fails of the list.
 pub any-none : (test : SafeDial → Bool) (xs : List SafeDial) → Every (λ x. test x ≡ false) xs → anyRow test xs ≡ false
@@ -53,45 +51,21 @@ every-cond P false xs ys p q = q
 abbrev pub OnChannels : Table → SafeDial → Type 0
 OnChannels table x = isOutside (table .general .flags) (table .general .«channel_band») (x .band) ≡ false
 
-own-band : (flags channel : ℕ) → bitOf flags 2 ≡ true → isOutside flags channel channel ≡ false
-unfolding isOutside
-own-band flags channel e = rw e (rw (eq-eqb channel channel refl))
-
-channel-rows : (P : SafeDial → Type 0) (table : Table) (q : Request) (c : Channels) → ((centre : Float) → P (channelSafe c centre)) → Every P (openRows table q c)
+channel-rows :
+    (P : SafeDial → Type 0) (table : Table) (q : Request) (c : Channels) → ((centre : Float) → P (channelSafe c centre))
+    → Every P (openRows table q c)
 unfolding openRows channelRows channelRow
 channel-rows P table q c h =
     every-cond P (channelsOpen q && channelFound table q) (each (table .count channels) (channelAt table q c)) []
     (every-below P (table .count channels) (channelAt table q c)
-    (λ i _. every-cond P (channelHolds q c (centreOf (table .at channels i))) (channelSafe c (centreOf (table .at channels i)) ∷ []) [] (h (centreOf (table .at channels i)), tt) tt))
+    (λ i _.
+    let centre = centreOf (table .at channels i) in
+    every-cond P (channelHolds q c centre) (channelSafe c centre ∷ []) [] (h centre, tt) tt))
     tt
 
 pub band-rows : (table : Table) (q : Request) → Every (OnChannels table) (bandRows table q (channelsOf (table .general)))
-band-rows table q = go (table .general)
-  where
-    go : (g : General) → Every (λ x. isOutside (g .flags) (g .«channel_band») (x .band) ≡ false) (bandRows table q (channelsOf g))
-    go g = by (bitOf (g .flags) 2) refl
-      where
-        here : Channels
-        here =
-            record {
-              band = g .«channel_band»;
-              rule = g .«channels_rule»;
-              «width_hz» = figureOf (g .«channel_width»);
-              «carrier_offset_hz» = figureOf (g .«carrier_offset»);
-              «carrier_tolerance_hz» = figureOf (g .«carrier_tolerance»);
-              sideband = channelSidebandOf g;
-            }
-
-        by :
-            (b : Bool) → bitOf (g .flags) 2 ≡ b
-            → Every (λ x. isOutside (g .flags) (g .«channel_band») (x .band) ≡ false) (bandRows table q (cond b (On here) NoChannels))
-        by true e =
-            channel-rows (λ x. isOutside (g .flags) (g .«channel_band») (x .band) ≡ false) table q here (λ _. own-band (g .flags) (g .«channel_band») e)
-        by false e = tt
-
-or-false : (a b : Bool) → b ≡ false → (a || b) ≡ a
-or-false true b e = refl
-or-false false b e = e
+band-rows table q =
+    by-channels (table .general) (λ x. Every (OnChannels table) (bandRows table q x)) (λ c own. channel-rows (OnChannels table) table q c (λ _. own)) tt
 
 -- A dial lies in a row that counts exactly if it lies in a data row that counts.
 pub rows-listed :
@@ -100,11 +74,12 @@ pub rows-listed :
     ≡ anyRow (lies (table .general .flags) (table .general .«channel_band») dial) (dataRows table q)
 unfolding rowsOf
 rows-listed table q dial =
-    any-append (lies (table .general .flags) (table .general .«channel_band») dial) (dataRows table q) (bandRows table q (channelsOf (table .general)))
-    ∙ or-false _ _
-    (any-none (lies (table .general .flags) (table .general .«channel_band») dial) (bandRows table q (channelsOf (table .general)))
-    (every-map (OnChannels table) (λ x. lies (table .general .flags) (table .general .«channel_band») dial x ≡ false) (λ x e. rw e)
-    (bandRows table q (channelsOf (table .general))) (band-rows table q)))
+    let test = lies (table .general .flags) (table .general .«channel_band») dial in
+    let channels = bandRows table q (channelsOf (table .general)) in
+    any-append test (dataRows table q) channels
+    ∙ ap (λ (b : Bool). anyRow test (dataRows table q) || b)
+    (any-none test channels (every-map (OnChannels table) (λ x. test x ≡ false) (λ x e. rw e) channels (band-rows table q)))
+    ∙ or-false (anyRow test (dataRows table q))
 
 -- ---- both dials of a row, as sums of figures
 
@@ -112,12 +87,19 @@ pub record RowEnds (x : SafeDial) : Type 0 where
   pub low : RowEnd (x .«dial_low_hz»)
   pub high : RowEnd (x .«dial_high_hz»)
 
+-- of a row outside the channel band
+abbrev pub Counted : ℕ → ℕ → SafeDial → Type 0
+Counted flags channel x = isOutside flags channel (x .band) ≡ true → RowEnds x
+
 module _ (table : Table) (q : Request) (S : Spans table) (M : Figure (q .«margin_hz»)) (A : Figures (q .audio)) where
   piece-ends : (band rule : ℕ) (piece : Range) → Figures piece → Every RowEnds (pieceRows q band rule piece)
   unfolding pieceRows
-  piece-ends band rule piece P = go (le (dialEndsOf piece (q .sideband) (q .audio) (q .«margin_hz») .«low_hz») (dialEndsOf piece (q .sideband) (q .audio) (q .«margin_hz») .«high_hz»))
+  piece-ends band rule piece P = go (le (dials .«low_hz») (dials .«high_hz»))
     where
-      go : (b : Bool) → Every RowEnds (dialRows band rule piece (cond b (Dials (dialEndsOf piece (q .sideband) (q .audio) (q .«margin_hz»))) NoDial))
+      dials : Range
+      dials = dialEndsOf piece (q .sideband) (q .audio) (q .«margin_hz»)
+
+      go : (b : Bool) → Every RowEnds (dialRows band rule piece (cond b (Dials dials) NoDial))
       go true = (
         record {
           low = end-low piece (q .audio) (q .«margin_hz») P A M (q .sideband);
@@ -161,11 +143,11 @@ module _ (table : Table) (q : Request) (S : Spans table) (M : Figure (q .«margi
       tt)))
 
   -- Every row that counts has both.
-  pub rows-ends : Every (λ x. isOutside (table .general .flags) (table .general .«channel_band») (x .band) ≡ true → RowEnds x) (rowsOf table q)
+  pub rows-ends : Every (Counted (table .general .flags) (table .general .«channel_band»)) (rowsOf table q)
   unfolding rowsOf
   rows-ends =
-      every-append (λ x. isOutside (table .general .flags) (table .general .«channel_band») (x .band) ≡ true → RowEnds x) (dataRows table q)
-      (bandRows table q (channelsOf (table .general)))
-      (every-map RowEnds (λ x. isOutside (table .general .flags) (table .general .«channel_band») (x .band) ≡ true → RowEnds x) (λ x r _. r) (dataRows table q) data-ends)
-      (every-map (OnChannels table) (λ x. isOutside (table .general .flags) (table .general .«channel_band») (x .band) ≡ true → RowEnds x)
-      (λ x e o. absurd (true≢false (sym o ∙ e))) (bandRows table q (channelsOf (table .general))) (band-rows table q))
+      let counted = Counted (table .general .flags) (table .general .«channel_band») in
+      every-append counted (dataRows table q) (bandRows table q (channelsOf (table .general)))
+      (every-map RowEnds counted (λ x r _. r) (dataRows table q) data-ends)
+      (every-map (OnChannels table) counted (λ x e o. absurd (true≢false (sym o ∙ e))) (bandRows table q (channelsOf (table .general)))
+      (band-rows table q))

@@ -1,8 +1,7 @@
 -- In a tidy table at most one band, one segment and one privilege of a class hold a signal of positive length, and a segment's band is
 -- the signal's. So what the verdict finds first is what the list has a row for.
 use Prim.Native.Nat.{ℕ, suc, _<_, _≤_}
-use mathlib.Core.Bool.{Bool, true, false, not, cond, _&&_, _||_, true≢false, false≢true}
-use mathlib.Core.List.{List}
+use mathlib.Core.Bool.{Bool, true, false, not, cond, _&&_, _||_, true≢false}
 use mathlib.Core.Path.{_≡_, refl, sym, ap, subst, _∙_}
 use native.Mathlib.Omega.{arith}
 use native.Mathlib.Decide.{decLe}
@@ -14,7 +13,7 @@ use Rattle.codes.specs.declared.EmissionKind.the-variants.{Data}
 use Rattle.profile.specs.Range.{holdsOf, lengthy, shareOf}
 use Rattle.profile.specs.Limit.{allowsOf}
 use Rattle.profile.specs.declared.Range.{Range}
-use Rattle.scan.specs.First.{first, onFound, first-at, first-nothing, some-false}
+use Rattle.scan.specs.First.{first, onFound, first-at, first-nothing, some-false, and-true}
 use Rattle.scan.specs.declared.Found.{Found}
 use Rattle.scan.specs.declared.Found.the-variants.{At, Nothing}
 use Rattle.layout.specs.Layout.{tables, bands, segments, privileges, automatic, excluded}
@@ -32,7 +31,7 @@ use Rattle.part97.specs.declared.Privileged.{Privileged}
 use Rattle.part97.specs.declared.Privileged.the-variants.{Granted, Forbidden, Unheld}
 use Rattle.distance.specs.Distance.{isOutside}
 use Rattle.eighths.specs.Grid.{Figure}
-use Rattle.demand_3.specs.Tests.{and-left, and-right, and-both, or-left, or-right}
+use Rattle.demand_3.specs.Tests.{all-three, and-both, or-left, or-right}
 use Rattle.demand_3.specs.Order.{Ends, Figures, ends, holds-trans, share}
 use Rattle.demand_3.specs.Dial.{guarded-ends}
 use Rattle.demand_3.specs.Listed.{some-index, asks-holds, Spans, guardedAt, Lawful}
@@ -112,8 +111,8 @@ home table h i k =
     record {
       band = s .index;
       below = s .below;
-      number = eqb-true _ _ (and-left _ (holdsOf (spanOf (table .at bands (s .index))) (spanOf (table .at segments i))) (s .passes));
-      holds = and-right (eqb (table .at bands (s .index) .band) (table .at segments i .band)) _ (s .passes);
+      number = eqb-true _ _ (and-true _ (holdsOf (spanOf (table .at bands (s .index))) (spanOf (table .at segments i))) (s .passes) .0);
+      holds = and-true (eqb (table .at bands (s .index) .band) (table .at segments i .band)) _ (s .passes) .1;
     }
 
 -- the parts of a tidy table
@@ -125,16 +124,17 @@ pub record Tidied (table : Table) : Type 0 where
 
 pub tidied : (table : Table) → tidyTable table ≡ true → Tidied table
 unfolding tidyTable
-tidied table e = go (homelessOf table true) (twoShare table bands false) (twoShare table segments false) (twoShare table privileges true) refl refl refl refl e
-  where
-    go :
-        (a b c d : Bool) → homelessOf table true ≡ a → twoShare table bands false ≡ b → twoShare table segments false ≡ c → twoShare table privileges true ≡ d
-        → (not a && (not b && (not c && not d))) ≡ true → Tidied table
-    go false false false false p q r s e = record { homes = p; bands-apart = q; segments-apart = r; privileges-apart = s }
-    go false false false true p q r s e = absurd (false≢true e)
-    go false false true d p q r s e = absurd (false≢true e)
-    go false true c d p q r s e = absurd (false≢true e)
-    go true b c d p q r s e = absurd (false≢true e)
+tidied table e =
+    let shared = twoShare table segments false in
+    let classes = twoShare table privileges true in
+    let parts = all-three (not (homelessOf table true)) (not (twoShare table bands false)) (not shared && not classes) e in
+    let last = and-true (not shared) (not classes) (parts .2) in
+    record {
+      homes = not-true (homelessOf table true) (parts .0);
+      bands-apart = not-true (twoShare table bands false) (parts .1);
+      segments-apart = not-true shared (last .0);
+      privileges-apart = not-true classes (last .1);
+    }
 
 -- ---- the list's request and the verdict's case, of one station, signal and dial
 
@@ -183,7 +183,9 @@ module _
     -- and the first is a record that holds it
     first-held : (t i : ℕ) → firstIn table t (Holds (c .guarded)) ≡ At i → (i < table .count t) × (held t i ≡ true)
     first-held t i e =
-        let h = first-at (λ k. asks (Holds signal) (table .at t k)) (table .count t) i (subst (λ (g : Range). firstIn table t (Holds g) ≡ At i) (m .guarded) e) in
+        let h =
+        first-at (λ k. asks (Holds signal) (table .at t k)) (table .count t) i
+        (subst (λ (g : Range). firstIn table t (Holds g) ≡ At i) (m .guarded) e) in
         (h .below, sym (asks-holds signal (table .at t i)) ∙ h .passes)
 
     -- a segment's band holds what the segment holds
@@ -207,21 +209,23 @@ module _
     abbrev verdictOn : Found → Privileged
     verdictOn f = onFound f (λ p. cond (allowsOf (privilegeAt table p .emissions) Data) Granted Forbidden) Unheld
 
-    granted-in : (p : ℕ) → p < table .count privileges → mayUse q (privilegeOf (table .at privileges p)) ≡ true → held privileges p ≡ true → privilegedOf table c Data ≡ Granted
+    granted-in :
+        (p : ℕ) → p < table .count privileges → mayUse q (privilegeOf (table .at privileges p)) ≡ true → held privileges p ≡ true
+        → privilegedOf table c Data ≡ Granted
     unfolding privilegedOf
     granted-in p h u e =
         let own : eqb (table .at privileges p .class) mine ≡ true =
         subst (λ (n : ℕ). eqb (table .at privileges p .class) n ≡ true) (m .class)
-        (and-left (eqb (table .at privileges p .class) (q .class)) (allowsOf (privilegeAt table p .emissions) Data) u) in
-        let allows = and-right (eqb (table .at privileges p .class) (q .class)) (allowsOf (privilegeAt table p .emissions) Data) u in
+        (and-true (eqb (table .at privileges p .class) (q .class)) (allowsOf (privilegeAt table p .emissions) Data) u .0) in
+        let allows = and-true (eqb (table .at privileges p .class) (q .class)) (allowsOf (privilegeAt table p .emissions) Data) u .1 in
         let found : first (asked (c .guarded)) (table .count privileges) ≡ At p =
         subst (λ (g : Range). first (asked g) (table .count privileges) ≡ At p) (sym (m .guarded))
         (first-alone (asked signal) (table .count privileges) p h (asked-as p ∙ and-both _ _ own e)
         (λ k hk ek.
         let both = sym (asked-as k) ∙ ek in
         alone-class table S signal G long privileges (omega arith) (T .privileges-apart) k p mine hk h
-        (and-left (eqb (table .at privileges k .class) mine) (held privileges k) both) own
-        (and-right (eqb (table .at privileges k .class) mine) (held privileges k) both) e)) in
+        (and-true (eqb (table .at privileges k .class) mine) (held privileges k) both .0) own
+        (and-true (eqb (table .at privileges k .class) mine) (held privileges k) both .1) e)) in
         ap verdictOn found ∙ ap (λ (b : Bool). cond b Granted Forbidden) allows
 
     record Grant : Type 0 where
@@ -243,16 +247,18 @@ module _
 
         go : (f : Found) → first (asked (c .guarded)) (table .count privileges) ≡ f → verdictOn f ≡ Granted → Grant
         go (At p) g v =
-            let h = first-at (asked signal) (table .count privileges) p (subst (λ (r : Range). first (asked r) (table .count privileges) ≡ At p) (m .guarded) g) in
+            let h =
+            first-at (asked signal) (table .count privileges) p
+            (subst (λ (r : Range). first (asked r) (table .count privileges) ≡ At p) (m .guarded) g) in
             let both = sym (asked-as p) ∙ h .passes in
             record {
               privilege = p;
               below = h .below;
               may-use = and-both _ _
                   (subst (λ (n : ℕ). eqb (table .at privileges p .class) n ≡ true) (sym (m .class))
-                  (and-left (eqb (table .at privileges p .class) mine) (held privileges p) both))
+                  (and-true (eqb (table .at privileges p .class) mine) (held privileges p) both .0))
                   (forbids (allowsOf (privilegeAt table p .emissions) Data) v);
-              holds = and-right (eqb (table .at privileges p .class) mine) (held privileges p) both;
+              holds = and-true (eqb (table .at privileges p .class) mine) (held privileges p) both .1;
             }
         go Nothing g v = absurd (unheld v)
 
@@ -275,15 +281,11 @@ module _
 
     met-of : (c .automatic ≡ true → automaticMet table c ≡ true) → cut q ≡ true → inside signal ≡ true
     met-of h e =
-        let a = and-left (q .automatic) (not (q .«elsewhere_ok»)) e in
-        let b = and-right (q .automatic) (not (q .«elsewhere_ok»)) e in
+        let a = and-true (q .automatic) (not (q .«elsewhere_ok»)) e .0 in
+        let b = and-true (q .automatic) (not (q .«elsewhere_ok»)) e .1 in
         subst (λ (g : Range). inside g ≡ true) (m .guarded)
         (or-other (inside (c .guarded)) (elsewhereAllows (elsewhereOf (table .general)) (c .width) (c .direction)) (h (sym (m .automatic) ∙ a))
         (sym (m .elsewhere) ∙ not-true (q .«elsewhere_ok») b))
-      where
-        not-true : (b : Bool) → not b ≡ true → b ≡ false
-        not-true true e = absurd (false≢true e)
-        not-true false e = refl
 
     -- ---- both ways
 

@@ -1,14 +1,13 @@
 -- Tests joined by `&&` and `||`.
-use mathlib.Core.Bool.{Bool, true, false, _&&_, _||_, false≢true}
+use mathlib.Core.Bool.{Bool, true, false, _&&_, _||_, true≢false}
 use mathlib.Core.Path.{_≡_, refl, sym}
+use Rattle.scan.specs.First.{and-true}
 
-pub and-left : (a b : Bool) → (a && b) ≡ true → a ≡ true
-and-left true b e = refl
-and-left false b e = e
-
-pub and-right : (a b : Bool) → (a && b) ≡ true → b ≡ true
-and-right true b e = e
-and-right false b e = absurd (false≢true e)
+pub all-three : (a b c : Bool) → (a && (b && c)) ≡ true → (a ≡ true) × (b ≡ true) × (c ≡ true)
+all-three a b c e =
+    let both = and-true a (b && c) e in
+    let last = and-true b c (both .1) in
+    (both .0, last .0, last .1)
 
 pub and-both : (a b : Bool) → a ≡ true → b ≡ true → (a && b) ≡ true
 and-both a b p q = rw p (rw q)
@@ -19,6 +18,10 @@ or-left a b e = rw e
 pub or-right : (a b : Bool) → b ≡ true → (a || b) ≡ true
 or-right true b e = refl
 or-right false b e = e
+
+pub or-false-both : (a b : Bool) → (a || b) ≡ false → (a ≡ false) × (b ≡ false)
+or-false-both true b e = absurd (true≢false e)
+or-false-both false b e = (refl, e)
 
 -- Tests that imply each other are equal.
 pub same : (a b : Bool) → (a ≡ true → b ≡ true) → (b ≡ true → a ≡ true) → a ≡ b

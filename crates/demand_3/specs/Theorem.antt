@@ -2,90 +2,62 @@
 -- dial that the gate doesn't refuse and whose guarded range the channel band doesn't hold, the distance of the dial from the rows that the
 -- list call left is nought exactly when the gate allows data at that dial. The list's own dial is another than the one asked.
 use Prim.Native.Nat.{ℕ, _+_, _*_, _/_, _≤_}
-use mathlib.Core.Bool.{Bool, true, false, not, cond, _&&_, _||_, true≢false, false≢true}
+use mathlib.Core.Bool.{true, false, not, true≢false}
 use mathlib.Core.List.{List, [], _∷_, _++_}
-use mathlib.Core.Path.{_≡_, refl, sym, ap, _∙_}
+use mathlib.Core.Path.{_≡_, refl, sym, ap, subst, _∙_}
 use native.Mathlib.Omega.{arith}
-use lib.Dec.{eqb}
 use lib.ListN.{length, drop, length-append}
 use borrow.Author.Tests.{eqb-true, le-ltb, not-false}
 use lib.Ieee.{Float}
 use Rattle.figures.specs.Figure.{limit40, inSize, readHz}
-use Rattle.codes.specs.Code.{bitOf}
-use Rattle.codes.specs.Read.{policyOf, directionOf, directionValid, kindOf}
+use Rattle.codes.specs.Read.{policyOf, directionOf, directionValid}
 use Rattle.codes.specs.Refusal.{test, refusalOf, refusal-both, none-fails}
 use Rattle.codes.specs.declared.Checked.{Checked}
 use Rattle.codes.specs.declared.Checked.the-variants.{Accepted, Refused}
 use Rattle.codes.specs.declared.Policy.{Policy}
-use Rattle.codes.specs.declared.Policy.the-variants.{Rules}
-use Rattle.codes.specs.declared.Control.{Control}
-use Rattle.codes.specs.declared.Control.the-variants.{ControlIs, NoControl}
-use Rattle.codes.specs.declared.ControlMode.{ControlMode}
-use Rattle.codes.specs.declared.License.{License}
-use Rattle.codes.specs.declared.License.the-variants.{LicenseIs, NoLicense}
-use Rattle.codes.specs.declared.LicenseClass.{LicenseClass}
-use Rattle.codes.specs.declared.SidebandSet.{SidebandSet}
-use Rattle.codes.specs.declared.SidebandSet.the-variants.{SidebandIs, NoSideband}
-use Rattle.codes.specs.declared.Sideband.{Sideband}
 use Rattle.codes.specs.declared.EmissionKind.the-variants.{Data}
-use Rattle.profile.specs.Range.{holdsOf, lengthy}
 use Rattle.profile.specs.declared.Range.{Range}
 use Rattle.occupancy.specs.declared.Edges.{Edges}
-use Rattle.air.specs.Air.{rfRangeOf, guardedOf}
-use Rattle.scan.specs.First.{first-at, some-true}
-use Rattle.station.specs.Station.{underRules, figuresValid, figureValid, stationTests, situationOf}
+use Rattle.scan.specs.First.{and-true, cond-yes}
+use Rattle.station.specs.Station.{underRules, situationOf}
+use Rattle.station.specs.declared.Figure.the-variants.{Known}
 use Rattle.station.specs.declared.StationRecord.{StationRecord}
 use Rattle.station.specs.declared.Situation.{Situation}
-use Rattle.layout.specs.Layout.{bands, generalOf, countOf}
-use Rattle.table.specs.Table.{recordIn, tableOf}
-use Rattle.table.specs.Parts.{spanOf, readingOf, elsewhereOf}
-use Rattle.find.specs.Question.{asks, someIn}
-use Rattle.find.specs.declared.Question.the-variants.{Holds, BandHolds}
-use Rattle.image.specs.Check.{checkOf}
-use Rattle.entry.specs.Entry.{imageTests, entryTests, edgesValid, edgesRead}
-use Rattle.tidy.specs.Tidy.{tidyTable, tidinessOf}
-use Rattle.tidy.specs.declared.Tidiness.the-variants.{Tidy}
+use Rattle.layout.specs.Layout.{generalOf}
+use Rattle.table.specs.Table.{tableOf}
+use Rattle.table.specs.Parts.{readingOf}
+use Rattle.entry.specs.Entry.{entryTests, edgesValid, edgesRead}
 use Rattle.rows.specs.Rows.{rowSize, sorted, encodeAll}
 use Rattle.rows.specs.Back.{length-encode}
-use Rattle.rows.specs.Order.{anyRow, any-sorted, length-sorted, every-sorted}
+use Rattle.lists.specs.Each.{Every}
+use Rattle.rows.specs.Order.{anyRow, length-sorted}
 use Rattle.rows.specs.declared.SafeDial.{SafeDial}
-use Rattle.dial_rows.specs.Dials.{requestOf, dataRows, rowsOf}
+use Rattle.dial_rows.specs.Dials.{requestOf, rowsOf}
 use Rattle.dial_rows.specs.Laws.{DialsFit, rows-fit}
 use Rattle.dial_rows.specs.declared.Request.{Request}
-use Rattle.dials.specs.List.{withSideband, withLicense, withControl, knownRows, situationRows, listRows, lentTests, listTests, answerOf, bytesOf, SafeDials}
+use Rattle.dials.specs.List.{situationRows, listRows, lentTests, listTests, answerOf, bytesOf, SafeDials}
 use Rattle.dials.specs.declared.DialList.{DialList}
 use Rattle.dials.specs.declared.DialList.the-variants.{Rows}
 use Rattle.decision.specs.Decision.{refusedOf}
 use Rattle.decision.specs.declared.Verdict.{Verdict}
 use Rattle.decision.specs.declared.Verdict.the-variants.{Legal, Warning, Blocked}
 use Rattle.decision.specs.declared.Decision.{Decision}
-use Rattle.part97.specs.Part97.{bandAt as bandRecordAt, judge}
-use Rattle.part97.specs.declared.Case.{Case}
-use Rattle.verdict.specs.Verdict.{caseOf, signalOf, underRulesOf, decideOf, besideValid, edgeTests, evaluateTests, unlessRefused, evaluateOf}
-use Rattle.verdict.specs.Laws.{ready-met, under-met}
-use Rattle.distance.specs.Distance.{isOutside, leastUpTo, distanceOf}
+use Rattle.verdict.specs.Verdict.{underRulesOf, decideOf, besideValid, edgeTests, evaluateTests, unlessRefused, evaluateOf}
+use Rattle.distance.specs.Distance.{leastUpTo, distanceOf}
 use Rattle.distance.specs.declared.Distance.the-variants.{NoneListed}
-use Rattle.eighths.specs.Grid.{Figure, inEighths}
-use Rattle.demand_3.specs.Words.{tableInEighths, edgesInEighths, stationInEighths, hertzInEighths, tuned, audioOf, accepted, inForce, hasControl, hasLicense, hasSideband, prerequisitesMet, positiveWidth, channelBandHolds, channelsHold, onChannelBand, verdictAt, sent, allows, distanceAt, nought, answers, NoneOutside, Premises, Demand3}
-use Rattle.demand_3.specs.Tests.{and-left, and-right, and-both, same}
+use Rattle.eighths.specs.Grid.{Figure}
+use Rattle.demand_3.specs.Words.{edgesInEighths, stationInEighths, tuned, audioOf, rulesInForce, prerequisitesMet, positiveWidth, onChannelBand}
+use Rattle.demand_3.specs.Words.{stationMet, signalMet, verdictAt, sent, allows, distanceAt, nought, answers, NoneOutside, Premises, Demand3}
+use Rattle.demand_3.specs.Tests.{all-three}
 use Rattle.demand_3.specs.Order.{Figures}
-use Rattle.demand_3.specs.Dial.{guarded-lengthy}
-use Rattle.demand_3.specs.Listed.{Spans, guardedAt, lies, data-in, data-of}
-use Rattle.demand_3.specs.Rows.{RowEnds, rows-listed, rows-ends}
+use Rattle.demand_3.specs.Listed.{lies}
+use Rattle.demand_3.specs.Rows.{Counted, rows-ends}
 use Rattle.demand_3.specs.Nearest.{least-none, least-answers}
-use Rattle.demand_3.specs.Read.{rows-nought}
-use Rattle.demand_3.specs.Judged.{Comparable, OffChannels, judged-in, judged-of}
-use Rattle.demand_3.specs.Same.{Tidied, tidied, Match, lawful-judged, judged-lawful}
-use Rattle.demand_3.specs.Grounds.{figure-read, spans, comparable, audio-figures}
+use Rattle.demand_3.specs.Read.{sorted-nought}
+use Rattle.demand_3.specs.Grounds.{spans, under-rules, figures-valid, margin-figure, dial-figure, audio-figures}
+use Rattle.demand_3.specs.Exactly.{rowsFor, Prerequisites, prerequisites, requested, rows-are, listed-exactly}
 
 -- ---- what the calls' answers say of their tests
-
-refused-not : {n : ℕ} → Refused n ≡ Accepted → ⊥
-refused-not e = let z : _≡_ {A = ℕ} 0 1 = cc in omega arith
-
-accepted-of : (c : Checked) → accepted c ≡ true → c ≡ Accepted
-accepted-of Accepted e = refl
-accepted-of (Refused n) e = absurd (false≢true e)
 
 -- a list that fitted
 fitted-of : (c : Checked) (xs : List SafeDial) (n : ℕ) → answerOf c xs ≡ Rows n → (c ≡ Accepted) × (length xs ≡ n)
@@ -96,241 +68,12 @@ fitted-of (Refused k) xs n e = absurd (let z : _≡_ {A = ℕ} 0 1 = cc in omega
 judged-of-refusal : (c : Checked) (d : Decision) → unlessRefused c d .refusal ≡ Accepted → c ≡ Accepted
 unfolding refusedOf
 judged-of-refusal Accepted d e = refl
-judged-of-refusal (Refused n) d e = absurd (refused-not e)
-
-tidy-of : (c : Checked) (b : Bool) → tidinessOf c b ≡ Tidy → b ≡ true
-tidy-of (Refused n) b e = absurd (let z : _≡_ {A = ℕ} 0 1 = cc in omega arith)
-tidy-of Accepted true e = refl
-tidy-of Accepted false e = absurd (let z : _≡_ {A = ℕ} 0 1 = cc in omega arith)
+judged-of-refusal (Refused n) d e = e
 
 blocked-of : (v : Verdict) → sent v ≡ false → v ≡ Blocked
 blocked-of Legal e = absurd (true≢false e)
 blocked-of Warning e = absurd (true≢false e)
 blocked-of Blocked e = refl
-
--- ---- one list and one verdict, with the prerequisites taken apart
-
-module _
-    (r : StationRecord) (direction : ℕ) (e : Edges) (l : List ℕ) (dial : Float) (control : ControlMode) (class : LicenseClass) (sideband : Sideband)
-    (has-control : situationOf r .control ≡ ControlIs control) (has-license : situationOf r .license ≡ LicenseIs class)
-    (has-sideband : situationOf r .sideband ≡ SidebandIs sideband)
-  where
-    abbrev audio : Range
-    audio = audioOf (tableOf l) e
-
-    abbrev q : Request
-    q = requestOf (generalOf l) class sideband control (directionOf direction) (situationOf r .«margin_hz») audio
-
-    abbrev c : Case
-    c = caseOf (situationOf (tuned r dial)) control class sideband (readHz dial) Data (directionOf direction) audio
-
-    matched : Match (tableOf l) q c (readHz dial)
-    unfolding requestOf caseOf situationOf tuned
-    matched = record { class = refl; guarded = refl; width = refl; automatic = refl; elsewhere = refl; general = λ s. refl }
-
-    -- the list's rows
-    rows-are : underRules r ≡ true → listRows r direction e l ≡ rowsOf (tableOf l) q
-    unfolding listRows situationRows
-    rows-are u =
-        ap (λ (b : Bool). cond b (situationRows (tableOf l) (situationOf r) (directionOf direction) (edgesRead e)) []) u
-        ∙ ap
-        (λ (x : SidebandSet).
-        withSideband x
-        (λ sb. withLicense (situationOf r .license)
-        (λ cl. withControl (situationOf r .control) (λ ct. knownRows (tableOf l) (situationOf r) (directionOf direction) (edgesRead e) sb cl ct))))
-        has-sideband
-        ∙ ap
-        (λ (x : License).
-        withLicense x
-        (λ cl. withControl (situationOf r .control) (λ ct. knownRows (tableOf l) (situationOf r) (directionOf direction) (edgesRead e) sideband cl ct)))
-        has-license
-        ∙ ap (λ (x : Control). withControl x (λ ct. knownRows (tableOf l) (situationOf r) (directionOf direction) (edgesRead e) sideband class ct)) has-control
-
-    -- the verdict
-    abbrev there : Situation
-    there = situationOf (tuned r dial)
-
-    abbrev decided : Policy → Decision
-    decided p = decideOf (tableOf l) there p (there .dial) Data (directionOf direction) (edgesRead e)
-
-    rules-there : underRules r ≡ true → there .policy ≡ Rules
-    unfolding situationOf tuned
-    rules-there u = ap policyOf (eqb-true (r .policy) 2 u)
-
-    ruling : eqb (there .«itu_region») (generalOf l .region) ≡ true → decided Rules ≡ judge (tableOf l) c
-    unfolding decideOf situationOf tuned
-    ruling region =
-        sym
-        (under-met (tableOf l) there (there .dial) Data (directionOf direction) audio c
-        (sym
-        (ready-met (generalOf l) there (there .dial) Data (directionOf direction) audio region control has-control class has-license sideband has-sideband
-        (readHz dial) refl)))
-
-    verdict-is :
-        underRules r ≡ true → refusalOf (evaluateTests (tuned r dial) 0 direction e l) ≡ Accepted → eqb (there .«itu_region») (generalOf l .region) ≡ true
-        → verdictAt r direction e l dial ≡ judge (tableOf l) c
-    unfolding evaluateOf
-    verdict-is u ok region =
-        ap (λ (x : Checked). unlessRefused x (decided (there .policy))) ok ∙ ap decided (rules-there u) ∙ ruling region
-
-    -- the channel band does not hold the guarded signal, so the first band that does is none of it
-    off-channels : onChannelBand r e (tableOf l) dial ≡ false → OffChannels (tableOf l) c
-    unfolding onChannelBand situationOf tuned caseOf channelBandHolds isOutside asks
-    off-channels off b found = go (bitOf (generalOf l .flags) 2) (eqb (bandRecordAt (tableOf l) b .band) (generalOf l .«channel_band»)) refl refl
-      where
-        signal : Range
-        signal = guardedOf (readHz (r .«margin_hz»)) (rfRangeOf (readHz dial) sideband audio)
-
-        not-held : channelBandHolds (tableOf l) signal ≡ false
-        not-held = sym (ap (channelsHold (tableOf l) audio (readHz (r .«margin_hz»)) (readHz dial)) has-sideband) ∙ off
-
-        go :
-            (x y : Bool) → bitOf (generalOf l .flags) 2 ≡ x → eqb (bandRecordAt (tableOf l) b .band) (generalOf l .«channel_band») ≡ y → not (x && y) ≡ true
-        go true true p n =
-            let h = first-at (λ k. asks (Holds signal) (recordIn l bands k)) (countOf l bands) b found in
-            absurd
-            (true≢false
-            (sym
-            (and-both (bitOf (generalOf l .flags) 2) (someIn (tableOf l) bands (BandHolds (generalOf l .«channel_band») signal)) p
-            (some-true (λ k. asks (BandHolds (generalOf l .«channel_band») signal) (recordIn l bands k)) (countOf l bands) b (h .below)
-            (and-both (eqb (recordIn l bands b .band) (generalOf l .«channel_band»)) (holdsOf (spanOf (recordIn l bands b)) signal) n (h .passes))))
-            ∙ not-held))
-        go true false p n = refl
-        go false y p n = refl
-
-    -- ---- the dial lies in a listed row outside the channel band exactly if data is allowed
-
-    abbrev flags : ℕ
-    flags = generalOf l .flags
-
-    abbrev channel : ℕ
-    channel = generalOf l .«channel_band»
-
-    kind-data : c .kind ≡ Data
-    unfolding caseOf
-    kind-data = refl
-
-    margin-figure : Figure (readHz (r .«margin_hz»)) → Figure (q .«margin_hz»)
-    unfolding requestOf situationOf
-    margin-figure M = M
-
-    audio-figure : Figures audio → Figures (q .audio)
-    unfolding requestOf
-    audio-figure A = A
-
-    long-signal :
-        Figure (readHz dial) → Figure (readHz (r .«margin_hz»)) → Figures audio → positiveWidth r e (tableOf l) ≡ true → lengthy (guardedAt q (readHz dial)) ≡ true
-    unfolding requestOf situationOf positiveWidth
-    long-signal D M A w = guarded-lengthy (readHz dial) (readHz (r .«margin_hz»)) audio D M A sideband w
-
-    limit-compares : checkOf l ≡ Accepted → tableInEighths (tableOf l) ≡ true → Figures audio → Comparable (elsewhereOf (generalOf l)) (c .width)
-    unfolding caseOf
-    limit-compares C E A = comparable l C E audio A
-
-    module _
-        (D : Figure (readHz dial)) (M : Figure (q .«margin_hz»)) (A : Figures (q .audio)) (S : Spans (tableOf l)) (T : Tidied (tableOf l))
-        (long : lengthy (guardedAt q (readHz dial)) ≡ true) (K : Comparable (elsewhereOf (generalOf l)) (c .width)) (off : OffChannels (tableOf l) c)
-      where
-        pub listed-exactly : anyRow (lies flags channel (readHz dial)) (rowsOf (tableOf l) q) ≡ allows (judge (tableOf l) c)
-        listed-exactly =
-            rows-listed (tableOf l) q (readHz dial)
-            ∙ same (anyRow (lies flags channel (readHz dial)) (dataRows (tableOf l) q)) (allows (judge (tableOf l) c))
-            (λ h.
-            judged-in (tableOf l) c K off kind-data
-            (lawful-judged (tableOf l) q c (readHz dial) D M A S long T matched off (data-of flags channel q (readHz dial) D M A (tableOf l) S long h)))
-            (λ h.
-            data-in flags channel q (readHz dial) D M A (tableOf l) S long
-            (judged-lawful (tableOf l) q c (readHz dial) D M A S long T matched off (judged-of (tableOf l) c K off kind-data h)))
-
-        -- the same of the bytes that the list call leaves
-        pub bytes-exactly :
-            (rest : List ℕ)
-            → nought (leastUpTo (readHz dial) flags channel (encodeAll (sorted (rowsOf (tableOf l) q)) ++ rest) (length (rowsOf (tableOf l) q))) ≡ allows (judge (tableOf l) c)
-        bytes-exactly rest =
-            ap (λ (n : ℕ). nought (leastUpTo (readHz dial) flags channel (encodeAll (sorted (rowsOf (tableOf l) q)) ++ rest) n)) (sym (length-sorted (rowsOf (tableOf l) q)))
-            ∙ rows-nought (readHz dial) flags channel D (sorted (rowsOf (tableOf l) q)) rest (every-sorted DialsFit (rowsOf (tableOf l) q) (rows-fit l q))
-            (every-sorted (λ x. isOutside flags channel (x .band) ≡ true → RowEnds x) (rowsOf (tableOf l) q) (rows-ends (tableOf l) q S M A))
-            ∙ any-sorted (lies flags channel (readHz dial)) (rowsOf (tableOf l) q)
-            ∙ listed-exactly
-
--- ---- the premises taken apart
-
-by-control : {X : Type 0} (s : Control) → hasControl s ≡ true → ((k : ControlMode) → s ≡ ControlIs k → X) → X
-by-control (ControlIs k) h f = f k refl
-by-control NoControl h f = absurd (false≢true h)
-
-by-license : {X : Type 0} (s : License) → hasLicense s ≡ true → ((k : LicenseClass) → s ≡ LicenseIs k → X) → X
-by-license (LicenseIs k) h f = f k refl
-by-license NoLicense h f = absurd (false≢true h)
-
-by-sideband : {X : Type 0} (s : SidebandSet) → hasSideband s ≡ true → ((k : Sideband) → s ≡ SidebandIs k → X) → X
-by-sideband (SidebandIs k) h f = f k refl
-by-sideband NoSideband h f = absurd (false≢true h)
-
--- the five prerequisites, of the list's record and the verdict's
-record Met (r : StationRecord) (l : List ℕ) (dial : Float) : Type 0 where
-  region : eqb (situationOf (tuned r dial) .«itu_region») (generalOf l .region) ≡ true
-  control : hasControl (situationOf r .control) ≡ true
-  license : hasLicense (situationOf r .license) ≡ true
-  sideband : hasSideband (situationOf r .sideband) ≡ true
-
-met : (r : StationRecord) (l : List ℕ) (dial : Float) → prerequisitesMet (tableOf l) (situationOf (tuned r dial)) ≡ true → Met r l dial
-unfolding prerequisitesMet situationOf tuned
-met r l dial e =
-    let s = situationOf r in
-    let a = eqb (r .«itu_region») (generalOf l .region) in
-    let b = hasControl (s .control) in
-    let c = hasLicense (s .license) in
-    let d = hasSideband (s .sideband) in
-    let b-on = and-right a (b && (c && (d && true))) e in
-    let c-on = and-right b (c && (d && true)) b-on in
-    record {
-      region = and-left a (b && (c && (d && true))) e;
-      control = and-left b (c && (d && true)) b-on;
-      license = and-left c (d && true) c-on;
-      sideband = and-left d true (and-right c (d && true) c-on);
-    }
-
--- the sizes of margin and dial, of a verdict that was not refused
-record Sized (r : StationRecord) (dial : Float) : Type 0 where
-  margin : inSize limit40 (r .«margin_hz») ≡ true
-  asked : inSize limit40 dial ≡ true
-
-sized : (r : StationRecord) (direction : ℕ) (e : Edges) (l : List ℕ) (dial : Float) → refusalOf (evaluateTests (tuned r dial) 0 direction e l) ≡ Accepted → Sized r dial
-unfolding figuresValid tuned
-sized r direction e l dial ok =
-    let t = tuned r dial in
-    let entry = refusal-both (entryTests t (besideValid 0 direction) l) (edgeTests e) ok .0 in
-    let station = refusal-both (stationTests t (besideValid 0 direction) l) (imageTests t l) entry .0 in
-    let v = not-false (figuresValid t) (none-fails (stationTests t (besideValid 0 direction) l) station .1 .0) in
-    let a = inSize limit40 (r .«margin_hz») in
-    let b = inSize limit40 dial in
-    let c = figureValid (r .«power_known») (r .«power_w») in
-    record { margin = and-left a (b && c) v; asked = and-left b c (and-right a (b && c) v) }
-
--- the grid
-record OnGrid (r : StationRecord) (e : Edges) (l : List ℕ) (dial : Float) : Type 0 where
-  image : tableInEighths (tableOf l) ≡ true
-  edges : edgesInEighths e ≡ true
-  margin : inEighths (r .«margin_hz») ≡ true
-  asked : inEighths dial ≡ true
-
-on-grid : (r : StationRecord) (e : Edges) (l : List ℕ) (dial : Float) → hertzInEighths r e (tableOf l) dial ≡ true → OnGrid r e l dial
-unfolding hertzInEighths stationInEighths
-on-grid r e l dial h =
-    let a = tableInEighths (tableOf l) in
-    let b = edgesInEighths e in
-    let c = inEighths (r .«margin_hz») in
-    let k = eqb (r .«dial_known») 0 || inEighths (r .«dial_hz») in
-    let d = inEighths dial in
-    let rest = and-right a (b && ((c && k) && d)) h in
-    let last = and-right b ((c && k) && d) rest in
-    record {
-      image = and-left a (b && ((c && k) && d)) h;
-      edges = and-left b ((c && k) && d) rest;
-      margin = and-left c k (and-left (c && k) d last);
-      asked = and-right (c && k) d last;
-    }
 
 -- ---- the distance call answers
 
@@ -375,75 +118,86 @@ module _
         (none-fails (test 15 (not (edgesValid e)) ∷ lentTests xs lent)
         (refusal-both (entryTests r (directionValid direction) l) (test 15 (not (edgesValid e)) ∷ lentTests xs lent) (fit .0) .1) .0)
 
-    -- the table is in force and tidy
-    rules : underRules r ≡ true
-    unfolding inForce
-    rules = and-left (underRules r) (accepted (checkOf l)) (P .in-force)
+    -- the station at the dial asked, and the signal
+    abbrev there : Situation
+    there = situationOf (tuned r dial)
 
-    check : checkOf l ≡ Accepted
-    unfolding inForce
-    check = accepted-of (checkOf l) (and-right (underRules r) (accepted (checkOf l)) (P .in-force))
+    abbrev audio : Range
+    audio = audioOf (tableOf l) (edgesRead e)
 
-    tidy : Tidied (tableOf l)
-    tidy = tidied (tableOf l) (tidy-of (checkOf l) (tidyTable (tableOf l)) (P .tidy))
+    abbrev decided : Policy → Decision
+    decided p = decideOf (tableOf l) there p (there .dial) Data (directionOf direction) (edgesRead e)
 
     -- the verdict was not refused
     judged : refusalOf (evaluateTests (tuned r dial) 0 direction e l) ≡ Accepted
     unfolding evaluateOf
-    judged =
-        judged-of-refusal (refusalOf (evaluateTests (tuned r dial) 0 direction e l))
-        (decideOf (tableOf l) (situationOf (tuned r dial)) (situationOf (tuned r dial) .policy) (situationOf (tuned r dial) .dial) (kindOf 0) (directionOf direction)
-        (edgesRead e))
-        (P .not-refused)
+    judged = judged-of-refusal (refusalOf (evaluateTests (tuned r dial) 0 direction e l)) (decided (there .policy)) (P .not-refused)
 
-    size : Sized r dial
-    size = sized r direction e l dial judged
+    station : (rulesInForce there ≡ true) × (prerequisitesMet (tableOf l) there ≡ true) × (stationInEighths there ≡ true)
+    unfolding stationMet
+    station = all-three (rulesInForce there) (prerequisitesMet (tableOf l) there) (stationInEighths there) (P .station)
 
-    eighths : OnGrid r e l dial
-    eighths = on-grid r e l dial (P .eighths)
+    signal : (edgesInEighths (edgesRead e) ≡ true) × (positiveWidth there audio ≡ true)
+    unfolding signalMet positiveWidth situationOf tuned
+    signal = and-true (edgesInEighths (edgesRead e)) (positiveWidth (situationOf r) audio) (P .signal)
 
-    five : Met r l dial
-    five = met r l dial (P .prerequisites)
+    rules : underRules r ≡ true
+    unfolding tuned
+    rules = under-rules (tuned r dial) (station .0)
+
+    -- the figures
+    entered : refusalOf (entryTests (tuned r dial) (besideValid 0 direction) l) ≡ Accepted
+    entered = refusal-both (entryTests (tuned r dial) (besideValid 0 direction) l) (edgeTests e) judged .0
 
     D : Figure (readHz dial)
-    D = figure-read dial (eighths .asked) (size .asked)
+    unfolding situationOf tuned
+    D = dial-figure (tuned r dial) (besideValid 0 direction) l entered (station .2) (readHz dial) refl
 
-    M : Figure (readHz (r .«margin_hz»))
-    M = figure-read (r .«margin_hz») (eighths .margin) (size .margin)
+    M : Figure (there .«margin_hz»)
+    M = margin-figure (tuned r dial) (besideValid 0 direction) l entered (station .2)
 
-    A : Figures (audioOf (tableOf l) e)
-    A = audio-figures e (readingOf (generalOf l)) edges-valid (eighths .edges)
+    A : Figures audio
+    A = audio-figures e (readingOf (generalOf l)) edges-valid (signal .0)
+
+    -- the rows, and the verdict
+    rows-for : xs ≡ rowsFor (tableOf l) there (directionOf direction) audio
+    unfolding listRows situationRows situationOf tuned
+    rows-for = cond-yes (situationRows (tableOf l) (situationOf r) (directionOf direction) (edgesRead e)) [] rules
+
+    verdict-is : verdictAt r direction e l dial ≡ underRulesOf (tableOf l) there (Known (readHz dial)) Data (directionOf direction) audio
+    unfolding evaluateOf decideOf situationOf tuned
+    verdict-is =
+        ap (λ (x : Checked). unlessRefused x (decided (there .policy))) judged ∙ ap (λ (n : ℕ). decided (policyOf n)) (eqb-true (r .policy) 2 rules)
+
+    known : Prerequisites (tableOf l) there
+    known = prerequisites (tableOf l) there (station .1)
+
+    abbrev asked : Request
+    asked = requested (tableOf l) there (directionOf direction) audio (readHz dial) known
+
+    rows-are-asked : rowsOf (tableOf l) asked ≡ xs
+    rows-are-asked = sym (rows-for ∙ rows-are (tableOf l) there (directionOf direction) audio (readHz dial) known)
 
     -- the distance call answers
     distance-is :
         distanceAt l count left dial
         ≡ leastUpTo (readHz dial) (generalOf l .flags) (generalOf l .«channel_band») (encodeAll (sorted xs) ++ rest) (length xs)
+    unfolding tuned
     distance-is =
         ap (λ (n : ℕ). distanceAt l n left dial) (sym (fit .1)) ∙ ap (λ (m : List ℕ). distanceAt l (length xs) m dial) left-is
-        ∙ answered xs rest l dial (size .asked)
+        ∙ answered xs rest l dial (figures-valid (tuned r dial) (besideValid 0 direction) l entered .1)
 
     nought-exactly : nought (distanceAt l count left dial) ≡ allows (verdictAt r direction e l dial)
+    unfolding requestOf onChannelBand situationOf tuned
     nought-exactly =
-        by-control (situationOf r .control) (five .control)
-        (λ control has-control.
-        by-license (situationOf r .license) (five .license)
-        (λ class has-license.
-        by-sideband (situationOf r .sideband) (five .sideband)
-        (λ sideband has-sideband.
+        let flags = generalOf l .flags in
+        let channel = generalOf l .«channel_band» in
         ap nought distance-is
-        ∙ ap
-        (λ (ys : List SafeDial).
-        nought (leastUpTo (readHz dial) (generalOf l .flags) (generalOf l .«channel_band») (encodeAll (sorted ys) ++ rest) (length ys)))
-        (rows-are r direction e l dial control class sideband has-control has-license has-sideband rules)
-        ∙ bytes-exactly r direction e l dial control class sideband has-control has-license has-sideband D
-        (margin-figure r direction e l dial control class sideband has-control has-license has-sideband M)
-        (audio-figure r direction e l dial control class sideband has-control has-license has-sideband A)
-        (spans l check (eighths .image)) tidy
-        (long-signal r direction e l dial control class sideband has-control has-license has-sideband D M A (P .width))
-        (limit-compares r direction e l dial control class sideband has-control has-license has-sideband check (eighths .image) A)
-        (off-channels r direction e l dial control class sideband has-control has-license has-sideband (P .off-channels))
-        rest
-        ∙ ap allows (sym (verdict-is r direction e l dial control class sideband has-control has-license has-sideband rules judged (five .region))))))
+        ∙ sorted-nought (readHz dial) flags channel D xs rest (subst (Every DialsFit) rows-are-asked (rows-fit l asked))
+        (subst (Every (Counted flags channel)) rows-are-asked (rows-ends (tableOf l) asked (spans (tableOf l) (P .table)) M A))
+        ∙ ap (anyRow (lies flags channel (readHz dial))) rows-for
+        ∙ listed-exactly (tableOf l) there (directionOf direction) audio (readHz dial) (P .table) (station .1) M A D (signal .1) (P .off-channels)
+        ∙ ap allows (sym verdict-is)
 
     none-is : NoneOutside l count left → distanceAt l count left dial ≡ NoneListed
     none-is none =

@@ -1,5 +1,5 @@
--- Document 01's words for demand 3, each a definition of its own. Tidy is the tidy question's (Rattle.tidy), in eighths the grid's
--- (Rattle.eighths).
+-- Document 01's words for demand 3, each a definition of its own, and the premises by what they are about: the table, the station and the
+-- signal. Tidy is the tidy question's (Rattle.tidy), in eighths the grid's (Rattle.eighths).
 use Prim.Native.Nat.{ℕ, _*_, _<_}
 use mathlib.Core.Bool.{Bool, true, false, not, _&&_, _||_}
 use mathlib.Core.List.{List}
@@ -7,9 +7,11 @@ use mathlib.Core.Path.{_≡_}
 use lib.Dec.{eqb}
 use lib.Ieee.{Float, binary64, add, lt, eq}
 use Rattle.figures.specs.Figure.{zeroHz, figureOf, readHz}
-use Rattle.codes.specs.Code.{bitOf}
+use Rattle.codes.specs.Code.{bitOf, policyCode}
+use Rattle.codes.specs.Refusal.{refusalOf}
 use Rattle.codes.specs.declared.Checked.{Checked}
 use Rattle.codes.specs.declared.Checked.the-variants.{Accepted, Refused}
+use Rattle.codes.specs.declared.Policy.the-variants.{Rules}
 use Rattle.codes.specs.declared.Control.{Control}
 use Rattle.codes.specs.declared.Control.the-variants.{ControlIs, NoControl}
 use Rattle.codes.specs.declared.License.{License}
@@ -21,7 +23,7 @@ use Rattle.occupancy.specs.Edges.{rangeOf}
 use Rattle.occupancy.specs.declared.Edges.{Edges}
 use Rattle.air.specs.Air.{rfRangeOf, guardedOf, widthOf}
 use Rattle.scan.specs.First.{some}
-use Rattle.station.specs.Station.{underRules, situationOf}
+use Rattle.station.specs.Station.{situationOf}
 use Rattle.station.specs.declared.Figure.{Figure}
 use Rattle.station.specs.declared.Figure.the-variants.{Known, Absent}
 use Rattle.station.specs.declared.StationRecord.{StationRecord}
@@ -33,10 +35,9 @@ use Rattle.table.specs.Parts.{readingOf}
 use Rattle.table.specs.Table.{Table, tableOf}
 use Rattle.find.specs.Question.{someIn}
 use Rattle.find.specs.declared.Question.the-variants.{BandHolds}
-use Rattle.image.specs.Check.{checkOf}
+use Rattle.image.specs.Check.{contentTests}
 use Rattle.entry.specs.Entry.{edgesRead}
-use Rattle.tidy.specs.Tidy.{tidyOf}
-use Rattle.tidy.specs.declared.Tidiness.the-variants.{Tidy}
+use Rattle.tidy.specs.Tidy.{tidyTable}
 use Rattle.eighths.specs.Grid.{inEighths}
 use Rattle.decision.specs.declared.Verdict.{Verdict}
 use Rattle.decision.specs.declared.Verdict.the-variants.{Legal, Warning, Blocked}
@@ -71,17 +72,20 @@ offGridIn table t = some (offGridAt table t) (table .count t)
 unfoldable pub tableInEighths : Table → Bool
 tableInEighths table = blockInEighths (table .general) && not (some (offGridIn table) tables)
 
+abbrev pub rangeInEighths : Range → Bool
+rangeInEighths r = inEighths (r .«low_hz») && inEighths (r .«high_hz»)
+
+-- both pairs, also the one that isn't read
 unfoldable pub edgesInEighths : Edges → Bool
-edgesInEighths e =
-    inEighths (e .power .«low_hz») && (inEighths (e .power .«high_hz») && (inEighths (e .spectral .«low_hz») && inEighths (e .spectral .«high_hz»)))
+edgesInEighths e = rangeInEighths (e .power) && rangeInEighths (e .spectral)
 
--- "at 0 the figure isn't looked at"
-unfoldable pub stationInEighths : StationRecord → Bool
-stationInEighths r = inEighths (r .«margin_hz») && (eqb (r .«dial_known») 0 || inEighths (r .«dial_hz»))
+-- "at 0 the figure isn't looked at"; negative zero, which reads as zero, is in eighths as zero is
+abbrev pub dialInEighths : Figure → Bool
+dialInEighths (Known x) = inEighths x
+dialInEighths Absent = true
 
--- all of them
-unfoldable pub hertzInEighths : StationRecord → Edges → Table → Float → Bool
-hertzInEighths r e table dial = tableInEighths table && (edgesInEighths e && (stationInEighths r && inEighths dial))
+unfoldable pub stationInEighths : Situation → Bool
+stationInEighths s = inEighths (s .«margin_hz») && dialInEighths (s .dial)
 
 -- ---- the station record at the dial asked: "only the dial may differ"
 
@@ -101,9 +105,9 @@ tuned r dial =
       «power_w» = r .«power_w»;
     }
 
--- the edges read, by the table's reading of bandwidth
+-- the audio range of a signal, by the table's reading of bandwidth
 abbrev pub audioOf : Table → Edges → Range
-audioOf table e = rangeOf (edgesRead e) (readingOf (table .general))
+audioOf table e = rangeOf e (readingOf (table .general))
 
 -- ---- in force: "A table is in force if the policy is Rules and no image check refuses it."
 
@@ -111,8 +115,12 @@ abbrev pub accepted : Checked → Bool
 accepted Accepted = true
 accepted (Refused n) = false
 
-unfoldable pub inForce : StationRecord → List ℕ → Bool
-inForce r l = underRules r && accepted (checkOf l)
+abbrev pub rulesInForce : Situation → Bool
+rulesInForce s = eqb (policyCode (s .policy)) (policyCode Rules)
+
+-- of a table, the checks of what it holds (5 to 14); those of its bytes (1 to 4) are met by every call that isn't refused
+abbrev pub unrefused : Table → Bool
+unrefused table = accepted (refusalOf (contentTests table))
 
 -- ---- prerequisites: "Prerequisites are met if none of the five tests fails, in the list call or in the verdict."
 
@@ -143,8 +151,8 @@ prerequisitesMet table s =
 unfoldable pub guardedWidth : Range → Float → Float
 guardedWidth audio margin = add binary64 (widthOf audio) (add binary64 margin margin)
 
-unfoldable pub positiveWidth : StationRecord → Edges → Table → Bool
-positiveWidth r e table = lt zeroHz (guardedWidth (audioOf table e) (readHz (r .«margin_hz»)))
+unfoldable pub positiveWidth : Situation → Range → Bool
+positiveWidth s audio = lt zeroHz (guardedWidth audio (s .«margin_hz»))
 
 -- ---- the channel band: "every band of byte 43's number, none if flag bit 2 is clear. It holds a range if one of its bands does."
 
@@ -156,8 +164,23 @@ abbrev pub channelsHold : Table → Range → Float → Float → SidebandSet �
 channelsHold table audio margin dial (SidebandIs sideband) = channelBandHolds table (guardedOf margin (rfRangeOf dial sideband audio))
 channelsHold table audio margin dial NoSideband = false
 
-unfoldable pub onChannelBand : StationRecord → Edges → Table → Float → Bool
-onChannelBand r e table dial = channelsHold table (audioOf table e) (readHz (r .«margin_hz»)) (readHz dial) (situationOf r .sideband)
+unfoldable pub onChannelBand : Table → Situation → Range → Float → Bool
+onChannelBand table s audio dial = channelsHold table audio (s .«margin_hz») dial (s .sideband)
+
+-- ---- "a tidy table in force, all hertz figures in eighths, prerequisites met, a positive guarded width": what of it is on the table, on the
+-- station and on the signal, station and edges as they are read
+
+-- tidy, refused by no check, in eighths
+unfoldable pub tableMet : Table → Bool
+tableMet table = unrefused table && (tidyTable table && tableInEighths table)
+
+-- Rules in force, prerequisites met, margin and dial in eighths
+unfoldable pub stationMet : Table → Situation → Bool
+stationMet table s = rulesInForce s && (prerequisitesMet table s && stationInEighths s)
+
+-- edges in eighths, a positive guarded width
+unfoldable pub signalMet : Table → Situation → Edges → Bool
+signalMet table s e = edgesInEighths e && positiveWidth s (audioOf table e)
 
 -- ---- fitted: "A list fitted if its call wasn't refused."
 
@@ -204,15 +227,15 @@ NoneOutside l count left =
 -- ---- the premises, and what demand 3 says
 
 pub record Premises (r : StationRecord) (direction : ℕ) (e : Edges) (l : List ℕ) (count : ℕ) (answer : DialList) (dial : Float) : Type 0 where
-  pub tidy : tidyOf l ≡ Tidy
-  pub in-force : inForce r l ≡ true
-  pub eighths : hertzInEighths r e (tableOf l) dial ≡ true
-  pub prerequisites : prerequisitesMet (tableOf l) (situationOf (tuned r dial)) ≡ true
-  pub width : positiveWidth r e (tableOf l) ≡ true
+  pub table : tableMet (tableOf l) ≡ true
+  -- at the dial asked; the list's own dial is in eighths too
+  pub station : stationMet (tableOf l) (situationOf (tuned r dial)) ≡ true
+  pub own-dial : dialInEighths (situationOf r .dial) ≡ true
+  pub signal : signalMet (tableOf l) (situationOf r) (edgesRead e) ≡ true
   pub fitted : Fitted answer count
   -- the gate does not refuse the dial
   pub not-refused : verdictAt r direction e l dial .refusal ≡ Accepted
-  pub off-channels : onChannelBand r e (tableOf l) dial ≡ false
+  pub off-channels : onChannelBand (tableOf l) (situationOf r) (audioOf (tableOf l) (edgesRead e)) (readHz dial) ≡ false
 
 pub record Demand3 (r : StationRecord) (direction : ℕ) (e : Edges) (l : List ℕ) (count : ℕ) (left : List ℕ) (dial : Float) : Type 0 where
   -- the distance call refuses no such dial

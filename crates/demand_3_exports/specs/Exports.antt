@@ -1,19 +1,18 @@
 -- Demand 3 over the exports: of the flat answers that the library hands out, distance_hz is nought exactly when the verdict is not 2, and
 -- with none listed it is not nought. No mark is looked at.
 use Prim.Native.Nat.{ℕ}
-use mathlib.Core.Bool.{Bool, true, false, not, true≢false}
+use mathlib.Core.Bool.{true, false, not, true≢false}
 use mathlib.Core.List.{List}
 use mathlib.Core.Path.{_≡_, refl, sym, ap, _∙_}
 use native.Mathlib.Omega.{arith}
 use lib.Dec.{eqb}
 use lib.Ieee.{Float, eq, ofBits}
-use Rattle.figures.specs.Figure.{zeroHz}
-use Rattle.codes.specs.declared.Checked.the-variants.{Accepted}
-use Rattle.occupancy.specs.declared.Edges.{Edges}
+use Rattle.figures.specs.Figure.{zeroHz, readHz}
 use Rattle.station.specs.Station.{situationOf}
 use Rattle.station.specs.declared.StationRecord.{StationRecord}
 use Rattle.layout.specs.Layout.{generalOf}
 use Rattle.table.specs.Table.{tableOf}
+use Rattle.entry.specs.Entry.{edgesRead}
 use Rattle.tidy.specs.Tidy.{tidyOf}
 use Rattle.tidy.specs.declared.Tidiness.{Tidiness}
 use Rattle.tidy.specs.declared.Tidiness.the-variants.{Tidy, Untidy, NotJudged}
@@ -24,9 +23,11 @@ use Rattle.verdict.specs.Verdict.{evaluateOf}
 use Rattle.distance.specs.Distance.{distanceOf}
 use Rattle.distance.specs.declared.Distance.{Distance}
 use Rattle.distance.specs.declared.Distance.the-variants.{Hertz, NoneListed, Refused as NoAnswer}
-use Rattle.demand_3.specs.Words.{tuned, hertzInEighths, inForce, prerequisitesMet, positiveWidth, onChannelBand, verdictAt, sent, allows, distanceAt, nought, answers, NoneOutside, Demand3}
+use Rattle.demand_3.specs.Words.{tableInEighths, dialInEighths, tuned, audioOf, onChannelBand, stationMet}
+use Rattle.demand_3.specs.Words.{signalMet, verdictAt, sent, allows, distanceAt, nought, answers, NoneOutside}
+use Rattle.demand_3.specs.Grounds.{tidy-met}
 use Rattle.demand_3.specs.Theorem.{demand-3}
-use Rattle.pamuklid.specs.Flat.{recordOf, edgesOf, flatOf, tidinessFlat, FlatDialed, infinityHz, distanceFlat}
+use Rattle.pamuklid.specs.Flat.{recordOf, edgesOf, flatOf, tidinessFlat, FlatDialed, distanceFlat}
 use Rattle.pamuklid.specs.Safe.{verdict-not-refused, list-not-refused}
 use Rattle.pamuklid.specs.declared.FlatStation.{FlatStation}
 use Rattle.pamuklid.specs.declared.FlatEdges.{FlatEdges}
@@ -61,14 +62,15 @@ flatDistance l count left dial = distanceFlat (distanceOf dial (generalOf l .fla
 
 -- demand 3's premises, as the exports answer them
 pub record FlatPremises (s : FlatStation) (direction : ℕ) (e : FlatEdges) (l : List ℕ) (list : FlatDials) (dial : Float) : Type 0 where
+  -- the table: accepted and tidy, and in eighths
   pub tidy : tidinessFlat (tidyOf l) .tidy ≡ 1
-  pub in-force : inForce (recordOf s) l ≡ true
-  pub eighths : hertzInEighths (recordOf s) (edgesOf e) (tableOf l) dial ≡ true
-  pub prerequisites : prerequisitesMet (tableOf l) (situationOf (recordOf (tunedFlat s dial))) ≡ true
-  pub width : positiveWidth (recordOf s) (edgesOf e) (tableOf l) ≡ true
+  pub eighths : tableInEighths (tableOf l) ≡ true
+  pub station : stationMet (tableOf l) (situationOf (recordOf (tunedFlat s dial))) ≡ true
+  pub own-dial : dialInEighths (situationOf (recordOf s) .dial) ≡ true
+  pub signal : signalMet (tableOf l) (situationOf (recordOf s)) (edgesRead (edgesOf e)) ≡ true
   pub fitted : list .refusal ≡ 0
   pub not-refused : flatVerdict s direction e l dial .refusal ≡ 0
-  pub off-channels : onChannelBand (recordOf s) (edgesOf e) (tableOf l) dial ≡ false
+  pub off-channels : onChannelBand (tableOf l) (situationOf (recordOf s)) (audioOf (tableOf l) (edgesRead (edgesOf e))) (readHz dial) ≡ false
 
 -- what it says of them
 pub record FlatDemand3 (verdict : FlatDecision) (distance : FlatDistance) (l : List ℕ) (count : ℕ) (left : List ℕ) : Type 0 where
@@ -124,11 +126,10 @@ demand-3-flat s direction e l lent left list dial L P =
     demand-3 r direction (edgesOf e) l lent left _ (list .count) dial
     (record { answered = refl; bytes = L .bytes })
     (record {
-      tidy = tidy-flat (tidyOf l) (P .tidy);
-      in-force = P .in-force;
-      eighths = P .eighths;
-      prerequisites = rw (← same) (P .prerequisites);
-      width = P .width;
+      table = tidy-met l (tidy-flat (tidyOf l) (P .tidy)) (P .eighths);
+      station = rw (← same) (P .station);
+      own-dial = P .own-dial;
+      signal = P .signal;
       fitted = list-not-refused r direction (edgesOf e) l lent left list L (P .fitted);
       not-refused =
           ap (λ d. d .refusal) (sym verdict)

@@ -27,6 +27,7 @@ use Rattle.decision.specs.declared.Decision.{Decision}
 use Rattle.verdict.specs.Verdict.{besideValid, edgeTests, evaluateTests, unlessRefused, evaluateOf}
 use Rattle.ceiling.specs.Ceiling.{ceilingOf}
 use Rattle.ceiling.specs.Run.{limit-blocked}
+use Rattle.rows.specs.declared.SafeDial.{SafeDial}
 use Rattle.dials.specs.List.{listRows, lentTests, listTests, answerOf}
 use Rattle.dials.specs.declared.DialList.the-variants.{Rows}
 use Rattle.distance.specs.declared.Distance.{Distance}
@@ -79,31 +80,30 @@ verdict-not-refused r kind direction e l z =
     (numbered-both (entryTests r (besideValid kind direction) l) (edgeTests e) (entry-numbered r (besideValid kind direction) l) refl)
     (ap refusalNumber (sym same) ∙ z)
 
-accepted-not : {n : ℕ} → Accepted ≡ Refused n → ⊥
-accepted-not e = let z : _≡_ {A = ℕ} 0 1 = cc in omega arith
-
 -- A list with refusal 0 fitted, and its count is that of its rows.
 pub list-not-refused :
     (r : StationRecord) (direction : ℕ) (e : Edges) (l lent left : List ℕ) (answer : FlatDials) → FlatDialed r direction e l lent left answer
     → answer .refusal ≡ 0 → answerOf (refusalOf (listTests r direction e l lent)) (listRows r direction e l) ≡ Rows (answer .count)
 list-not-refused r direction e l lent left answer d z =
-    go (refusalOf tests) refl (sym (ap (λ (a : FlatDials). a .refusal) (d .answered)) ∙ z)
+    ap (λ (x : Checked). answerOf x xs) none ∙ ap (λ (x : Checked). Rows (dialsFlat (answerOf x xs) .count)) (sym none)
     ∙ ap (λ (a : FlatDials). Rows (a .count)) (sym (d .answered))
   where
+    xs : List SafeDial
+    xs = listRows r direction e l
+
     tests : List Test
     tests = listTests r direction e l lent
 
-    none : refusalNumber (refusalOf tests) ≡ 0 → refusalOf tests ≡ Accepted
+    number : (x : Checked) → refusalNumber x ≡ dialsFlat (answerOf x xs) .refusal
+    number Accepted = refl
+    number (Refused n) = refl
+
+    none : refusalOf tests ≡ Accepted
     none =
         nothing-refused tests
-        (numbered-both (entryTests r (directionValid direction) l) (test 15 (not (edgesValid e)) ∷ lentTests (listRows r direction e l) lent)
+        (numbered-both (entryTests r (directionValid direction) l) (test 15 (not (edgesValid e)) ∷ lentTests xs lent)
         (entry-numbered r (directionValid direction) l) refl)
-
-    go :
-        (x : Checked) → refusalOf tests ≡ x → dialsFlat (answerOf x (listRows r direction e l)) .refusal ≡ 0
-        → answerOf x (listRows r direction e l) ≡ Rows (dialsFlat (answerOf x (listRows r direction e l)) .count)
-    go Accepted p q = refl
-    go (Refused n) p q = absurd (accepted-not (sym (none (ap refusalNumber p ∙ q)) ∙ p))
+        (number (refusalOf tests) ∙ sym (ap (λ (a : FlatDials). a .refusal) (d .answered)) ∙ z)
 
 -- ---- what is absent or refused permits nothing
 
