@@ -123,7 +123,7 @@ fn ceiling_refusals(
 ) -> Checked
     ensures { λ x. ⌜ x ≡ refusalOf (ceilingTests r direction ordinary floor (now (image .entry)) (now (rungs .entry)) (now (floors .entry))) ⌝ }
 {
-    match entry::admit(r, direction <= 2, image) {
+    match entry::admit(r, codes::direction_valid(direction), image) {
         Checked::Refused(n) => Checked::Refused(n),
         Checked::Accepted => {
             if bad_edges(ordinary, floor, rungs) {

@@ -3,7 +3,7 @@
 ghost use mathlib.Core.Path.{_≡_};
 ghost use Prim.Native.Nat.{_<_};
 ghost use Rattle.codes.specs.Code.{classCode, kindCode, bitOf};
-ghost use Rattle.codes.specs.Read.{policyOf, controlOf, licenseOf, sidebandOf, kindOf, directionOf};
+ghost use Rattle.codes.specs.Read.{policyOf, controlOf, licenseOf, sidebandOf, kindOf, directionValid, directionOf};
 
 pub enum Policy {
     Unset,
@@ -125,6 +125,13 @@ pub fn kind_of(code: u8) -> EmissionKind
         2 => EmissionKind::Test,
         _ => EmissionKind::Nothing,
     }
+}
+
+// Whether a code is that of a direction.
+pub fn direction_valid(code: u8) -> bool
+    ensures { λ r. ⌜ r ≡ directionValid code ⌝ }
+{
+    code <= 2
 }
 
 pub fn direction_of(code: u8) -> Direction

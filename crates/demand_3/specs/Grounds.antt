@@ -24,7 +24,7 @@ use Rattle.scan.specs.First.{some, some-false, and-true}
 use Rattle.station.specs.Station.{underRules, figureValid, figuresValid, figureRead, stationTests, situationOf}
 use Rattle.station.specs.declared.Figure.the-variants.{Known, Absent}
 use Rattle.station.specs.declared.StationRecord.{StationRecord}
-use Rattle.layout.specs.Form.{formTests}
+use Rattle.layout.specs.Form.{formTests, or-false-both}
 use Rattle.layout.specs.Layout.{tables, power}
 use Rattle.table.specs.Parts.{elsewhereOf}
 use Rattle.table.specs.Table.{Table, tableOf}
@@ -41,7 +41,7 @@ use Rattle.eighths.specs.Laws.{eighths-of, zero-eighths, neg-eighths, eq-eighth
 use Rattle.exact.specs.Air.{width}
 use Rattle.demand_3.specs.Words.{recordInEighths, blockInEighths, offGridAt, offGridIn, tableInEighths, rangeInEighths}
 use Rattle.demand_3.specs.Words.{edgesInEighths, dialInEighths, stationInEighths, accepted, rulesInForce, unrefused, tableMet}
-use Rattle.demand_3.specs.Tests.{all-three, and-both, or-false-both}
+use Rattle.demand_3.specs.Tests.{all-three, and-both}
 use Rattle.demand_3.specs.Order.{Grid, grid, le-true, le-of, lt-true, lt-false, le-by-lt, by-max, by-min, figure-grid, Figures}
 use Rattle.demand_3.specs.Listed.{Spans}
 use Rattle.demand_3.specs.Judged.{Comparable}

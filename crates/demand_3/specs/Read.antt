@@ -13,12 +13,12 @@ use Rattle.scan.specs.First.{some, some-true}
 use Rattle.eighths.specs.Grid.{Figure}
 use Rattle.rows.specs.Rows.{rowSize, encodeAll, sorted, lowAt, highAt, bandAt}
 use Rattle.lists.specs.Each.{Every}
-use Rattle.rows.specs.Order.{anyRow, any-sorted, length-sorted, every-sorted}
+use Rattle.rows.specs.Order.{anyRow, any-sorted, length-sorted, every-sorted, or-left, or-right}
 use Rattle.rows.specs.Read.{low-of, high-of, band-of}
 use Rattle.rows.specs.declared.SafeDial.{SafeDial}
 use Rattle.dial_rows.specs.Laws.{DialsFit}
 use Rattle.distance.specs.Distance.{isOutside, leastUpTo}
-use Rattle.demand_3.specs.Tests.{or-left, or-right, same}
+use Rattle.demand_3.specs.Tests.{same}
 use Rattle.demand_3.specs.Words.{nought}
 use Rattle.demand_3.specs.Dial.{RowEnd}
 use Rattle.demand_3.specs.Listed.{Some, some-index, lies}

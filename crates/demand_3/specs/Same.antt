@@ -31,7 +31,8 @@ use Rattle.part97.specs.declared.Privileged.{Privileged}
 use Rattle.part97.specs.declared.Privileged.the-variants.{Granted, Forbidden, Unheld}
 use Rattle.distance.specs.Distance.{isOutside}
 use Rattle.eighths.specs.Grid.{Figure}
-use Rattle.demand_3.specs.Tests.{all-three, and-both, or-left, or-right}
+use Rattle.rows.specs.Order.{or-left, or-right}
+use Rattle.demand_3.specs.Tests.{all-three, and-both}
 use Rattle.demand_3.specs.Order.{Ends, Figures, ends, holds-trans, share}
 use Rattle.demand_3.specs.Dial.{guarded-ends}
 use Rattle.demand_3.specs.Listed.{some-index, asks-holds, Spans, guardedAt, Lawful}

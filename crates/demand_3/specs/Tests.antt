@@ -1,5 +1,5 @@
--- Tests joined by `&&` and `||`.
-use mathlib.Core.Bool.{Bool, true, false, _&&_, _||_, true≢false}
+-- Tests joined by `&&`, and tests that are equal.
+use mathlib.Core.Bool.{Bool, true, false, _&&_}
 use mathlib.Core.Path.{_≡_, refl, sym}
 use Rattle.scan.specs.First.{and-true}
 
@@ -11,17 +11,6 @@ all-three a b c e =
 
 pub and-both : (a b : Bool) → a ≡ true → b ≡ true → (a && b) ≡ true
 and-both a b p q = rw p (rw q)
-
-pub or-left : (a b : Bool) → a ≡ true → (a || b) ≡ true
-or-left a b e = rw e
-
-pub or-right : (a b : Bool) → b ≡ true → (a || b) ≡ true
-or-right true b e = refl
-or-right false b e = e
-
-pub or-false-both : (a b : Bool) → (a || b) ≡ false → (a ≡ false) × (b ≡ false)
-or-false-both true b e = absurd (true≢false e)
-or-false-both false b e = (refl, e)
 
 -- Tests that imply each other are equal.
 pub same : (a b : Bool) → (a ≡ true → b ≡ true) → (b ≡ true → a ≡ true) → a ≡ b

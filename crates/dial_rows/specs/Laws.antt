@@ -19,6 +19,7 @@ use Rattle.profile.specs.declared.Range.{Range}
 use Rattle.profile.specs.declared.Shared.{Shared}
 use Rattle.profile.specs.declared.Shared.the-variants.{Stretch, Nothing}
 use Rattle.profile.specs.declared.DataLimit.{DataLimit}
+use Rattle.scan.specs.First.{and-true}
 use Rattle.air.specs.Air.{rfRangeOf, guardedOf, widthOf, dialRangeOf, dialEndsOf}
 use Rattle.air.specs.declared.DialRange.{DialRange}
 use Rattle.air.specs.declared.DialRange.the-variants.{Dials, NoDial}
@@ -196,17 +197,13 @@ one-fit : (b : Bool) (x : SafeDial) → (b ≡ true → DialsFit x) → Every Di
 one-fit true x h = (h refl, tt)
 one-fit false x h = tt
 
-and-left : (a b : Bool) → (a && b) ≡ true → a ≡ true
-and-left true b e = refl
-and-left false b e = e
-
 -- at a dial that is no number the signal lies in no range
 held-number :
     (dial : Float) (s : Sideband) (audio : Range) (margin : Float) (r : Range)
     → holdsOf r (guardedOf margin (rfRangeOf dial s audio)) ≡ true → isNan dial ≡ false
 unfolding isNan add sub
-held-number nan Usb audio margin r e = le-number (r .«low_hz») nan (and-left (le (r .«low_hz») nan) _ e) .1
-held-number nan Lsb audio margin r e = le-number (r .«low_hz») nan (and-left (le (r .«low_hz») nan) _ e) .1
+held-number nan Usb audio margin r e = le-number (r .«low_hz») nan (and-true (le (r .«low_hz») nan) _ e .0) .1
+held-number nan Lsb audio margin r e = le-number (r .«low_hz») nan (and-true (le (r .«low_hz») nan) _ e .0) .1
 held-number (inf t) s audio margin r e = refl
 held-number (fin t m d) s audio margin r e = refl
 

@@ -153,7 +153,7 @@ pub fn safe_dials(
 ) -> DialList
     ensures { λ a. ⌜ SafeDials r direction e (now (image .entry)) (now (rows .entry)) (now (rows .exit)) a ⌝ }
 {
-    match entry::admit(r, direction <= 2, image) {
+    match entry::admit(r, codes::direction_valid(direction), image) {
         Checked::Refused(n) => DialList::Refused(n),
         Checked::Accepted => {
             if entry::edges_valid(e) {

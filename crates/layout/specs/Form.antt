@@ -61,16 +61,16 @@ pub record Whole (l : List ℕ) : Type 0 where
   pub few : (t : ℕ) → t < tables → countOf l t ≤ 256
   pub filled : length l ≡ tablesFrom l + recordSize * recordsBefore l tables + trailerSize
 
-or-false : (a b : Bool) → (a || b) ≡ false → (a ≡ false) × (b ≡ false)
-or-false true b e = absurd (true≢false e)
-or-false false b e = (refl, e)
+pub or-false-both : (a b : Bool) → (a || b) ≡ false → (a ≡ false) × (b ≡ false)
+or-false-both true b e = absurd (true≢false e)
+or-false-both false b e = (refl, e)
 
 pub whole-of : (l : List ℕ) → refusalOf (formTests l) ≡ Accepted → Whole l
 whole-of l e =
     let none = none-fails (formTests l) e in
-    let size = or-false (ltb (length l) (generalSize + trailerSize)) (ltb 65536 (length l)) (none .0) in
-    let many = or-false (overfull l) (lengthWrong l || distanceWrong l) (none .1 .1 .1 .0) in
-    let agree = or-false (lengthWrong l) (distanceWrong l) (many .1) in
+    let size = or-false-both (ltb (length l) (generalSize + trailerSize)) (ltb 65536 (length l)) (none .0) in
+    let many = or-false-both (overfull l) (lengthWrong l || distanceWrong l) (none .1 .1 .1 .0) in
+    let agree = or-false-both (lengthWrong l) (distanceWrong l) (many .1) in
     let sized : generalSize + trailerSize ≤ length l = ltb-false _ _ (size .0) in
     let ends : trailerOf l ≡ tablesFrom l + recordSize * recordsBefore l tables = eqb-true _ _ (not-false _ (agree .0)) in
     record {

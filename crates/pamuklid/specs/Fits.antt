@@ -41,10 +41,9 @@ use Rattle.fault.specs.Laws.{named}
 use Rattle.fault.specs.declared.Fault.{Fault}
 use Rattle.fault.specs.declared.Fault.the-variants.{InRecord}
 use Rattle.entry.specs.Entry.{entryTests, entryOf, entry-whole, edgesValid, edgesRead}
-use Rattle.lists.specs.Each.{each, each-few}
 use Rattle.rows.specs.declared.SafeDial.{SafeDial}
-use Rattle.dial_rows.specs.Dials.{dataRows, channelsOpen, channelFound, channelAt, channelRows, openRows, bandRows, rowsOf}
-use Rattle.dial_rows.specs.Laws.{data-few, channel-few}
+use Rattle.dial_rows.specs.Dials.{rowsOf}
+use Rattle.dial_rows.specs.Laws.{gathered-few}
 use Rattle.dial_rows.specs.declared.Request.{Request}
 use Rattle.dials.specs.List.{withSideband, withLicense, withControl, knownRows, situationRows, listRows, lentTests, listTests, answerOf}
 use Rattle.dials.specs.declared.DialList.{DialList}
@@ -60,34 +59,9 @@ use Rattle.ceiling.specs.declared.Rung.the-variants.{Fastest, NoRung}
 abbrev pub mostRows : ℕ
 mostRows = 16777472
 
-cond-few : (b : Bool) (xs ys : List SafeDial) (k : ℕ) → length xs ≤ k → length ys ≤ k → length (cond b xs ys) ≤ k
-cond-few true xs ys k p q = p
-cond-few false xs ys k p q = q
-
-channels-few : (l : List ℕ) → Whole l → (q : Request) (c : Channels) → length (channelRows (tableOf l) q c) ≤ 256
-unfolding channelRows
-channels-few l w q c =
-    let a : length (each (countOf l channels) (channelAt (tableOf l) q c)) ≤ countOf l channels * 1 =
-    each-few (countOf l channels) 1 (channelAt (tableOf l) q c) (λ i. channel-few q c (centreOf (recordIn l channels i))) in
-    let b : countOf l channels ≤ 256 = w .few channels (omega arith) in
-    omega arith
-
-open-few : (l : List ℕ) → Whole l → (q : Request) (c : Channels) → length (openRows (tableOf l) q c) ≤ 256
-unfolding openRows
-open-few l w q c = cond-few (channelsOpen q && channelFound (tableOf l) q) (channelRows (tableOf l) q c) [] 256 (channels-few l w q c) (omega arith)
-
-band-few : (l : List ℕ) → Whole l → (q : Request) (b : ChannelBand) → length (bandRows (tableOf l) q b) ≤ 256
-band-few l w q (On c) = open-few l w q c
-band-few l w q NoChannels = omega arith
-
 rows-few : (l : List ℕ) → Whole l → (q : Request) → length (rowsOf (tableOf l) q) ≤ mostRows
 unfolding rowsOf
-rows-few l w q =
-    let a : length (dataRows (tableOf l) q) ≤ 16777216 = data-few l w q in
-    let b : length (bandRows (tableOf l) q (channelsOf (generalOf l))) ≤ 256 = band-few l w q (channelsOf (generalOf l)) in
-    let s : length (dataRows (tableOf l) q ++ bandRows (tableOf l) q (channelsOf (generalOf l))) ≡ length (dataRows (tableOf l) q) + length (bandRows (tableOf l) q (channelsOf (generalOf l))) =
-    length-append (dataRows (tableOf l) q) (bandRows (tableOf l) q (channelsOf (generalOf l))) in
-    omega arith
+rows-few l w q = gathered-few l w q (channelsOf (generalOf l))
 
 sideband-few : (x : SidebandSet) (f : Sideband → List SafeDial) (k : ℕ) → ((s : Sideband) → length (f s) ≤ k) → length (withSideband x f) ≤ k
 sideband-few (SidebandIs s) f k h = h s

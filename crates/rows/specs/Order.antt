@@ -1,7 +1,7 @@
 -- What sorting and gathering keep: which rows there are. A question of a row has the same answer over the sorted list as over the rows as
 -- they came, and over rows gathered index by index it is asked of each index.
 use Prim.Native.Nat.{ℕ, zero, suc, _+_, _<_, _≤_}
-use mathlib.Core.Bool.{Bool, true, false, cond, _||_, false≢true}
+use mathlib.Core.Bool.{Bool, true, false, cond, _||_, or-assoc, or-false, false≢true}
 use mathlib.Core.List.{List, [], _∷_, _++_}
 use mathlib.Core.Path.{_≡_, refl, sym, ap, subst, _∙_}
 use native.Mathlib.Omega.{arith}
@@ -18,18 +18,10 @@ abbrev pub anyRow : (SafeDial → Bool) → List SafeDial → Bool
 anyRow test [] = false
 anyRow test (x ∷ xs) = test x || anyRow test xs
 
-or-assoc : (a b c : Bool) → ((a || b) || c) ≡ (a || (b || c))
-or-assoc true b c = refl
-or-assoc false b c = refl
-
 or-swap : (a b c : Bool) → (a || (b || c)) ≡ (b || (a || c))
 or-swap true true c = refl
 or-swap true false c = refl
 or-swap false b c = refl
-
-or-false : (a : Bool) → (a || false) ≡ a
-or-false true = refl
-or-false false = refl
 
 pub any-append : (test : SafeDial → Bool) (xs ys : List SafeDial) → anyRow test (xs ++ ys) ≡ (anyRow test xs || anyRow test ys)
 any-append test [] ys = refl
@@ -82,12 +74,12 @@ every-sorted P xs p = every-insert-all P xs [] p tt
 
 -- ---- rows gathered index by index
 
-or-true-right : (a b : Bool) → b ≡ true → (a || b) ≡ true
-or-true-right true b e = refl
-or-true-right false b e = e
+pub or-right : (a b : Bool) → b ≡ true → (a || b) ≡ true
+or-right true b e = refl
+or-right false b e = e
 
-or-true-left : (a b : Bool) → a ≡ true → (a || b) ≡ true
-or-true-left a b e = rw e
+pub or-left : (a b : Bool) → a ≡ true → (a || b) ≡ true
+or-left a b e = rw e
 
 -- A row of one index is a row of the whole.
 pub any-each-in :
@@ -97,10 +89,10 @@ any-each-in test zero f i h e = absurd (omega arith)
 any-each-in test (suc n) f i h e = any-append test (each n f) (f n) ∙ go (decLe (suc i) n) (λ k. any-each-in test n f i k e)
   where
     go : Dec (suc i ≤ n) → (i < n → anyRow test (each n f) ≡ true) → (anyRow test (each n f) || anyRow test (f n)) ≡ true
-    go (yes k) before = or-true-left (anyRow test (each n f)) (anyRow test (f n)) (before k)
+    go (yes k) before = or-left (anyRow test (each n f)) (anyRow test (f n)) (before k)
     go (no k) before =
         let q : i ≡ n = omega arith in
-        or-true-right (anyRow test (each n f)) (anyRow test (f n)) (subst (λ (j : ℕ). anyRow test (f j) ≡ true) q e)
+        or-right (anyRow test (each n f)) (anyRow test (f n)) (subst (λ (j : ℕ). anyRow test (f j) ≡ true) q e)
 
 -- an index, below n, with a row that passes
 pub record Index (test : SafeDial → Bool) (n : ℕ) (f : ℕ → List SafeDial) : Type 0 where

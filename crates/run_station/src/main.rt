@@ -123,7 +123,7 @@ fn print_beside(direction: u8, kind: u8) {
 
 // What follows a case's number in its line.
 fn report(r: StationRecord, direction: u8, kind: u8, image: &[u8]) {
-    match station::refusals(r, direction <= 2 && kind <= 3, image) {
+    match station::refusals(r, codes::direction_valid(direction) && kind <= 3, image) {
         Checked::Refused(n) => print_number(b"refused ", n as u64),
         Checked::Accepted => {
             let x = station::situation_of(r);

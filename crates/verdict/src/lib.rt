@@ -196,7 +196,7 @@ pub fn decide(
 fn beside_valid(kind: u8, direction: u8) -> bool
     ensures { λ x. ⌜ x ≡ besideValid kind direction ⌝ }
 {
-    kind <= 3 && direction <= 2
+    kind <= 3 && codes::direction_valid(direction)
 }
 
 // Refusals 20 to 22, 1 to 14 and 15.
