@@ -7,6 +7,7 @@ use decision::Draft;
 use decision::Guidance;
 use decision::Overshoot;
 use find::Question;
+use layout::General;
 use part97::Case;
 use profile::Range;
 use scan::Found;
@@ -14,9 +15,9 @@ use station::Figure;
 use table::PowerLimit;
 ghost use mathlib.Core.Path.{_≡_};
 ghost use mathlib.Core.Bool.{_||_};
-ghost use Rattle.layout.specs.Layout.{countOf, power};
+ghost use Rattle.layout.specs.Layout.{countOf, generalOf, power};
 ghost use Rattle.layout.specs.Form.{Whole};
-ghost use Rattle.table.specs.Table.{tableOf};
+ghost use Rattle.table.specs.Table.{Table, tableOf};
 ghost use Rattle.part97.specs.Part97.{exceeds, noted, noteAt, notesUpTo, anyNote, wantsPlan, planSays, guidanceOf, planWarns, adviceOf, adviceWarns, advised};
 
 // Whether a known power is above a limit.
@@ -67,11 +68,10 @@ fn notes_of(s: &[u8], c: Case, r: Range) -> Notes
 }
 
 // Whether the plan is asked, and there is one.
-fn wants_plan(s: &[u8], c: Case) -> bool
-    requires { ⌜ Whole (now s) ⌝ }
-    ensures { λ x. ⌜ x ≡ wantsPlan (tableOf (now (s .entry))) c ⌝ }
+fn wants_plan(g: General, c: Case) -> bool
+    ensures { λ x. ⌜ ((table : Table) → g ≡ table .general → x ≡ wantsPlan table c) ⌝ }
 {
-    c.band_plan && table::has_plan(layout::general_of(s))
+    c.band_plan && table::has_plan(g)
 }
 
 // What the plan says of a range.
@@ -89,11 +89,11 @@ fn plan_says(s: &[u8], r: Range) -> Guidance
 }
 
 // The voluntary plan, where it is asked.
-fn guidance_of(s: &[u8], c: Case, r: Range) -> Guidance
-    requires { ⌜ Whole (now s) ⌝ }
+fn guidance_of(s: &[u8], g: General, c: Case, r: Range) -> Guidance
+    requires { ⌜ (Whole (now s)) × (g ≡ generalOf (now s)) ⌝ }
     ensures { λ x. ⌜ x ≡ guidanceOf (tableOf (now (s .entry))) c r ⌝ }
 {
-    if wants_plan(s, c) {
+    if wants_plan(g, c) {
         plan_says(s, r)
     } else {
         Guidance::NoGuidance
@@ -118,13 +118,21 @@ fn either(a: bool, b: bool) -> bool
 }
 
 // A lawful data transmission over a range, with what the operator should know.
-pub fn advise(s: &[u8], c: Case, r: Range, draft: Draft, code: Code, rule: u16) -> Decision
-    requires { ⌜ Whole (now s) ⌝ }
+pub fn advise(
+    s: &[u8],
+    g: General,
+    c: Case,
+    r: Range,
+    draft: Draft,
+    code: Code,
+    rule: u16,
+) -> Decision
+    requires { ⌜ (Whole (now s)) × (g ≡ generalOf (now s)) ⌝ }
     ensures { λ x. ⌜ x ≡ advised (tableOf (now (s .entry))) c r draft code rule ⌝ }
 {
     let n = notes_of(s, c, r);
     let marks = n.marks;
-    let guidance = guidance_of(s, c, r);
+    let guidance = guidance_of(s, g, c, r);
     let warn = either(n.any, plan_warns(guidance));
     let advice = Advice {
         guidance,

@@ -4,6 +4,7 @@ use codes::Direction;
 use decision::Code;
 use decision::MaybeRange;
 use find::Pick;
+use layout::General;
 use part97::Case;
 use part97::Finding;
 use profile::Range;
@@ -12,7 +13,8 @@ use table::ElsewhereRule;
 ghost use mathlib.Core.Path.{_≡_};
 ghost use mathlib.Core.Bool.{_&&_, not};
 ghost use Rattle.layout.specs.Form.{Whole};
-ghost use Rattle.table.specs.Table.{tableOf};
+ghost use Rattle.layout.specs.Layout.{generalOf};
+ghost use Rattle.table.specs.Table.{Table, tableOf};
 ghost use Rattle.automatic_97_221.specs.Automatic.{responds};
 ghost use Rattle.part97.specs.Part97.{draftInside, automaticElsewhere, automaticData};
 ghost use Rattle.part97.specs.Finding.{lawfulIn, concluded};
@@ -42,15 +44,14 @@ fn lawful(
 
 // Outside the segments for automatic control (97.221(c)).
 fn automatic_elsewhere(
-    s: &[u8],
+    g: General,
     c: Case,
     band: u8,
     segment: Range,
     own: u16,
     rule: ElsewhereRule,
 ) -> Finding
-    requires { ⌜ Whole (now s) ⌝ }
-    ensures { λ x. ⌜ concluded (tableOf (now (s .entry))) c x ≡ automaticElsewhere (tableOf (now (s .entry))) c (draftInside c band segment own) rule ⌝ }
+    ensures { λ x. ⌜ ((table : Table) → g ≡ table .general → concluded table c x ≡ automaticElsewhere table c (draftInside c band segment own) rule) ⌝ }
 {
     let direction = c.direction;
     match rule {
@@ -72,19 +73,17 @@ fn automatic_elsewhere(
             )
         }
         ElsewhereRule::Nowhere => {
-            let g = layout::general_of(s);
             findings::in_segment(band, segment, own, Code::AutomaticOutside, g.automatic_rule)
         }
     }
 }
 
 // Inside a segment for automatic control (97.221(b)), or else by (c).
-pub fn automatic_data(s: &[u8], c: Case, band: u8, segment: Range, rule: u16) -> Finding
-    requires { ⌜ Whole (now s) ⌝ }
+pub fn automatic_data(s: &[u8], g: General, c: Case, band: u8, segment: Range, rule: u16) -> Finding
+    requires { ⌜ (Whole (now s)) × (g ≡ generalOf (now s)) ⌝ }
     ensures { λ x. ⌜ concluded (tableOf (now (s .entry))) c x ≡ automaticData (tableOf (now (s .entry))) c band segment rule ⌝ }
 {
     let guarded = c.guarded;
-    let g = layout::general_of(s);
     match find::pick_holding(s, layout::AUTOMATIC, guarded) {
         Pick::Picked(_, r) => {
             let inside = table::span_of(r);
@@ -98,6 +97,6 @@ pub fn automatic_data(s: &[u8], c: Case, band: u8, segment: Range, rule: u16) ->
                 g.automatic_rule,
             )
         }
-        Pick::Missing => { automatic_elsewhere(s, c, band, segment, rule, table::elsewhere_of(g)) }
+        Pick::Missing => { automatic_elsewhere(g, c, band, segment, rule, table::elsewhere_of(g)) }
     }
 }

@@ -56,7 +56,7 @@ fn barred_by_rules(
     ensures { λ x. ⌜ x ≡ isBlocked (underRulesOf (tableOf (now (image .entry))) s dial kind direction audio .verdict) ⌝ }
 {
     match verdict::prepare(g, s, dial, kind, direction, audio) {
-        Ready::Met(c) => blocks(judge::judge_case(image, c)),
+        Ready::Met(c) => blocks(judge::judge_case(image, g, c)),
         Ready::Missing(_, _) => true,
     }
 }

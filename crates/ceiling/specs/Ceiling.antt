@@ -31,6 +31,7 @@ use Rattle.ceiling.specs.declared.Rung.{Rung}
 use Rattle.ceiling.specs.declared.Rung.the-variants.{Fastest, NoRung}
 use Rattle.ceiling.specs.declared.Envelope.{Envelope}
 use Rattle.ceiling.specs.declared.Envelope.the-variants.{Reached, Unreached}
+use Rattle.ceiling.specs.declared.Step.{Step}
 use Rattle.ceiling.specs.declared.Climb.{Climb}
 use Rattle.ceiling.specs.declared.CeilingAnswer.{CeilingAnswer}
 
@@ -82,6 +83,11 @@ judgedOf c k e d = cond (isBlocked (d .verdict)) (endedOf (c .rung) e d) (wentOn
 -- how an envelope is judged: as data, by the verdict's own definition
 unfoldable pub judgeBy : Table → Situation → Direction → Edges → Decision
 judgeBy table s direction e = decideOf table s (s .policy) (s .dial) Data direction e
+
+-- one rung's step: the envelope with what the rung adds, and whether that is blocked
+unfoldable pub rungStep : (Edges → Decision) → Envelope → Edges → Step
+rungStep judge envelope more =
+    record { envelope = joinedOf envelope more; blocked = isBlocked (judge (joinedOf envelope more) .verdict) }
 
 -- rung k judged, with what it adds to the envelope
 unfoldable pub rungJudged : (Edges → Decision) → Climb → ℕ → Edges → Climb

@@ -15,10 +15,11 @@ use Rattle.station.specs.declared.StationRecord.{StationRecord}
 use Rattle.entry.specs.Entry.{entryTests}
 use Rattle.occupancy.specs.declared.Edges.{Edges}
 use Rattle.scan.specs.First.{cond-yes, cond-not}
-use Rattle.decision.specs.Decision.{isBlocked}
 use Rattle.decision.specs.declared.Decision.{Decision}
-use Rattle.ceiling.specs.Ceiling.{joinedOf, noDecision, startOf, endedOf, wentOn, judgedOf, rungJudged, stepOf, climbed, anyUnmarked, badRungs, rungTests, ceilingTests}
+use Rattle.ceiling.specs.Ceiling.{noDecision, startOf, endedOf, wentOn, judgedOf, rungStep, rungJudged, stepOf, climbed}
+use Rattle.ceiling.specs.Ceiling.{anyUnmarked, badRungs, rungTests, ceilingTests}
 use Rattle.ceiling.specs.declared.Climb.{Climb}
+use Rattle.ceiling.specs.declared.Step.{Step}
 use Rattle.ceiling.specs.declared.Envelope.{Envelope}
 use Rattle.ceiling.specs.declared.Envelope.the-variants.{Reached, Unreached}
 use Rattle.ceiling.specs.declared.Rung.{Rung}
@@ -88,22 +89,26 @@ module _ (judge : Edges → Decision) (burst : ℕ → Edges) (n : ℕ) where
   unfolding startOf
   free-start = climbing-start judge burst n (freeClimb Unreached NoRung) refl
 
-  module _ (i : ℕ) (envelope : Envelope) (rung : Rung) (p : Free judge burst n i envelope rung) (h : i < n) (e : Edges) (joined : e ≡ joinedOf envelope (burst i)) where
-    rung-of : (b : Bool) → isBlocked (judge e .verdict) ≡ b → cond b (endedOf rung e (judge e)) (wentOn i e) ≡ rungJudged judge (freeClimb envelope rung) i (burst i)
-    unfolding rungJudged judgedOf
-    rung-of b q =
-        ap (λ (x : Bool). cond x (endedOf rung e (judge e)) (wentOn i e)) (sym q)
-        ∙ ap (λ (x : Edges). cond (isBlocked (judge x .verdict)) (endedOf rung x (judge x)) (wentOn i x)) joined
+  -- the climb after a step
+  abbrev after : Rung → ℕ → Step → Bool → Climb
+  after rung i t b = cond b (endedOf rung (t .envelope) (judge (t .envelope))) (wentOn i (t .envelope))
+
+  module _
+      (i : ℕ) (envelope : Envelope) (rung : Rung) (t : Step) (p : Free judge burst n i envelope rung) (h : i < n)
+      (e : t ≡ rungStep judge envelope (burst i)) where
+    by-step : (b : Bool) → t .blocked ≡ b → after rung i t b ≡ rungJudged judge (freeClimb envelope rung) i (burst i)
+    unfolding rungStep rungJudged judgedOf
+    by-step b q = ap (after rung i t) (sym q) ∙ ap (λ (x : Step). after rung i x (x .blocked)) e
 
     -- rung i is allowed
-    pub free-again : isBlocked (judge e .verdict) ≡ false → Free judge burst n (i + 1) (Reached e) (Fastest i)
+    pub free-again : t .blocked ≡ false → Free judge burst n (i + 1) (Reached (t .envelope)) (Fastest i)
     unfolding wentOn
-    free-again q = climbing-again judge burst n i (freeClimb envelope rung) (freeClimb (Reached e) (Fastest i)) p h (rung-of false q) refl
+    free-again q = climbing-again judge burst n i (freeClimb envelope rung) (after rung i t false) p h (by-step false q) refl
 
     -- rung i is blocked
-    pub free-over : isBlocked (judge e .verdict) ≡ true → endedOf rung e (judge e) ≡ climbed judge burst n
+    pub free-over : t .blocked ≡ true → endedOf rung (t .envelope) (judge (t .envelope)) ≡ climbed judge burst n
     unfolding endedOf
-    free-over q = climb-over judge burst n i (freeClimb envelope rung) (endedOf rung e (judge e)) p h (rung-of true q) refl
+    free-over q = climb-over judge burst n i (freeClimb envelope rung) (after rung i t true) p h (by-step true q) refl
 
 -- Accepted, a call has one floor byte for each rung.
 one-each : (rungs : List Float) (floors : List ℕ) → badRungs rungs floors ≡ false → length floors ≡ length rungs / 4

@@ -15,7 +15,8 @@ ghost use Rattle.codes.specs.Refusal.{refusalOf};
 ghost use Rattle.codes.specs.declared.Policy.the-variants.{Rules};
 ghost use Rattle.layout.specs.Form.{Whole};
 ghost use Rattle.table.specs.Table.{tableOf};
-ghost use Rattle.ceiling.specs.Ceiling.{figureAt, rungOf, controlOf, burstOf, joinedOf, startOf, judgeBy, judgedOf, rungJudged, climbed, anyUnsized, anyUnmarked, badEdges, badRungs, ceilingTests, ceilingOf};
+ghost use Rattle.ceiling.specs.Ceiling.{figureAt, rungOf, controlOf, burstOf, joinedOf, judgeBy, rungStep, climbed};
+ghost use Rattle.ceiling.specs.Ceiling.{anyUnsized, anyUnmarked, badEdges, badRungs, ceilingTests, ceilingOf};
 
 // The fastest rung allowed.
 pub enum Rung {
@@ -27,6 +28,12 @@ pub enum Rung {
 pub enum Envelope {
     Reached(Edges),
     Unreached,
+}
+
+// A rung's step: what it occupies with its control frame and every slower rung, and whether that is blocked.
+pub struct Step {
+    pub envelope: Edges,
+    pub blocked: bool,
 }
 
 // A climb: the rungs judged so far, and the decision on the first that is blocked. Where there is none, `limit` is absent: Blocked,
@@ -181,6 +188,53 @@ fn joined(envelope: Envelope, more: Edges) -> Edges
     }
 }
 
+// One rung judged, with what it adds to the envelope.
+pub fn rung_step(
+    image: &[u8],
+    s: Situation,
+    direction: Direction,
+    envelope: Envelope,
+    more: Edges,
+) -> Step
+    requires { ⌜ (s .policy ≡ Rules → Whole (now image)) ⌝ }
+    ensures { λ x. ⌜ x ≡ rungStep (judgeBy (tableOf (now (image .entry))) s direction) envelope more ⌝ }
+{
+    let policy = s.policy;
+    let dial = s.dial;
+    let reached = joined(envelope, more);
+    let blocked = barred::barred(
+        image,
+        s,
+        policy,
+        dial,
+        EmissionKind::Data,
+        direction,
+        reached,
+    );
+    Step {
+        envelope: reached,
+        blocked,
+    }
+}
+
+// The decision on an envelope.
+pub fn rung_decision(image: &[u8], s: Situation, direction: Direction, envelope: Edges) -> Decision
+    requires { ⌜ (s .policy ≡ Rules → Whole (now image)) ⌝ }
+    ensures { λ x. ⌜ x ≡ judgeBy (tableOf (now (image .entry))) s direction envelope ⌝ }
+{
+    let policy = s.policy;
+    let dial = s.dial;
+    verdict::decide(
+        image,
+        s,
+        policy,
+        dial,
+        EmissionKind::Data,
+        direction,
+        envelope,
+    )
+}
+
 // The climb over all rungs. It ends at the first that is blocked.
 fn climb_all(
     image: &[u8],
@@ -195,24 +249,23 @@ fn climb_all(
     ensures { λ x. ⌜ x ≡ climbed (judgeBy (tableOf (now (image .entry))) s direction) (burstOf ordinary floor (now (rungs .entry)) (now (floors .entry))) (length (now (rungs .entry)) / 4) ⌝ }
 {
     let count = rungs.len() / 4;
-    let policy = s.policy;
-    let dial = s.dial;
     let mut envelope = Envelope::Unreached;
     let mut rung = Rung::NoRung;
     let mut i: usize = 0;
     while i < count {
         let more = burst(ordinary, floor, rungs, floors, i);
-        let e = joined(envelope, more);
-        if barred::barred(image, s, policy, dial, EmissionKind::Data, direction, e) {
-            let d = verdict::decide(image, s, policy, dial, EmissionKind::Data, direction, e);
+        let step = rung_step(image, s, direction, envelope, more);
+        let reached = step.envelope;
+        if step.blocked {
+            let limit = rung_decision(image, s, direction, reached);
             return Climb {
-                envelope: Envelope::Reached(e),
+                envelope: Envelope::Reached(reached),
                 rung,
                 limited: true,
-                limit: d,
+                limit,
             };
         }
-        envelope = Envelope::Reached(e);
+        envelope = Envelope::Reached(reached);
         rung = Rung::Fastest(i);
         i += 1;
     }

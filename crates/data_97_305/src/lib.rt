@@ -7,6 +7,7 @@ use decision::Code;
 use decision::MaybeRange;
 use decision::Verdict;
 use find::Pick;
+use layout::General;
 use part97::Case;
 use part97::Finding;
 use part97::Nearest;
@@ -14,7 +15,7 @@ use part97::Privileged;
 use profile::DataLimit;
 use table::Segment;
 ghost use mathlib.Core.Path.{_≡_};
-ghost use Rattle.layout.specs.Layout.{segments};
+ghost use Rattle.layout.specs.Layout.{generalOf, segments};
 ghost use Rattle.layout.specs.Form.{Whole};
 ghost use Rattle.table.specs.Table.{tableOf};
 ghost use Rattle.find.specs.Question.{firstIn};
@@ -50,8 +51,8 @@ fn outside_segments(s: &[u8], c: Case, band: u8) -> Finding
 }
 
 // Inside a data segment: the operator's privileges, then automatic control.
-fn inside_segment(s: &[u8], c: Case, band: u8, segment: Segment) -> Finding
-    requires { ⌜ Whole (now s) ⌝ }
+fn inside_segment(s: &[u8], g: General, c: Case, band: u8, segment: Segment) -> Finding
+    requires { ⌜ (Whole (now s)) × (g ≡ generalOf (now s)) ⌝ }
     ensures { λ x. ⌜ concluded (tableOf (now (s .entry))) c x ≡ insideSegment (tableOf (now (s .entry))) c band segment ⌝ }
 {
     let range = segment.range;
@@ -59,7 +60,7 @@ fn inside_segment(s: &[u8], c: Case, band: u8, segment: Segment) -> Finding
     match privileges_97_301::privileged(s, c, EmissionKind::Data) {
         Privileged::Granted => {
             if c.automatic {
-                return automatic_data_97_221::automatic_data(s, c, band, range, segment.rule);
+                return automatic_data_97_221::automatic_data(s, g, c, band, range, segment.rule);
             }
             findings::lawful_in(
                 band,
@@ -105,12 +106,12 @@ fn too_wide(band: u8, limit: DataLimit) -> Finding
 }
 
 // By the first data segment that holds the guarded range; too wide comes before "no segment".
-pub fn judge_data(s: &[u8], c: Case, band: u8) -> Finding
-    requires { ⌜ Whole (now s) ⌝ }
+pub fn judge_data(s: &[u8], g: General, c: Case, band: u8) -> Finding
+    requires { ⌜ (Whole (now s)) × (g ≡ generalOf (now s)) ⌝ }
     ensures { λ x. ⌜ concluded (tableOf (now (s .entry))) c x ≡ judgeData (tableOf (now (s .entry))) c band (firstIn (tableOf (now (s .entry))) segments (Holds (c .guarded))) ⌝ }
 {
     let guarded = c.guarded;
-    let general = table::data_of(layout::general_of(s));
+    let general = table::data_of(g);
     match find::pick_holding(s, layout::SEGMENTS, guarded) {
         Pick::Picked(_, r) => {
             let segment = table::segment_of(r);
@@ -120,7 +121,7 @@ pub fn judge_data(s: &[u8], c: Case, band: u8) -> Finding
             if limit.max_bandwidth_hz < c.width {
                 return too_wide(band, limit);
             }
-            inside_segment(s, c, band, segment)
+            inside_segment(s, g, c, band, segment)
         }
         Pick::Missing => {
             if general.max_bandwidth_hz < c.width {

@@ -12,27 +12,29 @@ use decision::MaybeRange;
 use decision::Verdict;
 use find::Pick;
 use find::Question;
+use layout::General;
 use part97::Case;
 use part97::Finding;
 use table::ChannelBand;
 use table::Channels;
 ghost use mathlib.Core.Path.{_≡_};
 ghost use Rattle.layout.specs.Form.{Whole};
+ghost use Rattle.layout.specs.Layout.{generalOf};
 ghost use Rattle.table.specs.Table.{tableOf};
 ghost use Rattle.part97.specs.Part97.{offSixty, judgeOnBand, judgeInBand, touching, judge};
 ghost use Rattle.part97.specs.Finding.{draftAt, concluded};
 ghost use Rattle.judge.specs.Way.{sixtyHere, closedBy};
 
 // By the kind of emission, off 60 m.
-fn off_sixty(s: &[u8], c: Case, band: u8, kind: EmissionKind) -> Finding
-    requires { ⌜ Whole (now s) ⌝ }
+fn off_sixty(s: &[u8], g: General, c: Case, band: u8, kind: EmissionKind) -> Finding
+    requires { ⌜ (Whole (now s)) × (g ≡ generalOf (now s)) ⌝ }
     ensures { λ x. ⌜ concluded (tableOf (now (s .entry))) c x ≡ offSixty (tableOf (now (s .entry))) c band kind ⌝ }
 {
     match kind {
-        EmissionKind::Data => data_97_305::judge_data(s, c, band),
+        EmissionKind::Data => data_97_305::judge_data(s, g, c, band),
         EmissionKind::Cw => other_97_305::judge_emitted(s, c, band, EmissionKind::Cw),
         EmissionKind::Test => other_97_305::judge_emitted(s, c, band, EmissionKind::Test),
-        EmissionKind::Nothing => other_97_305::judge_keyed(s, c, band),
+        EmissionKind::Nothing => other_97_305::judge_keyed(s, g, c, band),
     }
 }
 
@@ -64,14 +66,14 @@ fn sixty_here(band: u8, channels: ChannelBand) -> Sixty
 }
 
 // On 60 m, or off it.
-fn judge_on_band(s: &[u8], c: Case, band: u8, channels: ChannelBand) -> Finding
-    requires { ⌜ Whole (now s) ⌝ }
+fn judge_on_band(s: &[u8], g: General, c: Case, band: u8, channels: ChannelBand) -> Finding
+    requires { ⌜ (Whole (now s)) × (g ≡ generalOf (now s)) ⌝ }
     ensures { λ x. ⌜ concluded (tableOf (now (s .entry))) c x ≡ judgeOnBand (tableOf (now (s .entry))) c band channels ⌝ }
 {
     let kind = c.kind;
     match sixty_here(band, channels) {
-        Sixty::Here(ch) => sixty_97_303::sixty(s, c, ch),
-        Sixty::Elsewhere => off_sixty(s, c, band, kind),
+        Sixty::Here(ch) => sixty_97_303::sixty(s, g, c, ch),
+        Sixty::Elsewhere => off_sixty(s, g, c, band, kind),
     }
 }
 
@@ -94,11 +96,11 @@ fn closed_by(s: &[u8], c: Case, band: u8) -> Closed
 }
 
 // A band that is not closed to the station is judged.
-fn judge_in_band(s: &[u8], c: Case, band: u8) -> Finding
-    requires { ⌜ Whole (now s) ⌝ }
+fn judge_in_band(s: &[u8], g: General, c: Case, band: u8) -> Finding
+    requires { ⌜ (Whole (now s)) × (g ≡ generalOf (now s)) ⌝ }
     ensures { λ x. ⌜ concluded (tableOf (now (s .entry))) c x ≡ judgeInBand (tableOf (now (s .entry))) c band ⌝ }
 {
-    let channels = table::channels_of(layout::general_of(s));
+    let channels = table::channels_of(g);
     match closed_by(s, c, band) {
         Closed::By(rule) => findings::on_band(
             BandNumber::Band(band),
@@ -106,7 +108,7 @@ fn judge_in_band(s: &[u8], c: Case, band: u8) -> Finding
             Code::AutomaticExcluded,
             rule,
         ),
-        Closed::Open => judge_on_band(s, c, band, channels),
+        Closed::Open => judge_on_band(s, g, c, band, channels),
     }
 }
 
@@ -123,13 +125,13 @@ fn touching_band(s: &[u8], c: Case) -> BandNumber
 }
 
 // By the first band that holds the guarded range.
-pub fn judge_case(s: &[u8], c: Case) -> Finding
-    requires { ⌜ Whole (now s) ⌝ }
+pub fn judge_case(s: &[u8], g: General, c: Case) -> Finding
+    requires { ⌜ (Whole (now s)) × (g ≡ generalOf (now s)) ⌝ }
     ensures { λ x. ⌜ concluded (tableOf (now (s .entry))) c x ≡ judge (tableOf (now (s .entry))) c ⌝ }
 {
     let guarded = c.guarded;
     match find::pick_holding(s, layout::BANDS, guarded) {
-        Pick::Picked(_, r) => judge_in_band(s, c, r.band),
+        Pick::Picked(_, r) => judge_in_band(s, g, c, r.band),
         Pick::Missing => findings::on_band(
             touching_band(s, c),
             Verdict::Blocked,
@@ -159,15 +161,15 @@ fn draft_at(c: Case, f: Finding) -> Draft
 }
 
 // The decision, with what the operator should know.
-pub fn conclude(s: &[u8], c: Case, f: Finding) -> Decision
-    requires { ⌜ Whole (now s) ⌝ }
+pub fn conclude(s: &[u8], g: General, c: Case, f: Finding) -> Decision
+    requires { ⌜ (Whole (now s)) × (g ≡ generalOf (now s)) ⌝ }
     ensures { λ x. ⌜ x ≡ concluded (tableOf (now (s .entry))) c f ⌝ }
 {
     let draft = draft_at(c, f);
     let code = f.code;
     let over = f.over;
     match over {
-        MaybeRange::Is(r) => advice_97_313::advise(s, c, r, draft, code, f.rule),
+        MaybeRange::Is(r) => advice_97_313::advise(s, g, c, r, draft, code, f.rule),
         MaybeRange::NoRange => {
             let verdict = f.verdict;
             let overshoot = f.overshoot;

@@ -4,12 +4,14 @@ use codes::EmissionKind;
 use decision::BandNumber;
 use decision::Code;
 use decision::Verdict;
+use layout::General;
 use part97::Case;
 use part97::Finding;
 use part97::Privileged;
 use profile::Range;
 ghost use mathlib.Core.Path.{_≡_};
 ghost use Rattle.layout.specs.Form.{Whole};
+ghost use Rattle.layout.specs.Layout.{generalOf};
 ghost use Rattle.table.specs.Table.{tableOf};
 ghost use Rattle.part97.specs.Part97.{otherRule, emitted, keyed};
 ghost use Rattle.part97.specs.Finding.{concluded};
@@ -55,8 +57,8 @@ pub fn judge_emitted(s: &[u8], c: Case, band: u8, kind: EmissionKind) -> Finding
 }
 
 // Keyed with no audio: some privilege holds the dial.
-pub fn judge_keyed(s: &[u8], c: Case, band: u8) -> Finding
-    requires { ⌜ Whole (now s) ⌝ }
+pub fn judge_keyed(s: &[u8], g: General, c: Case, band: u8) -> Finding
+    requires { ⌜ (Whole (now s)) × (g ≡ generalOf (now s)) ⌝ }
     ensures { λ x. ⌜ concluded (tableOf (now (s .entry))) c x ≡ keyed (tableOf (now (s .entry))) c band ⌝ }
 {
     let place = BandNumber::Band(band);
@@ -72,6 +74,5 @@ pub fn judge_keyed(s: &[u8], c: Case, band: u8) -> Finding
             decision::RULE_97_301,
         );
     }
-    let g = layout::general_of(s);
     findings::on_band(place, Verdict::Blocked, Code::Privilege, g.privileges_rule)
 }

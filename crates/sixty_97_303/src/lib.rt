@@ -9,6 +9,7 @@ use decision::SixtyNotes;
 use decision::Verdict;
 use find::Pick;
 use find::Question;
+use layout::General;
 use part97::Case;
 use part97::Finding;
 use table::Channels;
@@ -18,6 +19,7 @@ ghost use mathlib.Core.Path.{_≡_};
 ghost use mathlib.Core.Bool.{_&&_};
 ghost use lib.Ieee.{lt};
 ghost use Rattle.layout.specs.Form.{Whole};
+ghost use Rattle.layout.specs.Layout.{generalOf};
 ghost use Rattle.table.specs.Table.{Table, tableOf};
 ghost use Prim.Native.Nat.{ℕ};
 ghost use mathlib.Core.List.{List};
@@ -115,14 +117,13 @@ fn too_wide(kind: EmissionKind, width: f64, most: f64) -> bool
 }
 
 // In the segment: the general width is tested, and no other.
-fn sixty_segment(s: &[u8], c: Case, band: u8, place: Segment) -> Finding
-    requires { ⌜ Whole (now s) ⌝ }
-    ensures { λ r. ⌜ concluded (tableOf (now (s .entry))) c r ≡ sixtySegment (tableOf (now (s .entry))) c band place ⌝ }
+fn sixty_segment(g: General, c: Case, band: u8, place: Segment) -> Finding
+    ensures { λ r. ⌜ ((table : Table) → g ≡ table .general → concluded table c r ≡ sixtySegment table c band place) ⌝ }
 {
     let kind = c.kind;
     let power = c.power;
     let range = place.range;
-    let general = table::data_of(layout::general_of(s));
+    let general = table::data_of(g);
     if too_wide(kind, c.width, general.max_bandwidth_hz) {
         return findings::in_segment(band, range, place.rule, Code::TooWide, general.rule);
     }
@@ -136,8 +137,8 @@ fn sixty_segment(s: &[u8], c: Case, band: u8, place: Segment) -> Finding
 }
 
 // An overlapping channel comes before the segment; neither: off channel.
-fn sixty_place(s: &[u8], c: Case, ch: Channels) -> Finding
-    requires { ⌜ Whole (now s) ⌝ }
+fn sixty_place(s: &[u8], g: General, c: Case, ch: Channels) -> Finding
+    requires { ⌜ (Whole (now s)) × (g ≡ generalOf (now s)) ⌝ }
     ensures { λ r. ⌜ concluded (tableOf (now (s .entry))) c r ≡ sixtyPlace (tableOf (now (s .entry))) c ch ⌝ }
 {
     let guarded = c.guarded;
@@ -152,7 +153,7 @@ fn sixty_place(s: &[u8], c: Case, ch: Channels) -> Finding
             layout::SEGMENTS,
             Question::BandHolds(ch.band, guarded),
         ) {
-            Pick::Picked(k, segment) => sixty_segment(s, c, ch.band, table::segment_of(segment)),
+            Pick::Picked(k, segment) => sixty_segment(g, c, ch.band, table::segment_of(segment)),
             Pick::Missing => findings::on_band(
                 BandNumber::Band(ch.band),
                 Verdict::Blocked,
@@ -164,15 +165,15 @@ fn sixty_place(s: &[u8], c: Case, ch: Channels) -> Finding
 }
 
 // The emissions allowed on 60 m (97.307(f)(14)).
-fn sixty_emission(s: &[u8], c: Case, ch: Channels, allowed: SixtyEmissions) -> Finding
-    requires { ⌜ Whole (now s) ⌝ }
+fn sixty_emission(s: &[u8], g: General, c: Case, ch: Channels, allowed: SixtyEmissions) -> Finding
+    requires { ⌜ (Whole (now s)) × (g ≡ generalOf (now s)) ⌝ }
     ensures { λ r. ⌜ concluded (tableOf (now (s .entry))) c r ≡ sixtyEmission (tableOf (now (s .entry))) c ch allowed ⌝ }
 {
     let kind = c.kind;
     match allowed {
         SixtyEmissions::Allowed(bits, rule) => {
             if codes::has_kind(bits, kind) {
-                sixty_place(s, c, ch)
+                sixty_place(s, g, c, ch)
             } else {
                 findings::on_band(
                     BandNumber::Band(ch.band),
@@ -182,20 +183,20 @@ fn sixty_emission(s: &[u8], c: Case, ch: Channels, allowed: SixtyEmissions) -> F
                 )
             }
         }
-        SixtyEmissions::AnyEmission => sixty_place(s, c, ch),
+        SixtyEmissions::AnyEmission => sixty_place(s, g, c, ch),
     }
 }
 
 // Keyed with no audio is permitted; anything else goes by the emissions allowed.
-fn sixty_kind(s: &[u8], c: Case, ch: Channels, kind: EmissionKind) -> Finding
-    requires { ⌜ Whole (now s) ⌝ }
+fn sixty_kind(s: &[u8], g: General, c: Case, ch: Channels, kind: EmissionKind) -> Finding
+    requires { ⌜ (Whole (now s)) × (g ≡ generalOf (now s)) ⌝ }
     ensures { λ r. ⌜ concluded (tableOf (now (s .entry))) c r ≡ sixtyKind (tableOf (now (s .entry))) c ch kind ⌝ }
 {
-    let allowed = table::sixty_emissions_of(layout::general_of(s));
+    let allowed = table::sixty_emissions_of(g);
     match kind {
-        EmissionKind::Data => sixty_emission(s, c, ch, allowed),
-        EmissionKind::Cw => sixty_emission(s, c, ch, allowed),
-        EmissionKind::Test => sixty_emission(s, c, ch, allowed),
+        EmissionKind::Data => sixty_emission(s, g, c, ch, allowed),
+        EmissionKind::Cw => sixty_emission(s, g, c, ch, allowed),
+        EmissionKind::Test => sixty_emission(s, g, c, ch, allowed),
         EmissionKind::Nothing => findings::on_band(
             BandNumber::Band(ch.band),
             Verdict::Legal,
@@ -207,14 +208,14 @@ fn sixty_kind(s: &[u8], c: Case, ch: Channels, kind: EmissionKind) -> Finding
 
 // 60 m: some privilege must hold the signal's range on the air, without the margin; the emissions that privileges list
 // aren't read.
-pub fn sixty(s: &[u8], c: Case, ch: Channels) -> Finding
-    requires { ⌜ Whole (now s) ⌝ }
+pub fn sixty(s: &[u8], g: General, c: Case, ch: Channels) -> Finding
+    requires { ⌜ (Whole (now s)) × (g ≡ generalOf (now s)) ⌝ }
     ensures { λ r. ⌜ concluded (tableOf (now (s .entry))) c r ≡ sixty (tableOf (now (s .entry))) c ch ⌝ }
 {
     let kind = c.kind;
     let on_air = c.air;
     if privileges_97_301::some_privilege(s, c, on_air) {
-        sixty_kind(s, c, ch, kind)
+        sixty_kind(s, g, c, ch, kind)
     } else {
         findings::on_band(
             BandNumber::Band(ch.band),

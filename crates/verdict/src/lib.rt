@@ -146,8 +146,8 @@ fn under_rules(
 {
     match prepare(g, s, dial, kind, direction, audio) {
         Ready::Met(c) => {
-            let f = judge::judge_case(image, c);
-            judge::conclude(image, c, f)
+            let f = judge::judge_case(image, g, c);
+            judge::conclude(image, g, c, f)
         }
         Ready::Missing(code, rule) => {
             let sideband = s.sideband;

@@ -1,14 +1,12 @@
 -- `automatic_data_97_221::automatic_data` meets its contract: on each way to a return, the tests and what the calls ensure say which case of the definition holds.
 use mathlib.Core.Path.{sym, _∙_}
 use Rattle.find.specs.Question.{picked, missed}
+use Rattle.table.specs.Table.{tableOf}
 use Rattle.part97.specs.Part97.{automaticData}
 use Rattle.part97.specs.Finding.{lawful-automatic}
 use borrow.Author.Needs.{needs}
 use Rattle.automatic_data_97_221.proofs.automatic_data.Statement.{statement}
 use Rattle.automatic_data_97_221.proofs.automatic_data.Tie as tie
-
-general-of-requires : tie.Need-general-of-requires
-general-of-requires c κs = search needs
 
 pick-holding-requires : tie.Need-pick-holding-requires
 pick-holding-requires c κs = search needs
@@ -38,21 +36,21 @@ returns c =
     rw (p .found)
     (rw (c .lawful .ensures)
     (rw (c .before .span-of .ensures)
-    (rw (p .here) (rw (c .before .before .before .before .before .before .general-of .ensures) (lawful-automatic _ _ _ _ _ _ _ _ _)))))
+    (rw (p .here) (rw (c .before .before .before .before .before .before .before .before .pre .1) (lawful-automatic _ _ _ _ _ _ _ _ _)))))
 
 returns-2 : tie.Need-returns-2
 unfolding automaticData
 returns-2 c =
+    let a = c .before .before .before .before .before .before .before in
     rw (missed _ _ _ (sym (c .before .before .before .before .pick-holding .ensures) ∙ c .before .before .enum-told .given .1))
-    (rw (c .automatic-elsewhere .ensures)
+    (rw (c .automatic-elsewhere .ensures (tableOf (a .args .s .now)) (a .pre .1))
     (rw (c .before .elsewhere-of .ensures)
-    (rw (c .before .before .before .before .before .general-of .ensures))))
+    (rw (a .pre .1))))
 
 pub automatic-data-spec : {M : Type 1} → statement M
 automatic-data-spec =
     tie.close
     (tie.spec
-    general-of-requires
     pick-holding-requires
     enum-known-r
     span-of-requires

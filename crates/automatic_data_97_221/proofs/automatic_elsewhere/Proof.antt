@@ -13,7 +13,7 @@ in-segment-requires c κs = search needs
 
 returns : tie.Need-returns
 unfolding automaticElsewhere
-returns c =
+returns c table e =
     rw (c .before .before .before .before .before .rule .given .1)
     (rw (c .before .if1 .taken)
     (rw (c .in-segment .ensures) (in-segment _ _ _ _ _ _ _)))
@@ -26,7 +26,7 @@ in-segment-requires-2 c κs = search needs
 
 returns-2 : tie.Need-returns-2
 unfolding automaticElsewhere
-returns-2 c =
+returns-2 c table e =
     rw (c .before .before .before .before .before .before .before .rule .given .1)
     (rw (c .before .before .before .if1 .left)
     (rw (← c .before .before .must-respond .ensures)
@@ -39,15 +39,12 @@ lawful-requires c κs = search needs
 enum-told : tie.Need-enum-told
 enum-told c = search needs
 
-general-of-requires : tie.Need-general-of-requires
-general-of-requires c κs = search needs
-
 in-segment-requires-3 : tie.Need-in-segment-requires-3
 in-segment-requires-3 c κs = search needs
 
 returns-3 : tie.Need-returns-3
 unfolding automaticElsewhere
-returns-3 c =
+returns-3 c table e =
     rw (c .before .before .before .before .before .before .before .rule .given .1)
     (rw (c .before .before .before .if1 .left)
     (rw (← c .before .before .must-respond .ensures)
@@ -56,9 +53,9 @@ returns-3 c =
 
 returns-4 : tie.Need-returns-4
 unfolding automaticElsewhere
-returns-4 c =
-    rw (c .before .before .enum-told .given .1)
-    (rw (c .in-segment3 .ensures) (rw (c .before .general-of .ensures) (in-segment _ _ _ _ _ _ _)))
+returns-4 c table e =
+    rw (c .before .enum-told .given .1)
+    (rw (c .in-segment3 .ensures) (rw e (in-segment _ _ _ _ _ _ _)))
 
 pub automatic-elsewhere-spec : {M : Type 1} → statement M
 automatic-elsewhere-spec =
@@ -72,7 +69,6 @@ automatic-elsewhere-spec =
     returns-2
     lawful-requires
     enum-told
-    general-of-requires
     in-segment-requires-3
     returns-3
     returns-4)

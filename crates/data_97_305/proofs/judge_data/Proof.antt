@@ -5,25 +5,28 @@ use Rattle.layout.specs.Layout.{segments}
 use Rattle.find.specs.Question.{firstIn, PickedAt, picked, missed}
 use Rattle.find.specs.declared.Question.the-variants.{Holds}
 use Rattle.table.specs.Table.{tableOf}
-use Rattle.part97.specs.Part97.{limitFor}
+use Rattle.table.specs.Parts.{dataOf}
+use Rattle.part97.specs.Part97.{generalLimit, limitFor}
 use Rattle.part97.specs.Laws.{judge-wide, judge-inside, judge-outside}
 use Rattle.part97.specs.Finding.{concluded, on-band}
 use borrow.Author.Needs.{needs}
 use Rattle.data_97_305.proofs.judge_data.Statement.{statement}
 use Rattle.data_97_305.proofs.judge_data.Tie as tie
 
+-- the general limit
+general : (c : tie.After-data-of) → c .data-of .result ≡ generalLimit (tableOf (c .before .before .before .args .s .now))
+general c = c .data-of .ensures ∙ ap dataOf (c .before .before .before .pre .1)
+
 -- the limit by the segment that was found
 limit :
     (c : tie.After-data-limit) (i : ℕ)
-    → PickedAt (tableOf (c .before .before .before .before .before .before .before .before .before .before .args .s .now)) segments (Holds (c .before .before .before .before .before .before .before .before .before .before .args .c .guarded)) i (c .before .before .before .r .given .0 .1 .0)
-    → c .data-limit .result ≡ limitFor (tableOf (c .before .before .before .before .before .before .before .before .before .before .args .s .now)) (firstIn (tableOf (c .before .before .before .before .before .before .before .before .before .before .args .s .now)) segments (Holds (c .before .before .before .before .before .before .before .before .before .before .args .c .guarded)))
+    → let a = c .before .before .before .before .before .before .before .before .before .args in
+    PickedAt (tableOf (a .s .now)) segments (Holds (a .c .guarded)) i (c .before .before .before .r .given .0 .1 .0)
+    → c .data-limit .result ≡ limitFor (tableOf (a .s .now)) (firstIn (tableOf (a .s .now)) segments (Holds (a .c .guarded)))
 limit c i p =
     rw (c .data-limit .ensures)
     (rw (c .before .segment-of .ensures)
-    (rw (p .here) (rw (p .found) (rw (c .before .before .before .before .before .before .data-of .ensures) (rw (c .before .before .before .before .before .before .before .general-of .ensures))))))
-
-general-of-requires : tie.Need-general-of-requires
-general-of-requires c κs = search needs
+    (rw (p .here) (rw (p .found) (rw (general (c .before .before .before .before .before .before))))))
 
 data-of-requires : tie.Need-data-of-requires
 data-of-requires c κs = search needs
@@ -60,7 +63,8 @@ too-wide-requires-2 c κs = search needs
 returns-2 : tie.Need-returns-2
 returns-2 c =
     let none = missed _ _ _ (sym (c .before .before .before .before .before .before .pick-holding .ensures) ∙ c .before .before .before .before .enum-told .given .1) in
-    ap (concluded _ _) (c .too-wide2 .ensures) ∙ on-band _ _ _ _ _ _ ∙ judge-wide _ _ _ _ _ (rw none (rw (c .before .before .before .before .before .before .before .data-of .ensures) (rw (c .before .before .before .before .before .before .before .before .general-of .ensures)))) (c .before .if2 .taken)
+    ap (concluded _ _) (c .too-wide2 .ensures) ∙ on-band _ _ _ _ _ _
+    ∙ judge-wide _ _ _ _ _ (rw none (general (c .before .before .before .before .before .before .before))) (c .before .if2 .taken)
 
 outside-segments-requires : tie.Need-outside-segments-requires
 outside-segments-requires c κs = search needs
@@ -74,13 +78,14 @@ returns-3 c =
 returns-4 : tie.Need-returns-4
 returns-4 c =
     let none = missed _ _ _ (sym (c .before .before .before .before .before .before .pick-holding .ensures) ∙ c .before .before .before .before .enum-told .given .1) in
-    c .outside-segments .ensures ∙ judge-outside _ _ _ _ none (c .before .before .before .before .before .before .before .data-of .result) (rw none (rw (c .before .before .before .before .before .before .before .data-of .ensures) (rw (c .before .before .before .before .before .before .before .before .general-of .ensures)))) (c .before .if2 .left)
+    c .outside-segments .ensures
+    ∙ judge-outside _ _ _ _ none (c .before .before .before .before .before .before .before .data-of .result)
+    (rw none (general (c .before .before .before .before .before .before .before))) (c .before .if2 .left)
 
 pub judge-data-spec : {M : Type 1} → statement M
 judge-data-spec =
     tie.close
     (tie.spec
-    general-of-requires
     data-of-requires
     pick-holding-requires
     enum-known-r

@@ -9,9 +9,6 @@ use borrow.Author.Needs.{needs}
 use Rattle.judge.proofs.judge_in_band.Statement.{statement}
 use Rattle.judge.proofs.judge_in_band.Tie as tie
 
-general-of-requires : tie.Need-general-of-requires
-general-of-requires c κs = search needs
-
 channels-of-requires : tie.Need-channels-of-requires
 channels-of-requires c κs = search needs
 
@@ -39,19 +36,18 @@ returns c =
 
 returns-2 : tie.Need-returns-2
 returns-2 c =
-    let a = c .before .before .before .before .before .before .before in
+    let a = c .before .before .before .before .before .before in
     rw (in-band-by _ _ _)
     (rw (← c .before .before .before .closed-by .ensures)
     (rw (c .before .enum-told .given .1)
     (c .judge-on-band .ensures
     ∙ ap (judgeOnBand (tableOf (a .args .s .now)) (a .args .c) (a .args .band))
-    (c .before .before .before .before .channels-of .ensures ∙ ap channelsOf (c .before .before .before .before .before .general-of .ensures)))))
+    (c .before .before .before .before .channels-of .ensures ∙ ap channelsOf (a .pre .1)))))
 
 pub judge-in-band-spec : {M : Type 1} → statement M
 judge-in-band-spec =
     tie.close
     (tie.spec
-    general-of-requires
     channels-of-requires
     closed-by-requires
     enum-known-rule

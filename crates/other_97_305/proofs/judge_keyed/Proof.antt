@@ -16,17 +16,14 @@ returns c =
     (rw (c .before .if1 .taken)
     (rw (c .on-band .ensures) (on-band _ _ _ _ _ _)))
 
-general-of-requires : tie.Need-general-of-requires
-general-of-requires c κs = search needs
-
 on-band-requires-2 : tie.Need-on-band-requires-2
 on-band-requires-2 c κs = search needs
 
 returns-2 : tie.Need-returns-2
 returns-2 c =
-    rw (← c .before .before .before .some-privilege .ensures)
-    (rw (c .before .before .if1 .left)
-    (rw (← c .before .general-of .ensures)
+    rw (← c .before .before .some-privilege .ensures)
+    (rw (c .before .if1 .left)
+    (rw (← c .before .before .before .before .pre .1)
     (rw (c .on-band2 .ensures) (on-band _ _ _ _ _ _))))
 
 pub judge-keyed-spec : {M : Type 1} → statement M
@@ -36,6 +33,5 @@ judge-keyed-spec =
     some-privilege-requires
     on-band-requires
     returns
-    general-of-requires
     on-band-requires-2
     returns-2)

@@ -5,9 +5,6 @@ use borrow.Author.Needs.{needs}
 use Rattle.sixty_97_303.proofs.sixty_kind.Statement.{statement}
 use Rattle.sixty_97_303.proofs.sixty_kind.Tie as tie
 
-general-of-requires : tie.Need-general-of-requires
-general-of-requires c κs = search needs
-
 sixty-emissions-of-requires : tie.Need-sixty-emissions-of-requires
 sixty-emissions-of-requires c κs = search needs
 
@@ -40,7 +37,7 @@ unfolding sixtyKind
 returns c =
     rw (c .sixty-emission .ensures)
     (rw (c .before .before .before .sixty-emissions-of .ensures)
-    (rw (c .before .before .before .before .general-of .ensures)
+    (rw (c .before .before .before .before .before .pre .1)
     (rw (c .before .enum-told .given .1))))
 
 returns-2 : tie.Need-returns-2
@@ -48,7 +45,7 @@ unfolding sixtyKind
 returns-2 c =
     rw (c .sixty-emission2 .ensures)
     (rw (c .before .before .before .sixty-emissions-of .ensures)
-    (rw (c .before .before .before .before .general-of .ensures)
+    (rw (c .before .before .before .before .before .pre .1)
     (rw (c .before .enum-told2 .given .1))))
 
 returns-3 : tie.Need-returns-3
@@ -56,7 +53,7 @@ unfolding sixtyKind
 returns-3 c =
     rw (c .sixty-emission3 .ensures)
     (rw (c .before .before .before .sixty-emissions-of .ensures)
-    (rw (c .before .before .before .before .general-of .ensures)
+    (rw (c .before .before .before .before .before .pre .1)
     (rw (c .before .enum-told3 .given .1))))
 
 returns-4 : tie.Need-returns-4
@@ -70,7 +67,6 @@ pub sixty-kind-spec : {M : Type 1} → statement M
 sixty-kind-spec =
     tie.close
     (tie.spec
-    general-of-requires
     sixty-emissions-of-requires
     enum-told
     sixty-emission-requires

@@ -2,15 +2,12 @@
 use mathlib.Core.Path.{_≡_}
 use mathlib.Core.Bool.{_&&_}
 use lib.Ieee.{lt}
-use Rattle.table.specs.Table.{tableOf}
+use Rattle.table.specs.Table.{Table}
 use Rattle.part97.specs.Finding.{in-segment, on-sixty}
 use Rattle.part97.specs.Part97.{sixtySegment, isData, generalLimit}
 use borrow.Author.Needs.{needs}
 use Rattle.sixty_97_303.proofs.sixty_segment.Statement.{statement}
 use Rattle.sixty_97_303.proofs.sixty_segment.Tie as tie
-
-general-of-requires : tie.Need-general-of-requires
-general-of-requires c κs = search needs
 
 data-of-requires : tie.Need-data-of-requires
 data-of-requires c κs = search needs
@@ -22,16 +19,19 @@ in-segment-requires : tie.Need-in-segment-requires
 in-segment-requires c κs = search needs
 
 -- what the width was asked
-asked : (c : tie.After-too-wide) → c .too-wide .result ≡ (isData (c .before .before .before .before .before .args .c .kind) && lt (generalLimit (tableOf (c .before .before .before .before .before .args .s .now)) .«max_bandwidth_hz») (c .before .before .before .before .before .args .c .width))
-asked c = rw (c .too-wide .ensures) (rw (c .before .data-of .ensures) (rw (c .before .before .general-of .ensures)))
+asked :
+    (c : tie.After-too-wide) (table : Table)
+    → let a = c .before .before .before .args in
+    a .g ≡ table .general → c .too-wide .result ≡ (isData (a .c .kind) && lt (generalLimit table .«max_bandwidth_hz») (a .c .width))
+asked c table e = rw (c .too-wide .ensures) (rw (c .before .data-of .ensures) (rw e))
 
 returns : tie.Need-returns
 unfolding sixtySegment
-returns c =
+returns c table e =
     rw (c .in-segment .ensures)
     (rw (c .before .before .before .data-of .ensures)
-    (rw (c .before .before .before .before .general-of .ensures)
-    (rw (← asked (c .before .before))
+    (rw e
+    (rw (← asked (c .before .before) table e)
     (rw (c .before .if1 .taken)
     (in-segment _ _ _ _ _ _ _)))))
 
@@ -43,10 +43,10 @@ on-sixty-requires c κs = search needs
 
 returns-2 : tie.Need-returns-2
 unfolding sixtySegment
-returns-2 c =
+returns-2 c table e =
     rw (c .on-sixty .ensures)
     (rw (c .before .above .ensures)
-    (rw (← asked (c .before .before .before))
+    (rw (← asked (c .before .before .before) table e)
     (rw (c .before .before .if1 .left)
     (on-sixty _ _ _ _ _ _ _ _))))
 
@@ -54,7 +54,6 @@ pub sixty-segment-spec : {M : Type 1} → statement M
 sixty-segment-spec =
     tie.close
     (tie.spec
-    general-of-requires
     data-of-requires
     too-wide-requires
     in-segment-requires
