@@ -11,9 +11,13 @@ use Rattle.ceiling.proofs.ceiling_refusals.Tie as tie
 -- what the front of the call said
 said :
     (c : tie.After-admit)
-    → refusalOf (entryTests (c .before .before .before .before .args .r) (directionValid (c .before .before .before .before .args .direction)) (c .before .before .before .before .args .image .now)) ≡ c .admit .result
+    → let a = c .before .before .before .before .before .args in
+    refusalOf (entryTests (a .r) (directionValid (a .direction)) (a .image .now)) ≡ c .admit .result
 unfolding entryOf
-said c = sym (c .admit .ensures)
+said c = sym (rw (c .before .direction-valid .ensures) at (c .admit .ensures))
+
+direction-valid-requires : tie.Need-direction-valid-requires
+direction-valid-requires c κs = search needs
 
 admit-requires : tie.Need-admit-requires
 admit-requires c κs = search needs
@@ -29,7 +33,7 @@ bad-edges-requires c κs = search needs
 
 returns : tie.Need-returns
 returns c =
-    let a = c .before .before .before .before .before .before .before .before .args in
+    let a = c .before .before .before .before .before .before .before .before .before .args in
     sym
     (refusal-next (entryTests (a .r) (directionValid (a .direction)) (a .image .now)) (rungTests (a .ordinary) (a .floor) (a .rungs .now) (a .floors .now))
     (said (c .before .before .before .before) ∙ c .before .before .enum-told .given .1)
@@ -40,7 +44,7 @@ bad-rungs-requires c κs = search needs
 
 returns-2 : tie.Need-returns-2
 returns-2 c =
-    let a = c .before .before .before .before .before .before .before .before .before .before .args in
+    let a = c .before .before .before .before .before .before .before .before .before .before .before .args in
     sym
     (refusal-next (entryTests (a .r) (directionValid (a .direction)) (a .image .now)) (rungTests (a .ordinary) (a .floor) (a .rungs .now) (a .floors .now))
     (said (c .before .before .before .before .before .before) ∙ c .before .before .before .before .enum-told .given .1)
@@ -50,14 +54,14 @@ returns-2 c =
 
 returns-3 : tie.Need-returns-3
 returns-3 c =
-    let a = c .before .before .before .before .before .before .before .args in
+    let a = c .before .before .before .before .before .before .before .before .args in
     sym
     (refusal-stays (entryTests (a .r) (directionValid (a .direction)) (a .image .now)) (rungTests (a .ordinary) (a .floor) (a .rungs .now) (a .floors .now)) _
     (said (c .before .before .before) ∙ c .before .n .given .1))
 
 returns-4 : tie.Need-returns-4
 returns-4 c =
-    let a = c .before .before .before .before .before .before .before .before .before .before .args in
+    let a = c .before .before .before .before .before .before .before .before .before .before .before .args in
     sym
     (refusal-next (entryTests (a .r) (directionValid (a .direction)) (a .image .now)) (rungTests (a .ordinary) (a .floor) (a .rungs .now) (a .floors .now))
     (said (c .before .before .before .before .before .before) ∙ c .before .before .before .before .enum-told .given .1)
@@ -69,6 +73,7 @@ pub ceiling-refusals-spec : {M : Type 1} → statement M
 ceiling-refusals-spec =
     tie.close
     (tie.spec
+    direction-valid-requires
     admit-requires
     enum-known-n
     enum-told
