@@ -88,7 +88,7 @@ privilege-few l w q s p =
     (shared-few (intersectOf (s .range) (p .range)) (cutRows (tableOf l) q s) 256 (cut-few l w q s))
     (omega arith)
 
-privileges-few : (l : List ℕ) → Whole l → (q : Request) (s : Segment) → length (privilegesRows (tableOf l) q s) ≤ 65536
+pub privileges-few : (l : List ℕ) → Whole l → (q : Request) (s : Segment) → length (privilegesRows (tableOf l) q s) ≤ 65536
 unfolding privilegesRows
 privileges-few l w q s =
     let a : length (each (countOf l privileges) (privilegeAt (tableOf l) q s)) ≤ countOf l privileges * 256 =
@@ -101,7 +101,7 @@ unfolding segmentRows
 segment-few l w q s =
     cond-few (tooWide q s || excludedBand (tableOf l) q s) [] (privilegesRows (tableOf l) q s) 65536 (omega arith) (privileges-few l w q s)
 
-data-few : (l : List ℕ) → Whole l → (q : Request) → length (dataRows (tableOf l) q) ≤ 16777216
+pub data-few : (l : List ℕ) → Whole l → (q : Request) → length (dataRows (tableOf l) q) ≤ 16777216
 unfolding dataRows
 data-few l w q =
     let a : length (each (countOf l segments) (segmentAt (tableOf l) q)) ≤ countOf l segments * 65536 =
@@ -113,7 +113,7 @@ channel-few : (q : Request) (c : Channels) (centre : Float) → length (channelR
 unfolding channelRow
 channel-few q c centre = cond-one (channelHolds q c centre) (channelSafe c centre)
 
-band-few : (l : List ℕ) → Whole l → (q : Request) (b : ChannelBand) → length (bandRows (tableOf l) q b) ≤ 256
+pub band-few : (l : List ℕ) → Whole l → (q : Request) (b : ChannelBand) → length (bandRows (tableOf l) q b) ≤ 256
 unfolding openRows channelRows
 band-few l w q (On c) =
     let a : length (each (countOf l channels) (channelAt (tableOf l) q c)) ≤ countOf l channels * 1 =

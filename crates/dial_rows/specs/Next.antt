@@ -1,16 +1,17 @@
--- The rows from a place on. A search gives the first of them and the place behind it, so that whoever asks does with the rows what it
--- will: the list writes them.
+-- The rows of a segment and of the channels from a place on. A search gives the first of them and the place behind it, so that whoever
+-- asks does with the rows what it will: the list writes them.
 use Prim.Native.Nat.{ℕ, suc, _+_, _*_, _≤_, _<_}
 use mathlib.Core.Bool.{Bool, true, false, cond, _&&_, _||_, false≢true}
 use mathlib.Core.List.{List, [], _∷_, _++_}
-use mathlib.Core.Path.{_≡_, refl, sym, ap, subst, _∙_}
+use mathlib.Core.Path.{_≡_, refl, sym, ap, _∙_}
 use native.Mathlib.Omega.{arith}
 use native.Mathlib.Decide.{decLe}
 use lib.Dec.{eqb, ltb}
 use lib.ListN.{length}
 use borrow.Author.Tests.{lt-ltb, le-ltb}
 use Rattle.lists.specs.Each.{each, each-bare}
-use Rattle.lists.specs.From.{from, from-all, from-each, from-row, from-skip, from-end, resume, resume-row, resume-end, resume-bare, resume-from, resume-over}
+use Rattle.lists.specs.From.{from, from-all, from-each, from-row, from-skip, from-end}
+use Rattle.lists.specs.From.{resume, resume-row, resume-bare, resume-from, resume-over}
 use Rattle.codes.specs.declared.EmissionKind.the-variants.{Data}
 use Rattle.profile.specs.Limit.{allowsOf}
 use Rattle.profile.specs.Range.{intersectOf}
@@ -33,15 +34,12 @@ use Rattle.dial_rows.specs.Class.{isOf, Ahead, Past}
 use Rattle.dial_rows.specs.declared.Request.{Request}
 use Rattle.dial_rows.specs.declared.Search.{Search}
 use Rattle.dial_rows.specs.declared.Spot.{Spot}
-use Rattle.dial_rows.specs.declared.Place.{Place}
 use Rattle.dial_rows.specs.declared.Arise.{Arise}
 use Rattle.dial_rows.specs.declared.Arise.the-variants.{Row as One, NoRow as NoOne}
 use Rattle.dial_rows.specs.declared.CutRow.{CutRow}
 use Rattle.dial_rows.specs.declared.CutRow.the-variants.{Row as Cut, NoRow as NoCut}
 use Rattle.dial_rows.specs.declared.SegmentRow.{SegmentRow}
 use Rattle.dial_rows.specs.declared.SegmentRow.the-variants.{Row as InSegment, NoRow as NotInSegment}
-use Rattle.dial_rows.specs.declared.NextRow.{NextRow}
-use Rattle.dial_rows.specs.declared.NextRow.the-variants.{Row, End}
 
 -- ---- what an answer says of the rows
 
@@ -57,10 +55,6 @@ cutNext more NoCut = []
 abbrev pub segmentNext : (Spot → List SafeDial) → SegmentRow → List SafeDial
 segmentNext more (InSegment x spot) = x ∷ more spot
 segmentNext more NotInSegment = []
-
-abbrev pub next : (Place → List SafeDial) → NextRow → List SafeDial
-next more (Row x place) = x ∷ more place
-next more End = []
 
 -- ---- the rows from a place on
 
@@ -98,14 +92,9 @@ privilegesFrom table q s spot =
 abbrev pub behindOf : ℕ → ℕ → ℕ → Spot
 behindOf n i k = cond (ltb k n) (spotOf i k) (spotOf (i + 1) 0)
 
-unfoldable pub segmentFrom : Table → Request → Segment → Spot → List SafeDial
-segmentFrom table q s spot = cond (tooWide q s || excludedBand table q s) [] (privilegesFrom table q s spot)
-
-abbrev pub segmentFromAt : Table → Request → ℕ → Spot → List SafeDial
-segmentFromAt table q i spot = segmentFrom table q (segmentOf (table .at segments i)) spot
-
-unfoldable pub segmentsFrom : Table → Request → ℕ → Spot → List SafeDial
-segmentsFrom table q i spot = resume (table .count segments) (segmentAt table q) (segmentFromAt table q) i spot
+-- a segment that is passed over
+abbrev pub closedOf : Table → Request → Segment → Bool
+closedOf table q s = tooWide q s || excludedBand table q s
 
 -- how many channels are gone through
 abbrev pub channelCount : Table → Request → ChannelBand → ℕ
@@ -114,16 +103,6 @@ channelCount table q NoChannels = 0
 
 abbrev pub channelsFrom : Table → Request → Channels → ℕ → ℕ → List SafeDial
 channelsFrom table q c n k = from n (channelAt table q c) k
-
-abbrev pub bandFrom : Table → Request → ChannelBand → ℕ → List SafeDial
-bandFrom table q (On c) k = channelsFrom table q c (channelCount table q (On c)) k
-bandFrom table q NoChannels k = []
-
-abbrev pub placeOf : ℕ → Spot → ℕ → Place
-placeOf i spot k = record { segment = i; spot = spot; channel = k }
-
-unfoldable pub rowsFrom : Table → Request → ChannelBand → Place → List SafeDial
-rowsFrom table q b place = segmentsFrom table q (place .segment) (place .spot) ++ bandFrom table q b (place .channel)
 
 -- ---- what a search knows
 
@@ -150,12 +129,6 @@ pub cut-same :
     (f g : ℕ → List SafeDial) → ((k : ℕ) → f k ≡ g k) → (k : ℕ) (a : CutRow) → g k ≡ cutNext g a → f k ≡ cutNext f a
 cut-same f g h k (Cut x n) e = h k ∙ e ∙ ap (λ (xs : List SafeDial). x ∷ xs) (sym (h n))
 cut-same f g h k NoCut e = h k ∙ e
-
-pub segment-same :
-    (f g : Spot → List SafeDial) → ((spot : Spot) → f spot ≡ g spot) → (spot : Spot) (a : SegmentRow) → g spot ≡ segmentNext g a
-    → f spot ≡ segmentNext f a
-segment-same f g h spot (InSegment x n) e = h spot ∙ e ∙ ap (λ (xs : List SafeDial). x ∷ xs) (sym (h n))
-segment-same f g h spot NotInSegment e = h spot ∙ e
 
 -- ---- from the first place on, all rows
 
@@ -304,7 +277,7 @@ module _ (l : List ℕ) (q : Request) (s : Segment) where
       (λ b. other-class (tableOf l) q s (recordIn l privileges i) k (p .none i h b))
       (λ j a b. class-none j (p .none j (omega arith) b))
 
-  privileges-all : (first : ℕ) → Ahead l (q .class) first → privilegesFrom (tableOf l) q s (spotOf first 0) ≡ privilegesRows (tableOf l) q s
+  pub privileges-all : (first : ℕ) → Ahead l (q .class) first → privilegesFrom (tableOf l) q s (spotOf first 0) ≡ privilegesRows (tableOf l) q s
   unfolding privilegesFrom privilegesRows
   privileges-all first a =
       resume-from (countOf l privileges) (privilegeAt (tableOf l) q s) (privilegeFromAt (tableOf l) q s) 0 (begun (tableOf l) q s) first
@@ -313,28 +286,17 @@ module _ (l : List ℕ) (q : Request) (s : Segment) where
       ∙ ap (λ (xs : List SafeDial). xs ++ from (countOf l privileges) (privilegeAt (tableOf l) q s) first)
       (each-bare first (privilegeAt (tableOf l) q s) (λ i h. class-none i (a .none i h))))
 
-  -- ---- segment by segment
+  -- ---- a segment
 
-  passed-by :
-      (b : Bool) (spot : Spot) → (tooWide q s || excludedBand (tableOf l) q s) ≡ b
-      → segmentFrom (tableOf l) q s spot ≡ cond b [] (privilegesFrom (tableOf l) q s spot)
-  unfolding segmentFrom
-  passed-by b spot e = ap (λ (b : Bool). cond b [] (privilegesFrom (tableOf l) q s spot)) e
+  segment-by : (b : Bool) → closedOf (tableOf l) q s ≡ b → segmentRows (tableOf l) q s ≡ cond b [] (privilegesRows (tableOf l) q s)
+  unfolding segmentRows
+  segment-by b e = ap (λ (b : Bool). cond b [] (privilegesRows (tableOf l) q s)) e
 
-  pub wide-none : (spot : Spot) → tooWide q s ≡ true → segmentFrom (tableOf l) q s spot ≡ []
-  wide-none spot e = passed-by true spot (rw e)
+  pub segment-closed : closedOf (tableOf l) q s ≡ true → segmentRows (tableOf l) q s ≡ []
+  segment-closed e = segment-by true e
 
-  pub excluded-none : (spot : Spot) → tooWide q s ≡ false → excludedBand (tableOf l) q s ≡ true → segmentFrom (tableOf l) q s spot ≡ []
-  excluded-none spot e f = passed-by true spot (rw e (rw f))
-
-  pub not-passed :
-      tooWide q s ≡ false → excludedBand (tableOf l) q s ≡ false
-      → (spot : Spot) → segmentFrom (tableOf l) q s spot ≡ privilegesFrom (tableOf l) q s spot
-  not-passed e f spot = passed-by false spot (rw e (rw f))
-
-  segment-all : (first : ℕ) → Ahead l (q .class) first → segmentFrom (tableOf l) q s (spotOf first 0) ≡ segmentRows (tableOf l) q s
-  unfolding segmentFrom segmentRows
-  segment-all first a = ap (λ (xs : List SafeDial). cond (tooWide q s || excludedBand (tableOf l) q s) [] xs) (privileges-all first a)
+  pub segment-open : closedOf (tableOf l) q s ≡ false → segmentRows (tableOf l) q s ≡ privilegesRows (tableOf l) q s
+  segment-open e = segment-by false e
 
 -- what a turn over a privilege leaves: a row and what is behind it, or what the next privilege gives
 abbrev pub privilegeTurn : ℕ → ℕ → (Spot → List SafeDial) → CutRow → List SafeDial
@@ -372,41 +334,6 @@ module _ (l : List ℕ) (q : Request) (w : Search) (h : Known l q w) (i : ℕ) (
           ∙ ap (λ (c : ℕ). x ∷ privilegesFrom (tableOf l) q (segmentOf r) (behindOf c i n)) (sym (h .cut-count))
       go NoCut d = privileges-over (tableOf l) q (segmentOf r) i k privilege-below d
 
-module _ (l : List ℕ) (q : Request) where
-  entered :
-      (first : ℕ) → Ahead l (q .class) first → (i : ℕ) → i < countOf l segments
-      → segmentFromAt (tableOf l) q i (spotOf first 0) ≡ segmentAt (tableOf l) q i
-  entered first a i h = segment-all l q (segmentOf (recordIn l segments i)) first a
-
-  segment-over :
-      (first i : ℕ) (spot : Spot) → Ahead l (q .class) first → i < countOf l segments → segmentFromAt (tableOf l) q i spot ≡ []
-      → segmentsFrom (tableOf l) q i spot ≡ segmentsFrom (tableOf l) q (i + 1) (spotOf first 0)
-  unfolding segmentsFrom
-  segment-over first i spot a h e =
-      resume-over (countOf l segments) (segmentAt (tableOf l) q) (segmentFromAt (tableOf l) q) (spotOf first 0) (entered first a) i spot h e
-
-  segment-row :
-      (i : ℕ) (spot spot' : Spot) (x : SafeDial) → i < countOf l segments
-      → segmentFromAt (tableOf l) q i spot ≡ x ∷ segmentFromAt (tableOf l) q i spot'
-      → segmentsFrom (tableOf l) q i spot ≡ x ∷ segmentsFrom (tableOf l) q i spot'
-  unfolding segmentsFrom
-  segment-row i spot spot' x h e = resume-row (countOf l segments) (segmentAt (tableOf l) q) (segmentFromAt (tableOf l) q) i spot spot' x h e
-
-  segments-end : (i : ℕ) (spot : Spot) → countOf l segments ≤ i → segmentsFrom (tableOf l) q i spot ≡ []
-  unfolding segmentsFrom
-  segments-end i spot h = resume-end (countOf l segments) (segmentAt (tableOf l) q) (segmentFromAt (tableOf l) q) i spot h
-
-  segments-all : (first : ℕ) → Ahead l (q .class) first → segmentsFrom (tableOf l) q 0 (spotOf first 0) ≡ dataRows (tableOf l) q
-  unfolding segmentsFrom dataRows
-  segments-all first a =
-      resume-from (countOf l segments) (segmentAt (tableOf l) q) (segmentFromAt (tableOf l) q) (spotOf first 0) (entered first a) 0
-      ∙ from-all (countOf l segments) (segmentAt (tableOf l) q)
-
--- what a turn over a segment leaves
-abbrev pub segmentTurn : ℕ → ℕ → (ℕ → Spot → List SafeDial) → SegmentRow → List SafeDial
-segmentTurn first i more (InSegment x spot) = x ∷ more i spot
-segmentTurn first i more NotInSegment = more (i + 1) (spotOf first 0)
-
 module _ (l : List ℕ) (q : Request) (w : Search) (h : Known l q w) (i : ℕ) (m : i < w .«segment_count») where
   segment-below : i < countOf l segments
   segment-below = omega (arith, m, h .segment-count)
@@ -414,23 +341,15 @@ module _ (l : List ℕ) (q : Request) (w : Search) (h : Known l q w) (i : ℕ) (
   pub segment-placed : w .segments + recordSize * i + recordSize ≤ length l
   segment-placed = omega (arith, segment-below, table-within l (h .whole) segments (omega arith), h .segments-from)
 
-  pub segment-turn :
-      (spot : Spot) (r : Record) (a : SegmentRow) → r ≡ recordAt l (w .segments + recordSize * i)
-      → segmentFrom (tableOf l) q (segmentOf r) spot ≡ segmentNext (segmentFrom (tableOf l) q (segmentOf r)) a
-      → segmentsFrom (tableOf l) q i spot ≡ segmentTurn (w .first) i (segmentsFrom (tableOf l) q) a
-  segment-turn spot r a d e =
-      go a
-      (segment-same (segmentFromAt (tableOf l) q i) (segmentFrom (tableOf l) q (segmentOf r))
-      (λ n. ap (λ (p : Record). segmentFrom (tableOf l) q (segmentOf p) n) (sym read)) spot a e)
-    where
-      read : r ≡ recordIn l segments i
-      read = read-in l segments i (w .segments) r (omega arith) segment-below (h .segments-from) d
+  -- the segment that begins at its place
+  pub segment-read : (r : Record) → r ≡ recordAt l (w .segments + recordSize * i) → segmentRows (tableOf l) q (segmentOf r) ≡ segmentAt (tableOf l) q i
+  segment-read r e =
+      ap (λ (x : Record). segmentRows (tableOf l) q (segmentOf x))
+      (read-in l segments i (w .segments) r (omega arith) segment-below (h .segments-from) e)
 
-      go :
-          (a : SegmentRow) → segmentFromAt (tableOf l) q i spot ≡ segmentNext (segmentFromAt (tableOf l) q i) a
-          → segmentsFrom (tableOf l) q i spot ≡ segmentTurn (w .first) i (segmentsFrom (tableOf l) q) a
-      go (InSegment x n) d = segment-row l q i spot n x segment-below d
-      go NotInSegment d = segment-over l q (w .first) i spot (h .ahead) segment-below d
+pub data-all : (l : List ℕ) (q : Request) (w : Search) → Known l q w → from (w .«segment_count») (segmentAt (tableOf l) q) 0 ≡ dataRows (tableOf l) q
+unfolding dataRows
+data-all l q w h = ap (λ (n : ℕ). from n (segmentAt (tableOf l) q) 0) (h .segment-count) ∙ from-all (countOf l segments) (segmentAt (tableOf l) q)
 
 -- ---- channel by channel
 
@@ -456,71 +375,7 @@ count-most table q (On c) n e = go (channelsOpen q && channelFound table q) e
     go false d = omega arith
 count-most table q NoChannels n e = omega arith
 
-band-all : (table : Table) (q : Request) (b : ChannelBand) → bandFrom table q b 0 ≡ bandRows table q b
+pub band-all :
+    (table : Table) (q : Request) (c : Channels) → channelsFrom table q c (channelCount table q (On c)) 0 ≡ bandRows table q (On c)
 unfolding openRows channelRows
-band-all table q (On c) = open-by (channelsOpen q && channelFound table q) (table .count channels) (channelAt table q c)
-band-all table q NoChannels = refl
-
--- ---- all rows
-
--- a row of a segment, before the channels
-pub rows-row :
-    (table : Table) (q : Request) (b : ChannelBand) (place : Place) (i : ℕ) (spot : Spot) (x : SafeDial)
-    → segmentsFrom table q (place .segment) (place .spot) ≡ x ∷ segmentsFrom table q i spot
-    → rowsFrom table q b place ≡ x ∷ rowsFrom table q b (placeOf i spot (place .channel))
-unfolding rowsFrom
-rows-row table q b place i spot x e = ap (λ (xs : List SafeDial). xs ++ bandFrom table q b (place .channel)) e
-
--- a place further on, from which there is the same to come
-pub rows-over :
-    (table : Table) (q : Request) (b : ChannelBand) (place : Place) (i : ℕ) (spot : Spot)
-    → segmentsFrom table q (place .segment) (place .spot) ≡ segmentsFrom table q i spot
-    → rowsFrom table q b place ≡ rowsFrom table q b (placeOf i spot (place .channel))
-unfolding rowsFrom
-rows-over table q b place i spot e = ap (λ (xs : List SafeDial). xs ++ bandFrom table q b (place .channel)) e
-
--- what a search among the channels answers
-abbrev pub channelTurn : Place → CutRow → NextRow
-channelTurn place (Cut x k) = Row x (placeOf (place .segment) (place .spot) k)
-channelTurn place NoCut = End
-
-module _ (l : List ℕ) (q : Request) (w : Search) (h : Known l q w) (place : Place) (m : w .«segment_count» ≤ place .segment) where
-  behind-segments : (b : ChannelBand) (k : ℕ) → rowsFrom (tableOf l) q b (placeOf (place .segment) (place .spot) k) ≡ bandFrom (tableOf l) q b k
-  unfolding rowsFrom
-  behind-segments b k =
-      ap (λ (xs : List SafeDial). xs ++ bandFrom (tableOf l) q b k)
-      (segments-end l q (place .segment) (place .spot) (omega (arith, m, h .segment-count)))
-
-  pub no-band : rowsFrom (tableOf l) q NoChannels place ≡ []
-  no-band = behind-segments NoChannels (place .channel)
-
-  on-band :
-      (c : Channels) (a : CutRow) → w .«channel_count» ≡ channelCount (tableOf l) q (On c)
-      → channelsFrom (tableOf l) q c (w .«channel_count») (place .channel) ≡ cutNext (channelsFrom (tableOf l) q c (w .«channel_count»)) a
-      → rowsFrom (tableOf l) q (On c) place ≡ next (rowsFrom (tableOf l) q (On c)) (channelTurn place a)
-  on-band c (Cut x k) n e =
-      behind-segments (On c) (place .channel)
-      ∙ ap (λ (j : ℕ). channelsFrom (tableOf l) q c j (place .channel)) (sym n)
-      ∙ e
-      ∙ ap (λ (j : ℕ). x ∷ channelsFrom (tableOf l) q c j k) n
-      ∙ ap (λ (xs : List SafeDial). x ∷ xs) (sym (behind-segments (On c) k))
-  on-band c NoCut n e =
-      behind-segments (On c) (place .channel) ∙ ap (λ (j : ℕ). channelsFrom (tableOf l) q c j (place .channel)) (sym n) ∙ e
-
-  pub band-turn :
-      (b : ChannelBand) (c : Channels) (a : CutRow) → b ≡ On c → w .«channel_count» ≡ channelCount (tableOf l) q b
-      → channelsFrom (tableOf l) q c (w .«channel_count») (place .channel) ≡ cutNext (channelsFrom (tableOf l) q c (w .«channel_count»)) a
-      → rowsFrom (tableOf l) q b place ≡ next (rowsFrom (tableOf l) q b) (channelTurn place a)
-  band-turn b c a e n d =
-      subst
-      (λ b. w .«channel_count» ≡ channelCount (tableOf l) q b → rowsFrom (tableOf l) q b place ≡ next (rowsFrom (tableOf l) q b) (channelTurn place a))
-      (sym e) (λ n. on-band c a n d) n
-
--- From the first place on these are the rows of the list.
-pub rows-all :
-    (l : List ℕ) (q : Request) (b : ChannelBand) (first : ℕ) → Ahead l (q .class) first
-    → rowsFrom (tableOf l) q b (placeOf 0 (spotOf first 0) 0) ≡ dataRows (tableOf l) q ++ bandRows (tableOf l) q b
-unfolding rowsFrom
-rows-all l q b first a =
-    ap (λ (xs : List SafeDial). xs ++ bandFrom (tableOf l) q b 0) (segments-all l q first a)
-    ∙ ap (λ (xs : List SafeDial). dataRows (tableOf l) q ++ xs) (band-all (tableOf l) q b)
+band-all table q c = open-by (channelsOpen q && channelFound table q) (table .count channels) (channelAt table q c)

@@ -1,5 +1,5 @@
 // The rows of a dial list, segment by segment, privilege by privilege, automatic segment by automatic segment, and then the 60 m
-// channels: a search that gives one row after the other. It uses codes, profile, air, layout, table, find, automatic_97_221 and
+// channels: searches that give one row after the other. It uses codes, profile, air, layout, table, find, automatic_97_221 and
 // rows; its laws use lists and bit_order.
 use air::DialRange;
 use codes::ControlMode;
@@ -30,8 +30,8 @@ ghost use Rattle.dial_rows.specs.Apart.{belowBits, apartOf};
 ghost use Rattle.dial_rows.specs.Class.{Ahead, Past};
 ghost use Rattle.dial_rows.specs.Dials.{requestOf, pieceRows, cut, mayUse, tooWide, excludedBand};
 ghost use Rattle.dial_rows.specs.Dials.{centreSpan, channelFound, isUpper, channelsOpen, channelRow};
-ghost use Rattle.dial_rows.specs.Next.{rowsIn, cutNext, segmentNext, next, cuts, automaticIn, cutAt, cutsFrom, privilegeFrom, pairFrom};
-ghost use Rattle.dial_rows.specs.Next.{spotOf, placeOf, behindOf, privilegesFrom, segmentFrom, channelCount, channelsFrom, rowsFrom, Known, Searched};
+ghost use Rattle.dial_rows.specs.Next.{rowsIn, cutNext, segmentNext, cuts, automaticIn, cutAt, cutsFrom, privilegeFrom, pairFrom};
+ghost use Rattle.dial_rows.specs.Next.{behindOf, privilegesFrom, closedOf, channelCount, channelsFrom, Known, Searched};
 
 // The bits of 2^40.
 const LIMIT_BITS: u64 = 0x4270_0000_0000_0000;
@@ -85,7 +85,7 @@ pub enum Arise {
     NoRow,
 }
 
-// The first row of a piece from one of its cuts on, and the cut after it; or no row.
+// The first row from an index on, a cut of a piece or a channel, and the index after it; or no row.
 pub enum CutRow {
     Row(SafeDial, usize),
     NoRow,
@@ -100,19 +100,6 @@ pub struct Spot {
 pub enum SegmentRow {
     Row(SafeDial, Spot),
     NoRow,
-}
-
-// A place among all rows: a segment and a place in it, and behind the last segment a channel.
-pub struct Place {
-    pub segment: usize,
-    pub spot: Spot,
-    pub channel: usize,
-}
-
-// The next row and the place behind it, or the end of the list.
-pub enum NextRow {
-    Row(SafeDial, Place),
-    End,
 }
 
 // What a search for rows knows beforehand: where the tables begin and how much of each is gone through.
@@ -330,7 +317,7 @@ fn behind(w: Search, privilege: usize, k: usize) -> Spot
 }
 
 // The first row of a segment's record under the privileges from a place on.
-fn privileges_from(image: &[u8], q: Request, w: Search, r: Record, spot: Spot) -> SegmentRow
+pub fn privileges_from(image: &[u8], q: Request, w: Search, r: Record, spot: Spot) -> SegmentRow
     requires { ⌜ Known (now image) q w ⌝ }
     ensures { λ a. ⌜ privilegesFrom (tableOf (now (image .entry))) q (segmentOf r) spot ≡ segmentNext (privilegesFrom (tableOf (now (image .entry))) q (segmentOf r)) a ⌝ }
 {
@@ -349,19 +336,16 @@ fn privileges_from(image: &[u8], q: Request, w: Search, r: Record, spot: Spot) -
     SegmentRow::NoRow
 }
 
-// The first row of a segment's record from a place on: none where the signal is too wide or kept out.
-fn segment_from(image: &[u8], q: Request, w: Search, r: Record, spot: Spot) -> SegmentRow
-    requires { ⌜ Known (now image) q w ⌝ }
-    ensures { λ a. ⌜ segmentFrom (tableOf (now (image .entry))) q (segmentOf r) spot ≡ segmentNext (segmentFrom (tableOf (now (image .entry))) q (segmentOf r)) a ⌝ }
+// Whether a segment's record is passed over: the signal is too wide for it, or kept out of its band.
+pub fn closed(image: &[u8], q: Request, r: Record) -> bool
+    requires { ⌜ Whole (now image) ⌝ }
+    ensures { λ x. ⌜ x ≡ closedOf (tableOf (now (image .entry))) q (segmentOf r) ⌝ }
 {
     let s = table::segment_of(r);
     if too_wide(q, s) {
-        return SegmentRow::NoRow;
+        return true;
     }
-    if excluded(image, q, s) {
-        return SegmentRow::NoRow;
-    }
-    privileges_from(image, q, w, r, spot)
+    excluded(image, q, s)
 }
 
 fn is_upper(sideband: Sideband) -> bool
@@ -470,7 +454,7 @@ fn channel_row(q: Request, c: Channels, center_hz: f64) -> Arise
 }
 
 // The first row of the channels from one on, and the channel after it; or no row.
-fn channels_from(image: &[u8], q: Request, w: Search, c: Channels, from: usize) -> CutRow
+pub fn channels_from(image: &[u8], q: Request, w: Search, c: Channels, from: usize) -> CutRow
     requires { ⌜ Known (now image) q w ⌝ }
     ensures { λ a. ⌜ channelsFrom (tableOf (now (image .entry))) q c (w .«channel_count») from ≡ cutNext (channelsFrom (tableOf (now (image .entry))) q c (w .«channel_count»)) a ⌝ }
 {
@@ -524,85 +508,4 @@ pub fn search_of(image: &[u8], q: Request, band: ChannelBand) -> Search
         channels: layout::start_of(image, layout::CHANNELS),
         channel_count: channel_count(image, q, band),
     }
-}
-
-// The place before the first row.
-pub fn first_place(w: Search) -> Place
-    ensures { λ x. ⌜ x ≡ placeOf 0 (spotOf (w .first) 0) 0 ⌝ }
-{
-    let spot = Spot {
-        privilege: w.first,
-        cut: 0,
-    };
-    Place {
-        segment: 0,
-        spot,
-        channel: 0,
-    }
-}
-
-// The next row behind the last segment: of a channel.
-fn band_next(image: &[u8], q: Request, w: Search, band: ChannelBand, place: Place) -> NextRow
-    requires { ⌜ (Searched (now image) q band w) × (w .«segment_count» ≤ place .segment) ⌝ }
-    ensures { λ a. ⌜ rowsFrom (tableOf (now (image .entry))) q band place ≡ next (rowsFrom (tableOf (now (image .entry))) q band) a ⌝ }
-{
-    match band {
-        ChannelBand::On(c) => match channels_from(image, q, w, c, place.channel) {
-            CutRow::Row(x, k) => {
-                let spot = place.spot;
-                NextRow::Row(
-                    x,
-                    Place {
-                        segment: place.segment,
-                        spot,
-                        channel: k,
-                    },
-                )
-            }
-            CutRow::NoRow => NextRow::End,
-        },
-        ChannelBand::NoChannels => NextRow::End,
-    }
-}
-
-// The first row from a place on, and the place behind it.
-pub fn next(image: &[u8], q: Request, w: Search, band: ChannelBand, place: Place) -> NextRow
-    requires { ⌜ Searched (now image) q band w ⌝ }
-    ensures { λ a. ⌜ rowsFrom (tableOf (now (image .entry))) q band place ≡ next (rowsFrom (tableOf (now (image .entry))) q band) a ⌝ }
-{
-    let channel = place.channel;
-    let mut i = place.segment;
-    let mut spot = place.spot;
-    while i < w.segment_count {
-        let r = layout::record_at(image, w.segments + layout::RECORD_SIZE * i);
-        match segment_from(image, q, w, r, spot) {
-            SegmentRow::Row(x, behind) => {
-                return NextRow::Row(
-                    x,
-                    Place {
-                        segment: i,
-                        spot: behind,
-                        channel,
-                    },
-                );
-            }
-            SegmentRow::NoRow => {}
-        }
-        i += 1;
-        spot = Spot {
-            privilege: w.first,
-            cut: 0,
-        };
-    }
-    band_next(
-        image,
-        q,
-        w,
-        band,
-        Place {
-            segment: i,
-            spot,
-            channel,
-        },
-    )
 }

@@ -5,23 +5,29 @@ use codes::Control;
 use codes::Direction;
 use codes::License;
 use codes::SidebandSet;
-use dial_rows::NextRow;
+use dial_rows::CutRow;
 use dial_rows::Request;
 use dial_rows::Search;
+use dial_rows::SegmentRow;
+use dial_rows::Spot;
+use layout::Record;
 use occupancy::Edges;
 use station::Situation;
 use station::StationRecord;
 use table::ChannelBand;
+use table::Channels;
 ghost use mathlib.Core.List.{_++_};
 ghost use mathlib.Core.Path.{_≡_};
-ghost use Prim.Native.Nat.{_*_, _≤_};
+ghost use Prim.Native.Nat.{_+_, _*_, _≤_};
 ghost use lib.ListN.{length, drop};
 ghost use Rattle.rows.specs.Rows.{sorted, encodeAll};
 ghost use Rattle.layout.specs.Form.{Whole};
 ghost use Rattle.table.specs.Table.{tableOf};
+ghost use Rattle.table.specs.Parts.{segmentOf};
+ghost use Rattle.table.specs.declared.ChannelBand.the-variants.{On};
 ghost use Rattle.rows.specs.Pour.{Poured};
-ghost use Rattle.dial_rows.specs.Dials.{dataRows, bandRows};
-ghost use Rattle.dial_rows.specs.Next.{Searched};
+ghost use Rattle.dial_rows.specs.Dials.{privilegesRows, segmentRows, dataRows, bandRows};
+ghost use Rattle.dial_rows.specs.Next.{Known, Searched};
 ghost use Rattle.dials.specs.List.{situationRows, Begun, Filled, SafeDials};
 
 // A list of so many rows, or the number of the refusal.
@@ -33,16 +39,27 @@ pub enum DialList {
 // The bytes that rows are counted on: 64 rows. A list of no more takes one pass.
 const OWN: usize = 2304;
 
-// Every row, one after the other, into bytes that may have room for them or not; and their count.
-fn gather(image: &[u8], rows: &mut [u8], q: Request, w: Search, band: ChannelBand) -> usize
-    requires { ⌜ Searched (now image) q band w ⌝ }
-    ensures { λ r. ⌜ Poured (now (rows .entry)) (now (rows .exit)) r (dataRows (tableOf (now (image .entry))) q ++ bandRows (tableOf (now (image .entry))) q band) ⌝ }
+// The rows of a segment's record under every privilege, one after the other, into bytes that may have room for them or not. Each of
+// these functions takes the count of rows so far and returns it with its own.
+fn privileges_rows(
+    image: &[u8],
+    rows: &mut [u8],
+    q: Request,
+    w: Search,
+    r: Record,
+    before: usize,
+) -> usize
+    requires { ⌜ (Known (now image) q w) × (before + 65536 ≤ 0x1_0000_0000) ⌝ }
+    ensures { λ n. ⌜ Poured (now (rows .entry)) before (now (rows .exit)) n (privilegesRows (tableOf (now (image .entry))) q (segmentOf r)) ⌝ }
 {
-    let mut place = dial_rows::first_place(w);
-    let mut n: usize = 0;
+    let mut spot = Spot {
+        privilege: w.first,
+        cut: 0,
+    };
+    let mut n = before;
     loop {
-        match dial_rows::next(image, q, w, band, place) {
-            NextRow::Row(x, behind) => {
+        match dial_rows::privileges_from(image, q, w, r, spot) {
+            SegmentRow::Row(x, behind) => {
                 rows::offer(
                     rows,
                     n,
@@ -53,13 +70,95 @@ fn gather(image: &[u8], rows: &mut [u8], q: Request, w: Search, band: ChannelBan
                     x.dial_low_hz,
                     x.dial_high_hz,
                 );
-                place = behind;
+                spot = behind;
             }
-            NextRow::End => {
+            SegmentRow::NoRow => {
                 return n;
             }
         }
         n += 1;
+    }
+}
+
+// The rows of a segment's record: none where it is passed over.
+fn segment_rows(
+    image: &[u8],
+    rows: &mut [u8],
+    q: Request,
+    w: Search,
+    r: Record,
+    before: usize,
+) -> usize
+    requires { ⌜ (Known (now image) q w) × (before + 65536 ≤ 0x1_0000_0000) ⌝ }
+    ensures { λ n. ⌜ Poured (now (rows .entry)) before (now (rows .exit)) n (segmentRows (tableOf (now (image .entry))) q (segmentOf r)) ⌝ }
+{
+    if dial_rows::closed(image, q, r) {
+        return before;
+    }
+    privileges_rows(image, rows, q, w, r, before)
+}
+
+// The rows of every data segment.
+fn data_rows(image: &[u8], rows: &mut [u8], q: Request, w: Search) -> usize
+    requires { ⌜ Known (now image) q w ⌝ }
+    ensures { λ n. ⌜ Poured (now (rows .entry)) 0 (now (rows .exit)) n (dataRows (tableOf (now (image .entry))) q) ⌝ }
+{
+    let mut n: usize = 0;
+    let mut i: usize = 0;
+    while i < w.segment_count {
+        let r = layout::record_at(image, w.segments + layout::RECORD_SIZE * i);
+        n = segment_rows(image, rows, q, w, r, n);
+        i += 1;
+    }
+    n
+}
+
+// The rows of the channels.
+fn channel_rows(
+    image: &[u8],
+    rows: &mut [u8],
+    q: Request,
+    w: Search,
+    c: Channels,
+    before: usize,
+) -> usize
+    requires { ⌜ (Searched (now image) q (On c) w) × (before + 256 ≤ 0x1_0000_0000) ⌝ }
+    ensures { λ n. ⌜ Poured (now (rows .entry)) before (now (rows .exit)) n (bandRows (tableOf (now (image .entry))) q (On c)) ⌝ }
+{
+    let mut from: usize = 0;
+    let mut n = before;
+    loop {
+        match dial_rows::channels_from(image, q, w, c, from) {
+            CutRow::Row(x, behind) => {
+                rows::offer(
+                    rows,
+                    n,
+                    x.band,
+                    x.rule,
+                    x.segment.low_hz,
+                    x.segment.high_hz,
+                    x.dial_low_hz,
+                    x.dial_high_hz,
+                );
+                from = behind;
+            }
+            CutRow::NoRow => {
+                return n;
+            }
+        }
+        n += 1;
+    }
+}
+
+// Every row; and their count.
+fn gather(image: &[u8], rows: &mut [u8], q: Request, w: Search, band: ChannelBand) -> usize
+    requires { ⌜ Searched (now image) q band w ⌝ }
+    ensures { λ r. ⌜ Poured (now (rows .entry)) 0 (now (rows .exit)) r (dataRows (tableOf (now (image .entry))) q ++ bandRows (tableOf (now (image .entry))) q band) ⌝ }
+{
+    let n = data_rows(image, rows, q, w);
+    match band {
+        ChannelBand::On(c) => channel_rows(image, rows, q, w, c, n),
+        ChannelBand::NoChannels => n,
     }
 }
 

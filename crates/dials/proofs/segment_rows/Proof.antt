@@ -1,0 +1,32 @@
+-- `dials::segment_rows` meets its contract: on each way to a return, the tests and what the calls ensure say which case of the definition holds.
+use mathlib.Core.Path.{sym, _∙_}
+use Rattle.table.specs.Parts.{segmentOf}
+use Rattle.rows.specs.Pour.{poured-none}
+use Rattle.dial_rows.specs.Next.{segment-closed, segment-open}
+use borrow.Author.Needs.{needs}
+use Rattle.dials.proofs.segment_rows.Statement.{statement}
+use Rattle.dials.proofs.segment_rows.Tie as tie
+
+closed-requires : tie.Need-closed-requires
+closed-requires c κs = c .before .before .pre .0 .whole
+
+returns : tie.Need-returns
+returns c =
+    let a = c .before .before .before .before .args in
+    rw (segment-closed (a .image .now) (a .q) (segmentOf (a .r)) (sym (c .before .closed .ensures) ∙ c .if1 .taken)) (poured-none _ _)
+
+privileges-rows-requires : tie.Need-privileges-rows-requires
+privileges-rows-requires c κs = c .before .before .before .before .before .pre
+
+same-length : tie.Need-same-length
+same-length c = search needs
+
+returns-2 : tie.Need-returns-2
+returns-2 c =
+    let a = c .before .before .before .before .before .before .before .before .args in
+    rw (segment-open (a .image .now) (a .q) (segmentOf (a .r)) (sym (c .before .before .before .before .before .closed .ensures) ∙ c .before .before .before .before .if1 .left))
+    (c .before .before .privileges-rows .ensures)
+
+pub segment-rows-spec : {M : Type 1} → statement M
+segment-rows-spec =
+    tie.close (tie.spec closed-requires returns privileges-rows-requires same-length returns-2)
