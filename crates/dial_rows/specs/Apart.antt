@@ -14,7 +14,7 @@ use Rattle.profile.specs.declared.Range.{Range}
 use Rattle.profile.specs.declared.Shared.the-variants.{Stretch, Nothing}
 use Rattle.layout.specs.declared.Record.{Record}
 use Rattle.table.specs.Parts.{spanOf}
-use Rattle.rows.specs.Total.{lt-one-way, le-not-above, not-lt-trans}
+use Rattle.rows.specs.Total.{lt-number, lt-one-way, le-not-above, not-lt-trans}
 
 -- a range that ends at some bits lies below one that begins at others: up to the bits of 2^40 figures stand in the order of their bits
 abbrev pub belowBits : ℕ → ℕ → Bool
@@ -24,16 +24,6 @@ abbrev pub apartOf : Record → Record → Bool
 apartOf a b = belowBits (a .high) (b .low) || belowBits (b .high) (a .low)
 
 -- ---- what compares is a number
-
-lt-number : (x y : Float) → lt x y ≡ true → (isNan x ≡ false) × (isNan y ≡ false)
-unfolding lt isNan
-lt-number nan y e = absurd (false≢true e)
-lt-number (inf s) nan e = absurd (false≢true e)
-lt-number (inf s) (inf t) e = (refl, refl)
-lt-number (inf s) (fin t n d) e = (refl, refl)
-lt-number (fin s m d) nan e = absurd (false≢true e)
-lt-number (fin s m d) (inf t) e = (refl, refl)
-lt-number (fin s m d) (fin t n f) e = (refl, refl)
 
 pub le-number : (x y : Float) → le x y ≡ true → (isNan x ≡ false) × (isNan y ≡ false)
 unfolding le lt eq isNan

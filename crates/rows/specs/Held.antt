@@ -1,11 +1,11 @@
 -- What the code does to the bytes of rows, and that it is what the definition says of the rows.
 use Prim.Native.Nat.{ℕ, zero, suc, _+_, _*_, _-_, _/_}
-use mathlib.Core.Bool.{cond}
+use mathlib.Core.Bool.{Bool, true, cond}
 use mathlib.Core.List.{List}
 use lib.ListN.{length, take, drop}
 use lib.Dec.{ltb}
 use lib.Seq.{sets}
-use lib.Ieee.{Float}
+use lib.Ieee.{Float, lt}
 use Rattle.figures.specs.Figure.{totalLess}
 use Rattle.profile.specs.Range.{range}
 use Rattle.rows.specs.Rows.{rowSize, lowAt, encodeRow}
@@ -15,6 +15,11 @@ use Rattle.rows.specs.declared.SafeDial.{SafeDial}
 unfoldable pub placeAt : Float → ℕ → List ℕ → ℕ
 placeAt key zero l = 0
 placeAt key (suc n) l = cond (totalLess key (lowAt l (n * rowSize))) (placeAt key n l) (suc n)
+
+-- the last row lies below a lower dial, or there is none
+unfoldable pub followsAt : Float → ℕ → List ℕ → Bool
+followsAt key zero l = true
+followsAt key (suc n) l = lt (lowAt l (n * rowSize)) key
 
 -- the bytes from a place up to the end of the first n rows, moved up by a row, and the row put into the gap
 unfoldable pub insertFrom : SafeDial → ℕ → ℕ → List ℕ → List ℕ

@@ -261,3 +261,19 @@ module _ (x y z : Float) (X : isNan x ≡ false) (Y : isNan y ≡ false) (Z : is
       r .xz .less
       ∙ le-ltb (r .first) (r .third)
       (omega (arith, ltb-false (r .first) (r .second) (sym (r .xy .less) ∙ h), ltb-false (r .second) (r .third) (sym (r .yz .less) ∙ k)))
+
+-- ---- what compares is a number
+
+pub lt-number : (x y : Float) → lt x y ≡ true → (isNan x ≡ false) × (isNan y ≡ false)
+unfolding lt isNan
+lt-number nan y e = absurd (false≢true e)
+lt-number (inf s) nan e = absurd (false≢true e)
+lt-number (inf s) (inf t) e = (refl, refl)
+lt-number (inf s) (fin t n d) e = (refl, refl)
+lt-number (fin s m d) nan e = absurd (false≢true e)
+lt-number (fin s m d) (inf t) e = (refl, refl)
+lt-number (fin s m d) (fin t n f) e = (refl, refl)
+
+-- what lies above another does not come before it
+pub above-not-less : (x y : Float) → lt y x ≡ true → totalLess x y ≡ false
+above-not-less x y e = let n = lt-number y x e in total-one-way y x (n .0) (n .1) (rw e)

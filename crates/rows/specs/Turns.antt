@@ -7,14 +7,15 @@ use native.Mathlib.Omega.{arith}
 use native.Mathlib.Nat.{add-assoc}
 use lib.ListN.{length, getD, take, drop, set, length-set, length-append}
 use lib.Seq.{sets, set-comm, getD-set-other, getD-drop, drop-cons}
-use lib.Ieee.{Float}
+use lib.Ieee.{Float, lt}
 use Rattle.figures.specs.Figure.{totalLess}
 use Rattle.layout.specs.Bytes.{u16At, u32At, u64At}
 use Rattle.bytes.specs.Bytes.{figureBytes, little}
 use Rattle.bytes.specs.Laws.{length-little, sets-next}
 use Rattle.rows.specs.Rows.{rowSize, figuresOf, encodeRow, lowAt}
+use Rattle.rows.specs.Total.{above-not-less}
 use Rattle.rows.specs.declared.SafeDial.{SafeDial}
-use Rattle.rows.specs.Held.{placeAt}
+use Rattle.rows.specs.Held.{followsAt, placeAt, insertFrom, insertAt}
 
 -- ---- bytes moved up by a row
 
@@ -105,6 +106,30 @@ module _ (key : Float) (n : ℕ) (l : List ℕ) where
   place-end k h p =
       let e : k ≡ 0 = omega arith in
       rw e (sym (rw e at (p .left)))
+
+pub follows-none : (key : Float) (n : ℕ) (l : List ℕ) → n ≤ 0 → true ≡ followsAt key n l
+unfolding followsAt
+follows-none key n l h = let e : n ≡ 0 = omega arith in rw e
+
+pub follows-last : (key : Float) (n : ℕ) (l : List ℕ) → 0 < n → lt (lowAt l ((n - 1) * rowSize)) key ≡ followsAt key n l
+unfolding followsAt
+follows-last key zero l h = absurd (omega arith)
+follows-last key (suc n) l h = let e : suc n - 1 ≡ n = omega arith in rw e
+
+place-behind : (key : Float) (n : ℕ) (l : List ℕ) → followsAt key n l ≡ true → placeAt key n l ≡ n
+unfolding followsAt placeAt
+place-behind key zero l e = refl
+place-behind key (suc n) l e = ap (λ (b : Bool). cond b (placeAt key n l) (suc n)) (above-not-less key (lowAt l (n * rowSize)) e)
+
+-- A row whose lower dial comes behind all others is put behind them.
+pub insert-behind :
+    (x : SafeDial) (n : ℕ) (l : List ℕ) → followsAt (x .«dial_low_hz») n l ≡ true → sets l (n * rowSize) (encodeRow x) ≡ insertAt x n l
+unfolding insertAt insertFrom
+insert-behind x n l e =
+    let z : n * rowSize - n * rowSize ≡ 0 = omega arith in
+    sym
+    (ap (λ (p : ℕ). insertFrom x (p * rowSize) (n * rowSize) l) (place-behind (x .«dial_low_hz») n l e)
+    ∙ ap (λ (k : ℕ). sets (sets l (n * rowSize + rowSize) (take k (drop (n * rowSize) l))) (n * rowSize) (encodeRow x)) z)
 
 pub place-le : (key : Float) (n : ℕ) (l : List ℕ) → placeAt key n l ≤ n
 unfolding placeAt

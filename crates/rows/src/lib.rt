@@ -6,7 +6,7 @@ ghost use Prim.Native.Nat.{_+_, _*_, _-_, _≤_, _<_};
 ghost use lib.ListN.{length, take, drop};
 ghost use lib.Seq.{sets};
 ghost use Rattle.rows.specs.Rows.{figuresOf, encodeRow, lowAt, highAt, bandAt};
-ghost use Rattle.rows.specs.Held.{placeAt, insertAt, rowOf, offerAt};
+ghost use Rattle.rows.specs.Held.{followsAt, placeAt, insertAt, rowOf, offerAt};
 
 pub const ROW_SIZE: usize = 36;
 
@@ -102,6 +102,17 @@ fn insert(rows: &mut [u8], count: usize, row: SafeDial)
     put_row(rows, at, row);
 }
 
+// Whether a lower dial comes behind the first count rows: the last of them lies below it, or there is none.
+fn follows(rows: &[u8], count: usize, dial_low_hz: f64) -> bool
+    requires { ⌜ count * 36 ≤ length (now rows) ⌝ }
+    ensures { λ r. ⌜ r ≡ followsAt «dial_low_hz» count (now (rows .entry)) ⌝ }
+{
+    if 0 < count {
+        return low_at(rows, (count - 1) * ROW_SIZE) < dial_low_hz;
+    }
+    true
+}
+
 // The same where there is room for one row more than count; else nothing. The row comes in its parts, which pass in registers.
 pub fn offer(
     rows: &mut [u8],
@@ -124,6 +135,10 @@ pub fn offer(
             dial_low_hz,
             dial_high_hz,
         };
+        if follows(rows, count, dial_low_hz) {
+            put_row(rows, count * ROW_SIZE, row);
+            return;
+        }
         insert(rows, count, row);
     }
 }
