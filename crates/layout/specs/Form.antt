@@ -13,7 +13,8 @@ use borrow.Author.Tests.{ltb-false, eqb-true, not-false}
 use native.Mathlib.Omega.{arith}
 use native.Mathlib.Nat.{zero-add, suc-add, le-refl}
 use Rattle.layout.specs.Bytes.{byteAt}
-use Rattle.layout.specs.Layout.{generalSize, tablesFrom, recordSize, trailerSize, tables, trailerOf, countOf, distanceOf, editionOf, lettersOf, recordsBefore, records-more, startOf}
+use Rattle.layout.specs.Layout.{generalSize, tablesFrom, recordSize, trailerSize, tables, trailerOf, countOf}
+use Rattle.layout.specs.Layout.{distanceOf, editionOf, lettersOf, recordsBefore, records-more, startOf}
 
 -- 1 "image under 92 or over 65,536 bytes"
 abbrev pub sizeWrong : List ℕ → Bool

@@ -85,7 +85,8 @@ unfolding rowsOf
 rows-few l w q =
     let a : length (dataRows (tableOf l) q) ≤ 16777216 = data-few l w q in
     let b : length (bandRows (tableOf l) q (channelsOf (generalOf l))) ≤ 256 = band-few l w q (channelsOf (generalOf l)) in
-    let s : length (dataRows (tableOf l) q ++ bandRows (tableOf l) q (channelsOf (generalOf l))) ≡ length (dataRows (tableOf l) q) + length (bandRows (tableOf l) q (channelsOf (generalOf l))) =
+    let s : length (dataRows (tableOf l) q ++ bandRows (tableOf l) q (channelsOf (generalOf l)))
+    ≡ length (dataRows (tableOf l) q) + length (bandRows (tableOf l) q (channelsOf (generalOf l))) =
     length-append (dataRows (tableOf l) q) (bandRows (tableOf l) q (channelsOf (generalOf l))) in
     omega arith
 
@@ -173,11 +174,13 @@ absent-fits : (k : Rung) → k ≡ NoRung → RungFits k
 absent-fits k a i e = let z : _≡_ {A = ℕ} 0 1 = cc in omega arith
 
 module _ (r : StationRecord) (direction : ℕ) (ordinary floor : Edges) (l : List ℕ) (rungs : List Float) (floors : List ℕ) where
-  refused-none : (n : ℕ) → refusalOf (ceilingTests r direction ordinary floor l rungs floors) ≡ Refused n → ceilingOf r direction ordinary floor l rungs floors .rung ≡ NoRung
+  refused-none : (n : ℕ) → refusalOf (ceilingTests r direction ordinary floor l rungs floors) ≡ Refused n
+      → ceilingOf r direction ordinary floor l rungs floors .rung ≡ NoRung
   unfolding ceilingOf
   refused-none n e =
       ap
-      (λ (x : Checked). unlessRefused x (climbed (judgeBy (tableOf l) (situationOf r) (directionOf direction)) (burstOf (edgesRead ordinary) (edgesRead floor) rungs floors) (length rungs / 4)) .rung)
+      (λ (x : Checked). unlessRefused x (climbed (judgeBy (tableOf l) (situationOf r) (directionOf direction))
+      (burstOf (edgesRead ordinary) (edgesRead floor) rungs floors) (length rungs / 4)) .rung)
       e
 
   accepted-few : refusalOf (ceilingTests r direction ordinary floor l rungs floors) ≡ Accepted → length rungs / 4 ≤ 256
@@ -189,7 +192,8 @@ module _ (r : StationRecord) (direction : ℕ) (ordinary floor : Edges) (l : Lis
   pub ceiling-fits : RungFits (ceilingOf r direction ordinary floor l rungs floors .rung)
   ceiling-fits = go (refusalOf (ceilingTests r direction ordinary floor l rungs floors)) refl
     where
-      go : (x : Checked) → refusalOf (ceilingTests r direction ordinary floor l rungs floors) ≡ x → RungFits (ceilingOf r direction ordinary floor l rungs floors .rung)
+      go : (x : Checked) → refusalOf (ceilingTests r direction ordinary floor l rungs floors) ≡ x
+          → RungFits (ceilingOf r direction ordinary floor l rungs floors .rung)
       go (Refused n) e = absent-fits (ceilingOf r direction ordinary floor l rungs floors .rung) (refused-none n e)
       go Accepted e =
           let run = ceiling-run r direction ordinary floor l rungs floors e in
