@@ -27,13 +27,13 @@ pointWithin low lists rules r =
     leb (r .low) low && (eqb (r .high) 0 && (eqb (r .figure) 0 && (leb (listsOf r) lists && leb (rulesOf r) rules)))
 
 -- a privilege with a list of emissions, and one with or without
-unfoldable pub listedOf : Record → Bool
-listedOf r =
+unfoldable pub listedPrivilege : Record → Bool
+listedPrivilege r =
     ltb (r .low) (r .high) && (leb (r .high) limitBits && (eqb (r .figure) 0 && (eqb (r .flags) 1 && (leb (r .emissions) 15
     && (eqb (r .band) 0 && (leb (r .class) 4 && (eqb (r .rule) 0 && eqb (r .«second_rule») 0)))))))
 
 unfoldable pub privilegeWithin : Record → Bool
-privilegeWithin r = rangeWithin 0 0 1024 0 r || listedOf r
+privilegeWithin r = rangeWithin 0 0 1024 0 r || listedPrivilege r
 
 -- ---- records that pass a test, one after the other
 
@@ -249,8 +249,8 @@ module _ (r : Record) where
         p .lists-most,
       )) (omega (arith, p .lists-most)) (omega (arith, p .rules-most)) (omega (arith, p .rules-most))
 
-  listed : listedOf r ≡ true → plainOf privileges r ≡ true
-  unfolding listedOf
+  listed : listedPrivilege r ≡ true → plainOf privileges r ≡ true
+  unfolding listedPrivilege
   listed e =
       let p1 = and-true (ltb (r .low) (r .high)) _ e in
       let p2 = and-true (leb (r .high) limitBits) _ (p1 .1) in
@@ -269,7 +269,7 @@ module _ (r : Record) where
   unfolding privilegeWithin
   plain-privilege e = go (rangeWithin 0 0 1024 0 r) refl e
     where
-      go : (b : Bool) → rangeWithin 0 0 1024 0 r ≡ b → (b || listedOf r) ≡ true → plainOf privileges r ≡ true
+      go : (b : Bool) → rangeWithin 0 0 1024 0 r ≡ b → (b || listedPrivilege r) ≡ true → plainOf privileges r ≡ true
       go true p q = unlisted p
       go false p q = listed q
 

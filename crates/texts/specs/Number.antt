@@ -30,8 +30,8 @@ unfoldable pub symbolOf : ℕ → ℕ
 symbolOf b = cond (eqb b 46) 10 (cond (ltb b 48) 11 (cond (ltb 57 b) 11 (b - 48)))
 
 -- before any digit
-unfoldable pub startOf : ℕ → Reading
-startOf k = cond (ltb 9 k) Wrong (Whole (k * 1000))
+unfoldable pub fromStart : ℕ → Reading
+fromStart k = cond (ltb 9 k) Wrong (Whole (k * 1000))
 
 -- after digits of the whole part; a thirteenth that counts is one too many
 unfoldable pub wholeOf : ℕ → ℕ → Reading
@@ -47,7 +47,7 @@ partOf t p k = cond (ltb 9 k) Wrong (cond (ltb 999999999999999 t) Wrong (placed 
 
 -- one symbol more
 unfoldable pub stepOf : Reading → ℕ → Reading
-stepOf Start k = startOf k
+stepOf Start k = fromStart k
 stepOf (Whole t) k = wholeOf t k
 stepOf (Part t p) k = partOf t p k
 stepOf Wrong k = Wrong
@@ -81,11 +81,11 @@ module _ (text : List ℕ) (from : ℕ) where
 unfoldable pub endOf : ℕ → ℕ → Thousandths
 endOf t p = cond (eqb p 0) NoCount (Count t)
 
-unfoldable pub finishOf : Reading → Thousandths
-finishOf Start = NoCount
-finishOf (Whole t) = Count t
-finishOf (Part t p) = endOf t p
-finishOf Wrong = NoCount
+unfoldable pub thousandthsOf : Reading → Thousandths
+thousandthsOf Start = NoCount
+thousandthsOf (Whole t) = Count t
+thousandthsOf (Part t p) = endOf t p
+thousandthsOf Wrong = NoCount
 
 unfoldable pub signedOf : Bool → Thousandths → Number
 signedOf negative (Count n) = cond negative (Is (neg (valueOf n))) (Is (valueOf n))
@@ -95,6 +95,6 @@ signedOf negative NoCount = NoNumber
 unfoldable pub numberOf : List ℕ → Number
 numberOf text =
     cond (eqb (length text) 0) NoNumber
-    (cond (eqb (getD text 0 0) 45) (signedOf true (finishOf (readAll (drop 1 text) Start)))
-    (cond (eqb (getD text 0 0) 43) (signedOf false (finishOf (readAll (drop 1 text) Start)))
-    (signedOf false (finishOf (readAll (drop 0 text) Start)))))
+    (cond (eqb (getD text 0 0) 45) (signedOf true (thousandthsOf (readAll (drop 1 text) Start)))
+    (cond (eqb (getD text 0 0) 43) (signedOf false (thousandthsOf (readAll (drop 1 text) Start)))
+    (signedOf false (thousandthsOf (readAll (drop 0 text) Start)))))
