@@ -6,7 +6,8 @@ use mathlib.Core.Path.{_≡_, _∙_}
 use borrow.Author.Needs.{needs}
 use Rattle.codes.specs.Refusal.{refusalOf}
 use Rattle.table.specs.Table.{tableOf}
-use Rattle.image.specs.Check.{contentTests, testsFrom}
+use Rattle.image.specs.Check.{contentTests}
+use Rattle.image.specs.Laws.{testsFrom}
 use Rattle.image.proofs.in_order.Statement.{statement}
 use Rattle.image.proofs.in_order.Tie as tie
 

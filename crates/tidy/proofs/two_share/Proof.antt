@@ -7,7 +7,8 @@ use Rattle.layout.specs.Layout.{recordSize, trailerSize, countOf, startOf}
 use Rattle.layout.specs.Form.{table-within}
 use Rattle.scan.specs.First.{Passed, isAt, passed-none, passed-step, some-here, some-none}
 use Rattle.table.specs.Table.{tableOf, count-in}
-use Rattle.tidy.specs.Tidy.{twoShare, sharesEarlier, earlier-in}
+use Rattle.tidy.specs.Tidy.{twoShare, sharesEarlier}
+use Rattle.tidy.specs.Laws.{earlier-in}
 use native.Mathlib.Omega.{arith}
 use Rattle.tidy.proofs.two_share.Statement.{statement}
 use Rattle.tidy.proofs.two_share.Tie as tie
