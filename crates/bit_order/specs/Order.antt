@@ -3,7 +3,9 @@
 use Prim.Native.Nat.{ℕ, zero, suc, _+_, _*_, _/_, _%_, _^_, _≤_, _<_}
 use mathlib.Core.Path.{_≡_, refl, sym, ap, _∙_, subst}
 use mathlib.Core.Bool.{Bool, true, false, cond, true≢false}
-use native.Mathlib.Nat.{le-trans, le-of-eq, lt-of-lt-of-le, lt-of-le-of-lt, mul-lt-mul-of-pos-right, mul-le-mul, mul-le-mul-left, le-mul-of-pos-right, div-add-mod', mod-lt, mod-eq-of-lt, mul-assoc, mul-comm, mul-right-comm, mul-pos, lt-of-mul-lt-mul-right, two-pow-succ, zero-mul}
+use native.Mathlib.Nat.{le-trans, le-of-eq, lt-of-lt-of-le, lt-of-le-of-lt, mul-lt-mul-of-pos-right, mul-le-mul}
+use native.Mathlib.Nat.{mul-le-mul-left, le-mul-of-pos-right, div-add-mod', mod-lt, mod-eq-of-lt, mul-assoc}
+use native.Mathlib.Nat.{mul-comm, mul-right-comm, mul-pos, lt-of-mul-lt-mul-right, two-pow-succ, zero-mul}
 use native.Mathlib.Omega.{arith}
 use native.Mathlib.Decide.{decLe}
 use lib.Dec.{leb}
@@ -76,11 +78,13 @@ magnitude-mono a b e = go (decLe (suc x) y)
     tb : b % hid binary64 < hid binary64
     tb = mod-lt b {m = hid binary64} (pow-pos 52)
 
-    go : Dec (suc (a / hid binary64) ≤ b / hid binary64) → mag (hid binary64) (a / hid binary64) (a % hid binary64) < mag (hid binary64) (b / hid binary64) (b % hid binary64)
+    go : Dec (suc (a / hid binary64) ≤ b / hid binary64)
+        → mag (hid binary64) (a / hid binary64) (a % hid binary64) < mag (hid binary64) (b / hid binary64) (b % hid binary64)
     go (yes k) = up-field (hid binary64) (a % hid binary64) (b % hid binary64) ta tb (a / hid binary64) (b / hid binary64) k
     go (no k) =
         let s : a / hid binary64 ≡ b / hid binary64 = omega arith in
-        let l : a % hid binary64 < b % hid binary64 = apart (hid binary64) (a / hid binary64) (b / hid binary64) (a % hid binary64) (b % hid binary64) a b (div-add-mod' a (hid binary64)) (div-add-mod' b (hid binary64)) e s in
+        let l : a % hid binary64 < b % hid binary64 = apart (hid binary64) (a / hid binary64) (b / hid binary64)
+        (a % hid binary64) (b % hid binary64) a b (div-add-mod' a (hid binary64)) (div-add-mod' b (hid binary64)) e s in
         rw s (in-field (hid binary64) (a % hid binary64) (b % hid binary64) ta tb (b / hid binary64) l)
 
 -- the bits of 2^40
@@ -90,7 +94,8 @@ limitBits = 0x4270_0000_0000_0000
 -- fields below those of an infinity, and the sign clear
 fields-value : (x t : ℕ) → x < ones binary64 → HasValue (ofFields binary64 false x t) false (mag (hid binary64) x t) (2 ^ low binary64)
 unfolding ofFields mag
-fields-value zero t h = subst (λ (n : ℕ). HasValue (odd 53 false t 0 (low binary64)) false n (2 ^ low binary64)) (omega arith) (odd-sign 53 false t 0 (low binary64))
+fields-value zero t h = subst (λ (n : ℕ). HasValue (odd 53 false t 0 (low binary64)) false n (2 ^ low binary64))
+    (omega arith) (odd-sign 53 false t 0 (low binary64))
 fields-value (suc x) t h = rw (ne-eqb (suc x) (ones binary64) (λ e. omega arith)) (odd-sign 53 false (hid binary64 + t) x (low binary64))
 
 value : (b : ℕ) → b ≤ limitBits → HasValue (ofBits binary64 b) false (magnitude b) (2 ^ low binary64)
@@ -151,7 +156,8 @@ pub bits-lt : (a b : ℕ) → a < b → b ≤ limitBits → lt (figureOf a) (fig
 bits-lt a b h k = lt-values (magnitude a) (magnitude b) (2 ^ low binary64) (magnitude-mono a b h) (figureOf a) (figureOf b) (value a (omega arith)) (value b k)
 
 pub bits-le-not : (a b : ℕ) → a < b → b ≤ limitBits → le (figureOf b) (figureOf a) ≡ false
-bits-le-not a b h k = le-back (magnitude a) (magnitude b) (2 ^ low binary64) (magnitude-mono a b h) (figureOf a) (figureOf b) (value a (omega arith)) (value b k)
+bits-le-not a b h k = le-back (magnitude a) (magnitude b)
+    (2 ^ low binary64) (magnitude-mono a b h) (figureOf a) (figureOf b) (value a (omega arith)) (value b k)
 
 lt-le : (x y : Float) → lt x y ≡ true → le x y ≡ true
 unfolding le
@@ -182,7 +188,8 @@ at-most b h = go (decLe (suc b) limitBits)
     go (yes k) = lt-le (figureOf b) limit40 (bits-lt b limitBits k (omega arith))
     go (no k) = let e : b ≡ limitBits = omega arith in rw e (unfold le lt eq ofBits in refl)
 
-abs-of : (x : Float) → lt x zeroHz ≡ false → (e : Bool) → eq x zeroHz ≡ e → le x limit40 ≡ true → le (cond (lt x zeroHz) (neg x) (cond (eq x zeroHz) zeroHz x)) limit40 ≡ true
+abs-of : (x : Float) → lt x zeroHz ≡ false → (e : Bool) → eq x zeroHz ≡ e
+    → le x limit40 ≡ true → le (cond (lt x zeroHz) (neg x) (cond (eq x zeroHz) zeroHz x)) limit40 ≡ true
 abs-of x p true q r = rw p (rw q (unfold le lt eq ofBits in refl))
 abs-of x p false q r = rw p (rw q r)
 

@@ -2,7 +2,9 @@
 use layout::General;
 use layout::Record;
 ghost use mathlib.Core.Path.{_≡_};
-ghost use Rattle.coded.specs.Coded.{under, bitsUnder, noLists, noRules, codedBand, codedSegment, codedChannel, codedPrivilege, codedAutomatic, codedExcluded, codedPower, codedPlan, codedOf, codedElsewhere, blankChannels, codedChannels, codedSixty, codedPlans, codedGeneral};
+ghost use Rattle.coded.specs.Coded.{under, bitsUnder, noLists, noRules, codedBand, codedSegment, codedChannel};
+ghost use Rattle.coded.specs.Coded.{codedPrivilege, codedAutomatic, codedExcluded, codedPower, codedPlan, codedOf};
+ghost use Rattle.coded.specs.Coded.{codedElsewhere, blankChannels, codedChannels, codedSixty, codedPlans, codedGeneral};
 
 fn under(flag: bool, n: u64) -> bool
     ensures { λ x. ⌜ x ≡ under flag n ⌝ }

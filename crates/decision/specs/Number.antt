@@ -4,7 +4,11 @@ use Prim.Native.Nat.{ℕ}
 use Rattle.decision.specs.declared.Verdict.{Verdict}
 use Rattle.decision.specs.declared.Verdict.the-variants.{Legal, Warning, Blocked}
 use Rattle.decision.specs.declared.Code.{Code}
-use Rattle.decision.specs.declared.Code.the-variants.{NoProfile, ProfileBroken, NoRules, Unmeasured, Region, NoControl, NoLicense, NoSideband, NoDial, OutOfBand, AutomaticExcluded, TooWide, OutsideDataSegment, NoDataHere, Privilege, Permitted, AutomaticSegment, AutomaticOutside, AutomaticBandwidth, AutomaticOriginate, AutomaticResponse, SixtyEmission, SixtyOffChannel, SixtyChannel, SixtySegment, NoCode}
+use Rattle.decision.specs.declared.Code.the-variants.{NoProfile, ProfileBroken, NoRules, Unmeasured, Region, NoControl, NoLicense}
+use Rattle.decision.specs.declared.Code.the-variants.{NoSideband, NoDial, OutOfBand, AutomaticExcluded, TooWide}
+use Rattle.decision.specs.declared.Code.the-variants.{OutsideDataSegment, NoDataHere, Privilege, Permitted, AutomaticSegment}
+use Rattle.decision.specs.declared.Code.the-variants.{AutomaticOutside, AutomaticBandwidth, AutomaticOriginate, AutomaticResponse}
+use Rattle.decision.specs.declared.Code.the-variants.{SixtyEmission, SixtyOffChannel, SixtyChannel, SixtySegment, NoCode}
 use Rattle.decision.specs.declared.Edge.{Edge}
 use Rattle.decision.specs.declared.Edge.the-variants.{Lower, Upper}
 use Rattle.decision.specs.declared.Overshoot.{Overshoot}

@@ -144,7 +144,8 @@ unfolding ofBits
 most = record { value = refl }
 
 -- A figure in eighths from -2 ^ 40 to 2 ^ 40.
-pub figure-of : (x : Float) → inEighths x ≡ true → le x (ofBits binary64 0x4270000000000000) ≡ true → le (neg (ofBits binary64 0x4270000000000000)) x ≡ true → Figure x
+pub figure-of : (x : Float) → inEighths x ≡ true → le x (ofBits binary64 0x4270000000000000) ≡ true
+    → le (neg (ofBits binary64 0x4270000000000000)) x ≡ true → Figure x
 figure-of x on above below = record {
   eighths = eighths-of x on;
   plus-le = plus-bound x on most above;

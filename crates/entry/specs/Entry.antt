@@ -13,7 +13,8 @@ use Rattle.occupancy.specs.declared.Edges.{Edges}
 use Rattle.station.specs.Station.{underRules, stationTests}
 use Rattle.station.specs.declared.StationRecord.{StationRecord}
 use Rattle.layout.specs.Form.{Whole}
-use Rattle.image.specs.Check.{checkTests, checkOf, accepted-whole}
+use Rattle.image.specs.Check.{checkTests, checkOf}
+use Rattle.image.specs.Laws.{accepted-whole}
 
 -- "Images are read only under Rules."
 abbrev pub imageTests : StationRecord → List ℕ → List Test

@@ -121,7 +121,8 @@ where-located : (l : List ℕ) (test : ℕ → ℕ → Bool) → some (hasOne (t
 unfolding recordWhere
 where-located l test e = go (first (hasOne (tableOf l) test) tables) refl e
   where
-    go : (f : Found) → first (hasOne (tableOf l) test) tables ≡ f → isAt f ≡ true → Located (tableOf l) (onFound f (λ t. inTable t (firstOf (tableOf l) test t)) Nowhere)
+    go : (f : Found) → first (hasOne (tableOf l) test) tables ≡ f
+        → isAt f ≡ true → Located (tableOf l) (onFound f (λ t. inTable t (firstOf (tableOf l) test t)) Nowhere)
     go (At t) p q = let r = first-at (hasOne (tableOf l) test) tables t p in some-located l t (test t) (r .below) (r .passes)
     go Nothing p q = true≢false (sym q)
 
@@ -187,7 +188,8 @@ unsound-located : (l : List ℕ) → unsound (tableOf l) ≡ true → Located (t
 unfolding unsound unsoundPlace
 unsound-located l e = go (soundBlock (generalOf l)) e
   where
-    go : (b : Bool) → (not b || some (unsoundIn (tableOf l)) tables) ≡ true → Located (tableOf l) (cond b (recordWhere (tableOf l) (unsoundAt (tableOf l))) InGeneral)
+    go : (b : Bool) → (not b || some (unsoundIn (tableOf l)) tables) ≡ true
+        → Located (tableOf l) (cond b (recordWhere (tableOf l) (unsoundAt (tableOf l))) InGeneral)
     go false q = tt
     go true q = where-located l (unsoundAt (tableOf l)) q
 
@@ -197,7 +199,8 @@ unsound-located l e = go (soundBlock (generalOf l)) e
 abbrev pub hasPlace : ℕ → Bool
 hasPlace n = (leb 5 n && leb n 10) || (eqb n 12 || eqb n 13)
 
-by-number : (l : List ℕ) (n k : ℕ) (x y : Fault) → (n ≡ k → Located (tableOf l) x) → (eqb n k ≡ false → Located (tableOf l) y) → Located (tableOf l) (cond (eqb n k) x y)
+by-number : (l : List ℕ) (n k : ℕ) (x y : Fault) → (n ≡ k → Located (tableOf l) x)
+    → (eqb n k ≡ false → Located (tableOf l) y) → Located (tableOf l) (cond (eqb n k) x y)
 by-number l n k x y here rest = go (eqb n k) refl
   where
     go : (b : Bool) → eqb n k ≡ b → Located (tableOf l) (cond b x y)

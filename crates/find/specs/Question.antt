@@ -22,7 +22,8 @@ use native.Mathlib.Omega.{arith}
 use Rattle.find.specs.declared.Pick.{Pick}
 use Rattle.find.specs.declared.Pick.the-variants.{Picked, Missing}
 use Rattle.find.specs.declared.Question.{Question}
-use Rattle.find.specs.declared.Question.the-variants.{Miscoded, Unsound, NotLengthy, NoLimit, Holds, Overlaps, Shares, OfBand, BandHolds, ClassHolds, ClassShares, ChannelOverlaps}
+use Rattle.find.specs.declared.Question.the-variants.{Miscoded, Unsound, NotLengthy, NoLimit, Holds, Overlaps, Shares}
+use Rattle.find.specs.declared.Question.the-variants.{OfBand, BandHolds, ClassHolds, ClassShares, ChannelOverlaps}
 
 -- "a figure not finite, above 2^40 in size, or negative zero", by its bits
 unfoldable pub soundBits : ℕ → Bool

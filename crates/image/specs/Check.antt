@@ -1,21 +1,18 @@
 -- Refusals 1 to 14 of an image, in their order: each is tested over the whole image before the next.
-use Prim.Native.Nat.{ℕ, suc, zero}
-use mathlib.Core.Bool.{Bool, true, false, not, _&&_, _||_}
+use Prim.Native.Nat.{ℕ}
+use mathlib.Core.Bool.{Bool, false, not, _&&_, _||_}
 use mathlib.Core.List.{List, [], _∷_, _++_}
-use mathlib.Core.Path.{_≡_, _∙_}
 use lib.Ieee.{le}
 use Rattle.figures.specs.Figure.{zeroHz, figureOf}
-use Rattle.codes.specs.Refusal.{Test, test, refusalOf, refusal-both}
+use Rattle.codes.specs.Refusal.{Test, test, refusalOf}
 use Rattle.codes.specs.declared.Checked.{Checked}
-use Rattle.codes.specs.declared.Checked.the-variants.{Accepted}
 use Rattle.scan.specs.First.{some}
 use Rattle.layout.specs.Layout.{tables, bands, segments, channels, privileges, automatic, planData, planAvoid}
-use Rattle.layout.specs.Form.{formTests, Whole, whole-of}
+use Rattle.layout.specs.Form.{formTests}
 use Rattle.layout.specs.declared.General.{General}
 use Rattle.coded.specs.Coded.{blank, codedGeneral}
 use Rattle.table.specs.Table.{Table, tableOf}
 use Rattle.find.specs.Question.{soundBits, someIn, homelessOf}
-use Rattle.find.specs.declared.Question.{Question}
 use Rattle.find.specs.declared.Question.the-variants.{Miscoded, Unsound, NotLengthy, NoLimit}
 
 -- 5 "a coded byte outside its values, an unused one not zero, or a table of an absent part not empty"
@@ -56,20 +53,9 @@ contentTests table =
     ∷ test 9 (someIn table automatic NotLengthy) ∷ test 10 (someIn table privileges NotLengthy) ∷ test 11 (bare table)
     ∷ test 12 (homelessOf table false) ∷ test 13 (someIn table segments NoLimit) ∷ test 14 (unlimited (table .general)) ∷ []
 
--- those from one on
-abbrev pub testsFrom : ℕ → List Test → List Test
-testsFrom zero ts = ts
-testsFrom (suc n) [] = []
-testsFrom (suc n) (t ∷ ts) = testsFrom n ts
-
 abbrev pub checkTests : List ℕ → List Test
 checkTests l = formTests l ++ contentTests (tableOf l)
 
 -- the check's answer
 unfoldable pub checkOf : List ℕ → Checked
 checkOf l = refusalOf (checkTests l)
-
--- An accepted image is whole.
-pub accepted-whole : (l : List ℕ) → checkOf l ≡ Accepted → Whole l
-unfolding checkOf
-accepted-whole l e = whole-of l (refusal-both (formTests l) (contentTests (tableOf l)) e .0)

@@ -34,7 +34,8 @@ use Rattle.codes.specs.declared.SidebandSet.{SidebandSet}
 use Rattle.codes.specs.declared.SidebandSet.the-variants.{SidebandIs, NoSideband as SidebandAbsent}
 use Rattle.codes.specs.declared.Sideband.{Sideband}
 use Rattle.codes.specs.declared.Direction.{Direction}
-use Rattle.verdict.specs.Verdict.{withControl, withLicense, withSideband, withDial, signalOf, caseOf, readyOf, judgedOf, underRulesOf, unruledOf, decideOf, besideValid, evaluateOf}
+use Rattle.verdict.specs.Verdict.{withControl, withLicense, withSideband, withDial, signalOf, caseOf, readyOf}
+use Rattle.verdict.specs.Verdict.{judgedOf, underRulesOf, unruledOf, decideOf, besideValid, evaluateOf}
 use Rattle.verdict.specs.Laws.{evaluate-accepted}
 use Rattle.layout.specs.Layout.{segments, channels, automatic, excluded, bands}
 use Rattle.table.specs.Table.{Table, tableOf}
@@ -56,7 +57,10 @@ use Rattle.decision.specs.Number.{noRule, §97-301, §97-109, §97-305a, §97-3
 use Rattle.decision.specs.declared.Verdict.{Verdict}
 use Rattle.decision.specs.declared.Verdict.the-variants.{Legal, Blocked}
 use Rattle.decision.specs.declared.Code.{Code}
-use Rattle.decision.specs.declared.Code.the-variants.{Region, NoControl, NoLicense, NoSideband, NoDial, OutOfBand, AutomaticExcluded, TooWide, Privilege, Permitted, AutomaticSegment, AutomaticBandwidth, AutomaticOriginate, AutomaticResponse, SixtyEmission, SixtyOffChannel, SixtyChannel, SixtySegment}
+use Rattle.decision.specs.declared.Code.the-variants.{Region, NoControl, NoLicense, NoSideband, NoDial, OutOfBand}
+use Rattle.decision.specs.declared.Code.the-variants.{AutomaticExcluded, TooWide, Privilege, Permitted, AutomaticSegment}
+use Rattle.decision.specs.declared.Code.the-variants.{AutomaticBandwidth, AutomaticOriginate, AutomaticResponse}
+use Rattle.decision.specs.declared.Code.the-variants.{SixtyEmission, SixtyOffChannel, SixtyChannel, SixtySegment}
 use Rattle.decision.specs.declared.BandNumber.the-variants.{Band}
 use Rattle.decision.specs.declared.SixtyNotes.{SixtyNotes}
 use Rattle.automatic_97_221.specs.Automatic.{responds}
@@ -66,7 +70,11 @@ use Rattle.decision.specs.declared.BandNumber.{BandNumber}
 use Rattle.decision.specs.declared.JudgedSegment.{JudgedSegment}
 use Rattle.decision.specs.declared.Draft.{Draft}
 use Rattle.decision.specs.declared.Decision.{Decision}
-use Rattle.part97.specs.Part97.{bandAt, segmentAt, generalLimit, limitFor, automaticRule, exceeds, channelWatts, segmentWatts, onChannel, isData, somePrivilege, privilegedOf, underPrivilege, draftOf, draftInside, draftAutomatic, advised, automaticElsewhere, automaticData, considered, nearestUpTo, onNearest, outsideSegments, insideSegment, judgeData, allowedOnSixty, sixtyChannel, sixtySegment, sixtyPlace, sixtyEmission, sixtyKind, sixty, offSixty, judgeOnBand, judgeInBand, touching, judge}
+use Rattle.part97.specs.Part97.{bandAt, segmentAt, generalLimit, limitFor, automaticRule, exceeds, channelWatts, segmentWatts}
+use Rattle.part97.specs.Part97.{onChannel, isData, somePrivilege, privilegedOf, underPrivilege, draftOf, draftInside}
+use Rattle.part97.specs.Part97.{draftAutomatic, advised, automaticElsewhere, automaticData, considered, nearestUpTo, onNearest}
+use Rattle.part97.specs.Part97.{outsideSegments, insideSegment, judgeData, allowedOnSixty, sixtyChannel, sixtySegment, sixtyPlace}
+use Rattle.part97.specs.Part97.{sixtyEmission, sixtyKind, sixty, offSixty, judgeOnBand, judgeInBand, touching, judge}
 use Rattle.part97.specs.declared.Case.{Case}
 use Rattle.part97.specs.declared.Nearest.{Nearest}
 use Rattle.part97.specs.declared.Nearest.the-variants.{Near, NoneNear}
@@ -345,7 +353,8 @@ module _ (table : Table) (s : Situation) (power : Figure) (plan : Bool) (dial : 
   ruled-same audio = ready-alike audio .alike (signalOf dial (s .sideband) audio)
 
   pub decide-same :
-      (policy : Policy) (e : Edges) → Same (decideOf table (otherStation s power plan) policy dial kind direction e) (decideOf table s policy dial kind direction e)
+      (policy : Policy) (e : Edges)
+      → Same (decideOf table (otherStation s power plan) policy dial kind direction e) (decideOf table s policy dial kind direction e)
   unfolding decideOf unruledOf
   decide-same Unset e = record { same = refl }
   decide-same NoneApply e = record { same = refl }
@@ -361,5 +370,6 @@ pub same-code-and-segment :
 unfolding situationOf
 same-code-and-segment r known watts plan kind direction e l a b v =
     ap keys (evaluate-accepted (otherRecord r known watts plan) kind direction e l b v)
-    ∙ decide-same (tableOf l) (situationOf r) (figureRead known watts) (not (eqb plan 0)) (situationOf r .dial) (kindOf kind) (directionOf direction) (situationOf r .policy) (edgesRead e) .same
+    ∙ decide-same (tableOf l) (situationOf r) (figureRead known watts) (not (eqb plan 0))
+    (situationOf r .dial) (kindOf kind) (directionOf direction) (situationOf r .policy) (edgesRead e) .same
     ∙ sym (ap keys (evaluate-accepted r kind direction e l a v))

@@ -13,7 +13,8 @@ use borrow.Author.Tests.{ltb-false, eqb-true, not-false}
 use native.Mathlib.Omega.{arith}
 use native.Mathlib.Nat.{zero-add, suc-add, le-refl}
 use Rattle.layout.specs.Bytes.{byteAt}
-use Rattle.layout.specs.Layout.{generalSize, tablesFrom, recordSize, trailerSize, tables, trailerOf, countOf, distanceOf, editionOf, lettersOf, recordsBefore, records-more, startOf}
+use Rattle.layout.specs.Layout.{generalSize, tablesFrom, recordSize, trailerSize, tables, trailerOf, countOf}
+use Rattle.layout.specs.Layout.{distanceBack, editionOf, lettersOf, recordsBefore, records-more, startOf}
 
 -- 1 "image under 92 or over 65,536 bytes"
 abbrev pub sizeWrong : List ℕ → Bool
@@ -46,7 +47,7 @@ abbrev pub lengthWrong : List ℕ → Bool
 lengthWrong l = not (eqb (trailerOf l) (tablesFrom l + recordSize * recordsBefore l tables))
 
 abbrev pub distanceWrong : List ℕ → Bool
-distanceWrong l = not (eqb (distanceOf l) (trailerOf l))
+distanceWrong l = not (eqb (distanceBack l) (trailerOf l))
 
 abbrev pub countsWrong : List ℕ → Bool
 countsWrong l = overfull l || (lengthWrong l || distanceWrong l)

@@ -120,8 +120,8 @@ abbrev pub countOf : List ℕ → ℕ → ℕ
 countOf l t = u16At l (trailerOf l + 2 * t)
 
 -- "a u32 distance from the trailer's start back to the first byte"
-abbrev pub distanceOf : List ℕ → ℕ
-distanceOf l = u32At l (trailerOf l + 18)
+abbrev pub distanceBack : List ℕ → ℕ
+distanceBack l = u32At l (trailerOf l + 18)
 
 -- "u16 edition 1"
 abbrev pub editionOf : List ℕ → ℕ

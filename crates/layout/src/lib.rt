@@ -6,7 +6,7 @@ ghost use Prim.Native.Nat.{_+_, _*_, _≤_, _<_};
 ghost use lib.ListN.{length};
 ghost use Rattle.codes.specs.Refusal.{refusalOf};
 ghost use Rattle.layout.specs.Bytes.{byteAt, u16At, u32At, u64At};
-ghost use Rattle.layout.specs.Layout.{recordAt, listsOf, rulesOf, generalOf, countOf, distanceOf, editionOf, recordsBefore, tablesFrom, startOf};
+ghost use Rattle.layout.specs.Layout.{recordAt, listsOf, rulesOf, generalOf, countOf, distanceBack, editionOf, recordsBefore, tablesFrom, startOf};
 ghost use Rattle.layout.specs.Form.{lettersWrong, overfull, countsWrong, formTests};
 
 pub const GENERAL_SIZE: usize = 64;

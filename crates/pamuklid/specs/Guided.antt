@@ -65,15 +65,19 @@ use Rattle.decision.specs.declared.Guidance.the-variants.{Avoid, Inside, Outsid
 use Rattle.decision.specs.declared.SixtyNotes.{SixtyNotes}
 use Rattle.decision.specs.declared.Draft.{Draft}
 use Rattle.decision.specs.declared.Decision.{Decision}
-use Rattle.part97.specs.Part97.{planSays, wantsPlan, guidanceOf, adviceOf, advised, underPrivilege, automaticElsewhere, automaticData, onNearest, outsideSegments, insideSegment, judgeData}
+use Rattle.part97.specs.Part97.{planSays, wantsPlan, guidanceOf, adviceOf, advised, underPrivilege, automaticElsewhere}
+use Rattle.part97.specs.Part97.{automaticData, onNearest, outsideSegments, insideSegment, judgeData}
 use Rattle.automatic_97_221.specs.Automatic.{responds}
-use Rattle.part97.specs.Part97.{generalLimit, privilegedOf, somePrivilege, onChannel, isData, limitFor, nearestUpTo, emitted, keyed, offSixty, allowedOnSixty, sixtyChannel, sixtySegment, sixtyPlace, sixtyEmission, sixtyKind, sixty, judgeOnBand, judgeInBand, judge}
+use Rattle.part97.specs.Part97.{generalLimit, privilegedOf, somePrivilege, onChannel, isData, limitFor, nearestUpTo}
+use Rattle.part97.specs.Part97.{emitted, keyed, offSixty, allowedOnSixty, sixtyChannel, sixtySegment}
+use Rattle.part97.specs.Part97.{sixtyPlace, sixtyEmission, sixtyKind, sixty, judgeOnBand, judgeInBand, judge}
 use Rattle.part97.specs.declared.Case.{Case}
 use Rattle.part97.specs.declared.Nearest.{Nearest}
 use Rattle.part97.specs.declared.Nearest.the-variants.{Near, NoneNear}
 use Rattle.part97.specs.declared.Privileged.{Privileged}
 use Rattle.part97.specs.declared.Privileged.the-variants.{Granted, Forbidden, Unheld}
-use Rattle.verdict.specs.Verdict.{signalOf, withControl, withLicense, withSideband, withDial, readyOf, judgedOf, underRulesOf, unruledOf, decideOf, besideValid, edgeTests, evaluateTests, unlessRefused, evaluateOf, unmeasuredOf}
+use Rattle.verdict.specs.Verdict.{signalOf, withControl, withLicense, withSideband, withDial, readyOf, judgedOf, underRulesOf}
+use Rattle.verdict.specs.Verdict.{unruledOf, decideOf, besideValid, edgeTests, evaluateTests, unlessRefused, evaluateOf, unmeasuredOf}
 use Rattle.verdict.specs.Laws.{rules-whole}
 use Rattle.verdict.specs.declared.Ready.{Ready}
 use Rattle.verdict.specs.declared.Ready.the-variants.{Met, Missing}
@@ -335,7 +339,8 @@ module _ (r : StationRecord) (direction : ℕ) (ordinary floor : Edges) (l : Lis
 
   refused-limit : (n : ℕ) → refusalOf (ceilingTests r direction ordinary floor l rungs floors) ≡ Refused n → answer .limit ≡ refusedOf n
   unfolding ceilingOf
-  refused-limit n e = ap (λ (x : Checked). withRefusal x (climbed (judging r direction ordinary floor l rungs floors) (bursts r direction ordinary floor l rungs floors) (length rungs / 4)) .limit) e
+  refused-limit n e = ap (λ (x : Checked). withRefusal x (climbed (judging r direction ordinary floor l rungs floors)
+      (bursts r direction ordinary floor l rungs floors) (length rungs / 4)) .limit) e
 
   judging-indexed :
       refusalOf (ceilingTests r direction ordinary floor l rungs floors) ≡ Accepted → (e : Edges)
@@ -352,7 +357,8 @@ module _ (r : StationRecord) (direction : ℕ) (ordinary floor : Edges) (l : Lis
       go (Refused n) e = subst Indexed (sym (refused-limit n e)) (refused n)
       go Accepted e = by-run (decLe (suc (run .0)) (length rungs / 4))
         where
-          run : (j : ℕ) × Run (judging r direction ordinary floor l rungs floors) (bursts r direction ordinary floor l rungs floors) (length rungs / 4) (answer .rung) (answer .limited) (answer .limit) j
+          run : (j : ℕ) × Run (judging r direction ordinary floor l rungs floors) (bursts r direction ordinary floor l rungs floors)
+              (length rungs / 4) (answer .rung) (answer .limited) (answer .limit) j
           run = ceiling-run r direction ordinary floor l rungs floors e
 
           by-run : Dec (suc (run .0) ≤ length rungs / 4) → Indexed (answer .limit)

@@ -31,7 +31,8 @@ ghost use Rattle.ceiling.specs.Ceiling.{ceilingOf, rungNumber};
 ghost use Rattle.distance.specs.Distance.{distanceOf};
 ghost use Rattle.numbers.specs.Refusal.{refusalNumber};
 ghost use Rattle.pamuklid.specs.Fits.{FaultFits, RungFits, Counted};
-ghost use Rattle.pamuklid.specs.Flat.{recordOf, stationOf, edgesOf, rangeFlat, segmentFlat, overshootFlat, guidanceIndex, guidanceFlat, ruleFlat, bandFlat, widthFlat};
+ghost use Rattle.pamuklid.specs.Flat.{recordOf, stationOf, edgesOf, rangeFlat, segmentFlat, overshootFlat};
+ghost use Rattle.pamuklid.specs.Flat.{guidanceIndex, guidanceFlat, ruleFlat, bandFlat, widthFlat};
 ghost use Rattle.pamuklid.specs.Flat.{faultFlat, tidinessFlat, flatOf, ceilingFlat, dialsFlat, FlatDialed, infinityHz, distanceFlat, versionNumber};
 ghost use Rattle.pamuklid.specs.Guided.{Indexed};
 
@@ -599,7 +600,8 @@ pub extern "C" fn pamuklid_ceiling_of(
     rungs: &[f64],
     floors: &[u8],
 ) -> FlatCeiling
-    ensures { λ r. ⌜ r ≡ ceilingFlat (ceilingOf (recordOf s) direction (edgesOf ordinary) (edgesOf floor) (now (image .entry)) (now (rungs .entry)) (now (floors .entry))) ⌝ }
+    ensures { λ r. ⌜ r ≡ ceilingFlat (ceilingOf (recordOf s) direction
+        (edgesOf ordinary) (edgesOf floor) (now (image .entry)) (now (rungs .entry)) (now (floors .entry))) ⌝ }
 {
     let record = station_in(s);
     let ordinary_edges = edges_in(ordinary);

@@ -129,26 +129,34 @@ concluded table c f = concludedOver table c f (f .over)
 -- ---- each finding, concluded
 
 module _ (table : Table) (c : Case) where
-  pub on-band : (band : BandNumber) (verdict : Verdict) (code : Code) (rule : ℕ) → concluded table c (onBand band verdict code rule) ≡ simpleOf (draftOf c band) verdict code rule
+  pub on-band : (band : BandNumber) (verdict : Verdict) (code : Code) (rule : ℕ)
+      → concluded table c (onBand band verdict code rule) ≡ simpleOf (draftOf c band) verdict code rule
   unfolding concluded concludedOver draftAt onBand draftOf simpleOf noAdvice
   on-band band verdict code rule = refl
 
-  pub in-segment : (band : ℕ) (segment : Range) (own : ℕ) (code : Code) (rule : ℕ) → concluded table c (inSegment band segment own code rule) ≡ simpleOf (draftInside c band segment own) Blocked code rule
+  pub in-segment : (band : ℕ) (segment : Range) (own : ℕ) (code : Code) (rule : ℕ)
+      → concluded table c (inSegment band segment own code rule) ≡ simpleOf (draftInside c band segment own) Blocked code rule
   unfolding concluded concludedOver draftAt inSegment draftInside simpleOf noAdvice
   in-segment band segment own code rule = refl
 
-  pub beyond-segment : (band : ℕ) (segment : Range) (own : ℕ) (overshoot : Overshoot) → concluded table c (beyondSegment band segment own overshoot) ≡ finishOf (draftInside c band segment own) Blocked OutsideDataSegment own overshoot noAdvice
+  pub beyond-segment : (band : ℕ) (segment : Range) (own : ℕ) (overshoot : Overshoot)
+      → concluded table c (beyondSegment band segment own overshoot)
+      ≡ finishOf (draftInside c band segment own) Blocked OutsideDataSegment own overshoot noAdvice
   unfolding concluded concludedOver draftAt beyondSegment draftInside noAdvice
   beyond-segment band segment own overshoot = refl
 
-  pub lawful-in : (band : ℕ) (segment : Range) (own : ℕ) (r : Range) (code : Code) (rule : ℕ) → concluded table c (lawfulIn band segment own NoRange r code rule) ≡ advised table c r (draftInside c band segment own) code rule
+  pub lawful-in : (band : ℕ) (segment : Range) (own : ℕ) (r : Range) (code : Code) (rule : ℕ)
+      → concluded table c (lawfulIn band segment own NoRange r code rule) ≡ advised table c r (draftInside c band segment own) code rule
   unfolding concluded concludedOver draftAt lawfulIn draftInside
   lawful-in band segment own r code rule = refl
 
-  pub lawful-automatic : (band : ℕ) (segment : Range) (own : ℕ) (inside r : Range) (code : Code) (rule : ℕ) → concluded table c (lawfulIn band segment own (Is inside) r code rule) ≡ advised table c r (draftAutomatic c band segment own inside) code rule
+  pub lawful-automatic : (band : ℕ) (segment : Range) (own : ℕ) (inside r : Range) (code : Code) (rule : ℕ)
+      → concluded table c (lawfulIn band segment own (Is inside) r code rule)
+      ≡ advised table c r (draftAutomatic c band segment own inside) code rule
   unfolding concluded concludedOver draftAt lawfulIn draftAutomatic
   lawful-automatic band segment own inside r code rule = refl
 
-  pub on-sixty : (band : ℕ) (segment : Range) (warn : Bool) (code : Code) (own : ℕ) (marks : SixtyNotes) → concluded table c (onSixty band segment warn code own marks) ≡ allowedOnSixty (draftInside c band segment own) warn code own marks
+  pub on-sixty : (band : ℕ) (segment : Range) (warn : Bool) (code : Code) (own : ℕ) (marks : SixtyNotes)
+      → concluded table c (onSixty band segment warn code own marks) ≡ allowedOnSixty (draftInside c band segment own) warn code own marks
   unfolding concluded concludedOver draftAt onSixty draftInside allowedOnSixty
   on-sixty band segment warn code own marks = refl

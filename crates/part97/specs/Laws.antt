@@ -18,7 +18,8 @@ use Rattle.table.specs.declared.Segment.{Segment}
 use Rattle.part97.specs.declared.Case.{Case}
 use Rattle.part97.specs.declared.Nearest.{Nearest}
 use Rattle.part97.specs.declared.Nearest.the-variants.{Near, NoneNear}
-use Rattle.part97.specs.Part97.{segmentAt, limitFor, tooWide, insideSegment, outsideSegments, judgeData, reach, notesUpTo, anyNote, nearerBy, considered, nearestUpTo}
+use Rattle.part97.specs.Part97.{segmentAt, limitFor, tooWide, insideSegment, outsideSegments, judgeData}
+use Rattle.part97.specs.Part97.{reach, notesUpTo, anyNote, nearerBy, considered, nearestUpTo}
 
 pub notes-more : (note : ℕ → Bool) (n : ℕ) → notesUpTo note (n + 1) ≡ cond (note n) (set (notesUpTo note n) n 1) (notesUpTo note n)
 unfolding notesUpTo

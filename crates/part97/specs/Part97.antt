@@ -48,7 +48,9 @@ use Rattle.decision.specs.Decision.{noNotes, noMarks, noAdvice, finishOf, simpl
 use Rattle.decision.specs.declared.Verdict.{Verdict}
 use Rattle.decision.specs.declared.Verdict.the-variants.{Legal, Warning, Blocked}
 use Rattle.decision.specs.declared.Code.{Code}
-use Rattle.decision.specs.declared.Code.the-variants.{OutOfBand, AutomaticExcluded, TooWide, OutsideDataSegment, NoDataHere, Privilege, Permitted, AutomaticSegment, AutomaticOutside, AutomaticBandwidth, AutomaticOriginate, AutomaticResponse, SixtyEmission, SixtyOffChannel, SixtyChannel, SixtySegment}
+use Rattle.decision.specs.declared.Code.the-variants.{OutOfBand, AutomaticExcluded, TooWide, OutsideDataSegment, NoDataHere, Privilege}
+use Rattle.decision.specs.declared.Code.the-variants.{Permitted, AutomaticSegment, AutomaticOutside, AutomaticBandwidth, AutomaticOriginate}
+use Rattle.decision.specs.declared.Code.the-variants.{AutomaticResponse, SixtyEmission, SixtyOffChannel, SixtyChannel, SixtySegment}
 use Rattle.decision.specs.declared.Edge.{Edge}
 use Rattle.decision.specs.declared.Edge.the-variants.{Lower, Upper}
 use Rattle.decision.specs.declared.Overshoot.{Overshoot}
@@ -74,8 +76,8 @@ use Rattle.part97.specs.declared.Privileged.the-variants.{Granted, Forbi
 -- ---- how to read the rules
 --
 -- A definition is a line with `:`, which says what it is asked about and, last, what it answers, and below it the answer. `f a b` is f
--- asked about a and b. `table` is an accepted table: `table .general` is its general block, `table .at bands i` its band i. `c` is the case, station and signal: `c .air` is the signal's range on the
--- air, `c .guarded` that range with the margin on either side.
+-- asked about a and b. `table` is an accepted table: `table .general` is its general block, `table .at bands i` its band i. `c` is the
+-- case, station and signal: `c .air` is the signal's range on the air, `c .guarded` that range with the margin on either side.
 --
 -- - Tests: `lt a b` is a < b, `le a b` is a ≤ b, `wider a b` is a > b; `&&` is and, `||` is or. `cond t a b` is a where the test t
 --   holds, else b.

@@ -21,7 +21,8 @@ unfoldable pub heldBits : List ℕ → ℕ → ℕ → ℕ → Bool
 heldBits l low high j = leb (recordOf l bands j .low) low && leb high (recordOf l bands j .high)
 
 module _ (l : List ℕ) (smooth : isRough l ≡ false) (i : ℕ) (below : i < countOf l segments) where
-  held : (j : ℕ) → j < countOf l bands → heldBits l (recordOf l segments i .low) (recordOf l segments i .high) j ≡ asks (Holds (spanOf (recordOf l segments i))) (recordOf l bands j)
+  held : (j : ℕ) → j < countOf l bands → heldBits l (recordOf l segments i .low) (recordOf l segments i .high) j
+      ≡ asks (Holds (spanOf (recordOf l segments i))) (recordOf l bands j)
   unfolding heldBits asks
   held j h =
       let a = parts segments (recordOf l segments i) (plain-at l smooth segments i (omega arith) below) in
@@ -29,7 +30,8 @@ module _ (l : List ℕ) (smooth : isRough l ≡ false) (i : ℕ) (below : i < co
       rw (bits-le (recordOf l bands j .low) (recordOf l segments i .low) (b .low-le) (a .low-le))
       (rw (bits-le (recordOf l segments i .high) (recordOf l bands j .high) (a .high-le) (b .high-le)))
 
-  pub held-some : some (heldBits l (recordOf l segments i .low) (recordOf l segments i .high)) (countOf l bands) ≡ someIn (tableOf l) bands (Holds (spanOf (recordIn l segments i)))
+  pub held-some : some (heldBits l (recordOf l segments i .low) (recordOf l segments i .high)) (countOf l bands)
+      ≡ someIn (tableOf l) bands (Holds (spanOf (recordIn l segments i)))
   held-some =
       some-same (heldBits l (recordOf l segments i .low) (recordOf l segments i .high)) (asksAt l (startOf l bands) (Holds (spanOf (recordOf l segments i))))
       (countOf l bands) held

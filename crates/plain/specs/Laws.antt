@@ -79,7 +79,8 @@ plain-limited r e = let p = parts segments r e in limited-by r (bitOf (r .flags)
 module _ (l : List ℕ) (smooth : isRough l ≡ false) where
   pub plain-at : (t i : ℕ) → t < tables → i < countOf l t → plainOf t (recordOf l t i) ≡ true
   unfolding isRough roughFrom
-  plain-at t i h k = not-false (plainOf t (recordOf l t i)) (some-false (roughAt l t (startOf l t)) (countOf l t) (some-false (roughIn l) tables smooth t h) i k)
+  plain-at t i h k = not-false (plainOf t (recordOf l t i))
+      (some-false (roughAt l t (startOf l t)) (countOf l t) (some-false (roughIn l) tables smooth t h) i k)
 
   -- a test that no plain record of table t passes
   none-in : (t : ℕ) (q : Question) → t < tables → ((r : Record) → plainOf t r ≡ true → asks q r ≡ false) → someIn (tableOf l) t q ≡ false

@@ -27,13 +27,13 @@ pointWithin low lists rules r =
     leb (r .low) low && (eqb (r .high) 0 && (eqb (r .figure) 0 && (leb (listsOf r) lists && leb (rulesOf r) rules)))
 
 -- a privilege with a list of emissions, and one with or without
-unfoldable pub listedOf : Record → Bool
-listedOf r =
+unfoldable pub listedPrivilege : Record → Bool
+listedPrivilege r =
     ltb (r .low) (r .high) && (leb (r .high) limitBits && (eqb (r .figure) 0 && (eqb (r .flags) 1 && (leb (r .emissions) 15
     && (eqb (r .band) 0 && (leb (r .class) 4 && (eqb (r .rule) 0 && eqb (r .«second_rule») 0)))))))
 
 unfoldable pub privilegeWithin : Record → Bool
-privilegeWithin r = rangeWithin 0 0 1024 0 r || listedOf r
+privilegeWithin r = rangeWithin 0 0 1024 0 r || listedPrivilege r
 
 -- ---- records that pass a test, one after the other
 
@@ -63,7 +63,8 @@ module _ (test : Record → Bool) (l : List ℕ) (start : ℕ) where
       go i a b (no h) = s .each i a (omega arith)
 
 -- by a test that says more
-pub stretch-by : (f g : Record → Bool) (l : List ℕ) (start from to : ℕ) → ((r : Record) → f r ≡ true → g r ≡ true) → Stretch f l start from to → Stretch g l start from to
+pub stretch-by : (f g : Record → Bool) (l : List ℕ) (start from to : ℕ)
+    → ((r : Record) → f r ≡ true → g r ≡ true) → Stretch f l start from to → Stretch g l start from to
 stretch-by f g l start from to h s = record { forward = s .forward; each = λ i a b. h (recordAt l (start + recordSize * i)) (s .each i a b) }
 
 -- ---- the fewer tests, table by table
@@ -125,7 +126,17 @@ module _ (t : ℕ) where
   without-lists :
       (low high figure band class emissions flags rule second : ℕ) → class ≡ 0 → emissions ≡ 0 → flags ≡ 0 → second ≡ 0
       → plainOf t (listless low high figure band rule) ≡ true
-      → plainOf t (record { low = low; high = high; figure = figure; band = band; class = class; emissions = emissions; flags = flags; rule = rule; «second_rule» = second }) ≡ true
+      → plainOf t (record {
+        low = low;
+        high = high;
+        figure = figure;
+        band = band;
+        class = class;
+        emissions = emissions;
+        flags = flags;
+        rule = rule;
+        «second_rule» = second;
+      }) ≡ true
   without-lists low high figure band class emissions flags rule second a b c d e = rw a (rw b (rw c (rw d e)))
 
   -- from the most that lists and rules are
@@ -147,7 +158,8 @@ module _ (low high : ℕ) (longer : low < high) (within : high ≤ limitBits) wh
 
   at-automatic : (figure band rule : ℕ) → figure ≡ 0 → band ≡ 0 → rule ≡ 0 → plainOf automatic (listless low high figure band rule) ≡ true
   unfolding plainOf sizedOf longOf limitedOf codedOf
-  at-automatic figure band rule a b c = rw a (rw b (rw c (rw (le-leb low limitBits (omega arith)) (rw (le-leb high limitBits within) (rw (lt-ltb low high longer))))))
+  at-automatic figure band rule a b c = rw a (rw b
+      (rw c (rw (le-leb low limitBits (omega arith)) (rw (le-leb high limitBits within) (rw (lt-ltb low high longer))))))
 
   at-power : (figure band rule : ℕ) → figure ≤ limitBits → band ≡ 0 → plainOf power (listless low high figure band rule) ≡ true
   unfolding plainOf sizedOf longOf limitedOf codedOf
@@ -163,19 +175,42 @@ module _ (low high : ℕ) (longer : low < high) (within : high ≤ limitBits) wh
 
   at-privileges :
       (figure band class emissions flags rule second : ℕ) → figure ≡ 0 → band ≡ 0 → class ≤ 4 → emissions ≡ 0 → flags ≡ 0 → rule ≡ 0 → second ≡ 0
-      → plainOf privileges (record { low = low; high = high; figure = figure; band = band; class = class; emissions = emissions; flags = flags; rule = rule; «second_rule» = second }) ≡ true
+      → plainOf privileges (record {
+        low = low;
+        high = high;
+        figure = figure;
+        band = band;
+        class = class;
+        emissions = emissions;
+        flags = flags;
+        rule = rule;
+        «second_rule» = second;
+      }) ≡ true
   unfolding plainOf sizedOf longOf limitedOf codedOf
   at-privileges figure band class emissions flags rule second a b c d e f g =
-      rw a (rw b (rw d (rw e (rw f (rw g (rw (le-leb low limitBits (omega arith)) (rw (le-leb high limitBits within) (rw (lt-ltb low high longer) (rw (le-leb class 4 c))))))))))
+      rw a (rw b (rw d (rw e (rw f (rw g (rw (le-leb low limitBits (omega arith))
+      (rw (le-leb high limitBits within) (rw (lt-ltb low high longer) (rw (le-leb class 4 c))))))))))
 
   at-listed :
       (figure band class emissions flags rule second : ℕ) → figure ≡ 0 → band ≡ 0 → class ≤ 4 → emissions ≤ 15 → flags ≡ 1 → rule ≡ 0 → second ≡ 0
-      → plainOf privileges (record { low = low; high = high; figure = figure; band = band; class = class; emissions = emissions; flags = flags; rule = rule; «second_rule» = second }) ≡ true
+      → plainOf privileges (record {
+        low = low;
+        high = high;
+        figure = figure;
+        band = band;
+        class = class;
+        emissions = emissions;
+        flags = flags;
+        rule = rule;
+        «second_rule» = second;
+      }) ≡ true
   unfolding plainOf sizedOf longOf limitedOf codedOf
   at-listed figure band class emissions flags rule second a b c d e f g =
-      rw a (rw b (rw e (rw f (rw g (rw (le-leb low limitBits (omega arith)) (rw (le-leb high limitBits within) (rw (lt-ltb low high longer) (rw (le-leb class 4 c) (rw (le-leb emissions 15 d))))))))))
+      rw a (rw b (rw e (rw f (rw g (rw (le-leb low limitBits (omega arith)) (rw (le-leb high limitBits within)
+      (rw (lt-ltb low high longer) (rw (le-leb class 4 c) (rw (le-leb emissions 15 d))))))))))
 
-at-channels : (low high figure band rule : ℕ) → low ≤ limitBits → high ≡ 0 → figure ≡ 0 → band ≡ 0 → rule ≡ 0 → plainOf channels (listless low high figure band rule) ≡ true
+at-channels : (low high figure band rule : ℕ) → low ≤ limitBits
+    → high ≡ 0 → figure ≡ 0 → band ≡ 0 → rule ≡ 0 → plainOf channels (listless low high figure band rule) ≡ true
 unfolding plainOf sizedOf longOf limitedOf codedOf
 at-channels low high figure band rule a b c d e = rw b (rw c (rw d (rw e (rw (le-leb low limitBits a)))))
 
@@ -202,16 +237,20 @@ module _ (r : Record) where
   plain-channel e =
       let p = point-parts limitBits 0 0 r e in
       listless-plain channels r (omega (arith, p .lists-most)) (omega (arith, p .rules-most))
-      (at-channels (r .low) (r .high) (r .figure) (r .band) (r .rule) (p .low-most) (p .no-high) (p .no-figure) (omega (arith, p .lists-most)) (omega (arith, p .rules-most)))
+      (at-channels (r .low) (r .high) (r .figure) (r .band) (r .rule)
+      (p .low-most) (p .no-high) (p .no-figure) (omega (arith, p .lists-most)) (omega (arith, p .rules-most)))
 
   unlisted : rangeWithin 0 0 1024 0 r ≡ true → plainOf privileges r ≡ true
   unlisted e =
       let p = range-parts 0 0 1024 0 r e in
       at-privileges (r .low) (r .high) (p .longer) (p .high-most) (r .figure) (r .band) (r .class) (r .emissions) (r .flags) (r .rule) (r .«second_rule»)
-      (omega (arith, p .figure-most)) (omega (arith, p .band-most)) (omega (arith, p .lists-most)) (omega (arith, p .lists-most)) (omega (arith, p .lists-most)) (omega (arith, p .rules-most)) (omega (arith, p .rules-most))
+      (omega (arith, p .figure-most)) (omega (arith, p .band-most)) (omega (arith, p .lists-most)) (omega (
+        arith,
+        p .lists-most,
+      )) (omega (arith, p .lists-most)) (omega (arith, p .rules-most)) (omega (arith, p .rules-most))
 
-  listed : listedOf r ≡ true → plainOf privileges r ≡ true
-  unfolding listedOf
+  listed : listedPrivilege r ≡ true → plainOf privileges r ≡ true
+  unfolding listedPrivilege
   listed e =
       let p1 = and-true (ltb (r .low) (r .high)) _ e in
       let p2 = and-true (leb (r .high) limitBits) _ (p1 .1) in
@@ -221,14 +260,16 @@ module _ (r : Record) where
       let p6 = and-true (eqb (r .band) 0) _ (p5 .1) in
       let p7 = and-true (leb (r .class) 4) _ (p6 .1) in
       let p8 = and-true (eqb (r .rule) 0) (eqb (r .«second_rule») 0) (p7 .1) in
-      at-listed (r .low) (r .high) (ltb-true _ _ (p1 .0)) (leb-true _ _ (p2 .0)) (r .figure) (r .band) (r .class) (r .emissions) (r .flags) (r .rule) (r .«second_rule»)
-      (eqb-true _ _ (p3 .0)) (eqb-true _ _ (p6 .0)) (leb-true _ _ (p7 .0)) (leb-true _ _ (p5 .0)) (eqb-true _ _ (p4 .0)) (eqb-true _ _ (p8 .0)) (eqb-true _ _ (p8 .1))
+      at-listed (r .low) (r .high) (ltb-true _ _ (p1 .0))
+      (leb-true _ _ (p2 .0)) (r .figure) (r .band) (r .class) (r .emissions) (r .flags) (r .rule) (r .«second_rule»)
+      (eqb-true _ _ (p3 .0)) (eqb-true _ _ (p6 .0)) (leb-true _ _ (p7 .0))
+      (leb-true _ _ (p5 .0)) (eqb-true _ _ (p4 .0)) (eqb-true _ _ (p8 .0)) (eqb-true _ _ (p8 .1))
 
   pub plain-privilege : privilegeWithin r ≡ true → plainOf privileges r ≡ true
   unfolding privilegeWithin
   plain-privilege e = go (rangeWithin 0 0 1024 0 r) refl e
     where
-      go : (b : Bool) → rangeWithin 0 0 1024 0 r ≡ b → (b || listedOf r) ≡ true → plainOf privileges r ≡ true
+      go : (b : Bool) → rangeWithin 0 0 1024 0 r ≡ b → (b || listedPrivilege r) ≡ true → plainOf privileges r ≡ true
       go true p q = unlisted p
       go false p q = listed q
 
@@ -236,7 +277,8 @@ module _ (r : Record) where
   plain-automatic e =
       let p = range-parts 0 0 0 0 r e in
       listless-plain automatic r (omega (arith, p .lists-most)) (omega (arith, p .rules-most))
-      (at-automatic (r .low) (r .high) (p .longer) (p .high-most) (r .figure) (r .band) (r .rule) (omega (arith, p .figure-most)) (omega (arith, p .band-most)) (omega (arith, p .rules-most)))
+      (at-automatic (r .low) (r .high) (p .longer) (p .high-most) (r .figure) (r .band)
+      (r .rule) (omega (arith, p .figure-most)) (omega (arith, p .band-most)) (omega (arith, p .rules-most)))
 
   pub plain-excluded : pointWithin 0 255 65535 r ≡ true → plainOf excluded r ≡ true
   plain-excluded e =
@@ -260,4 +302,5 @@ module _ (r : Record) where
   plain-plan-avoid e =
       let p = range-parts 0 0 0 65535 r e in
       listless-plain planAvoid r (omega (arith, p .lists-most)) (p .rules-most)
-      (at-plan-avoid (r .low) (r .high) (p .longer) (p .high-most) (r .figure) (r .band) (r .rule) (omega (arith, p .figure-most)) (omega (arith, p .band-most)))
+      (at-plan-avoid (r .low) (r .high) (p .longer)
+      (p .high-most) (r .figure) (r .band) (r .rule) (omega (arith, p .figure-most)) (omega (arith, p .band-most)))

@@ -14,7 +14,7 @@ ghost use Rattle.layout.specs.Form.{Whole};
 ghost use Rattle.table.specs.Table.{tableOf};
 ghost use Rattle.find.specs.Question.{homelessOf};
 ghost use Rattle.plain.specs.Plain.{sizedOf, longOf, limitedOf, plainOf, roughFrom, isRough};
-ghost use Rattle.plain.specs.Quick.{rangeWithin, pointWithin, listedOf, privilegeWithin, Stretch};
+ghost use Rattle.plain.specs.Quick.{rangeWithin, pointWithin, listedPrivilege, privilegeWithin, Stretch};
 ghost use Rattle.plain.specs.Home.{heldBits};
 
 // The bits of 2^40.
@@ -86,7 +86,7 @@ fn point_at(s: &[u8], at: usize, low: u64, lists: u32, rules: u32) -> bool
 
 // A privilege with a list of emissions.
 fn is_listed(r: Record) -> bool
-    ensures { λ x. ⌜ x ≡ listedOf r ⌝ }
+    ensures { λ x. ⌜ x ≡ listedPrivilege r ⌝ }
 {
     r.low < r.high
         && (r.high <= LIMIT_BITS

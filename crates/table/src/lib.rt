@@ -15,7 +15,9 @@ ghost use lib.ListN.{length};
 ghost use Rattle.layout.specs.Layout.{countOf};
 ghost use Rattle.layout.specs.Form.{Whole};
 ghost use Rattle.table.specs.Table.{recordIn};
-ghost use Rattle.table.specs.Parts.{spanOf, bandOf, ownLimitOf, namedOf, listedOf, channelSidebandOf, segmentOf, centreOf, privilegeOf, excludedOf, powerOf, planOf, dataOf, readingOf, elsewhereOf, channelsOf, sixtyOf, hasPlan};
+ghost use Rattle.table.specs.Parts.{spanOf, bandOf, ownLimitOf, namedOf, listedOf, channelSidebandOf};
+ghost use Rattle.table.specs.Parts.{segmentOf, centreOf, privilegeOf, excludedOf, powerOf, planOf};
+ghost use Rattle.table.specs.Parts.{dataOf, readingOf, elsewhereOf, channelsOf, sixtyOf, hasPlan};
 
 // A band, for naming a frequency.
 pub struct Band {

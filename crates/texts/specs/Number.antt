@@ -1,15 +1,11 @@
 -- A decimal number's text: a sign or none, digits, and a point with one to three digits or none. It is read as a count of
 -- thousandths, which is divided by 1,000, rounding once.
-use Prim.Native.Nat.{ℕ, suc, _+_, _-_, _*_, _<_, _≤_}
-use mathlib.Core.Path.{_≡_, refl, sym, ap, _∙_}
+use Prim.Native.Nat.{ℕ, _+_, _-_, _*_}
 use mathlib.Core.Bool.{Bool, true, false, cond}
 use mathlib.Core.List.{List, [], _∷_}
-use native.Mathlib.Numerals.{add-one}
-use native.Mathlib.Omega.{arith}
 use lib.Dec.{eqb, ltb}
 use lib.IntN.{pos}
-use lib.ListN.{drop, getD, length, drop-of-length-le}
-use lib.Seq.{drop-cons}
+use lib.ListN.{drop, getD, length}
 use lib.Ieee.{Float, binary64, div, neg, ofBits, ofInt}
 use Rattle.texts.specs.declared.Reading.{Reading}
 use Rattle.texts.specs.declared.Reading.the-variants.{Start, Whole, Part, Wrong}
@@ -30,8 +26,8 @@ unfoldable pub symbolOf : ℕ → ℕ
 symbolOf b = cond (eqb b 46) 10 (cond (ltb b 48) 11 (cond (ltb 57 b) 11 (b - 48)))
 
 -- before any digit
-unfoldable pub startOf : ℕ → Reading
-startOf k = cond (ltb 9 k) Wrong (Whole (k * 1000))
+unfoldable pub fromStart : ℕ → Reading
+fromStart k = cond (ltb 9 k) Wrong (Whole (k * 1000))
 
 -- after digits of the whole part; a thirteenth that counts is one too many
 unfoldable pub wholeOf : ℕ → ℕ → Reading
@@ -47,7 +43,7 @@ partOf t p k = cond (ltb 9 k) Wrong (cond (ltb 999999999999999 t) Wrong (placed 
 
 -- one symbol more
 unfoldable pub stepOf : Reading → ℕ → Reading
-stepOf Start k = startOf k
+stepOf Start k = fromStart k
 stepOf (Whole t) k = wholeOf t k
 stepOf (Part t p) k = partOf t p k
 stepOf Wrong k = Wrong
@@ -57,35 +53,15 @@ unfoldable pub readAll : List ℕ → Reading → Reading
 readAll [] r = r
 readAll (b ∷ bs) r = readAll bs (stepOf r (symbolOf b))
 
--- What a loop over the bytes knows at place i, with r read so far: the rest of the text is still to come.
-pub record Scanned (text : List ℕ) (from i : ℕ) (r : Reading) : Type 0 where
-  pub within : i ≤ length text
-  pub rest : readAll (drop from text) Start ≡ readAll (drop i text) r
-
-module _ (text : List ℕ) (from : ℕ) where
-  pub scanned-none : from ≤ length text → Scanned text from from Start
-  scanned-none h = record { within = h; rest = refl }
-
-  turn : (i : ℕ) (r : Reading) → i < length text → readAll (drop i text) r ≡ readAll (drop (i + 1) text) (stepOf r (symbolOf (getD text i 0)))
-  unfolding readAll
-  turn i r h = rw (add-one, drop-cons text i 0)
-
-  pub scanned-more : (i : ℕ) (r : Reading) → i < length text → Scanned text from i r → Scanned text from (i + 1) (stepOf r (symbolOf (getD text i 0)))
-  scanned-more i r h s = record { within = omega arith; rest = s .rest ∙ turn i r h }
-
-  pub scanned-end : (i : ℕ) (r : Reading) → length text ≤ i → Scanned text from i r → r ≡ readAll (drop from text) Start
-  unfolding readAll
-  scanned-end i r h s = sym (s .rest ∙ ap (λ (l : List ℕ). readAll l r) (drop-of-length-le text h))
-
 -- a point is followed by a digit
 unfoldable pub endOf : ℕ → ℕ → Thousandths
 endOf t p = cond (eqb p 0) NoCount (Count t)
 
-unfoldable pub finishOf : Reading → Thousandths
-finishOf Start = NoCount
-finishOf (Whole t) = Count t
-finishOf (Part t p) = endOf t p
-finishOf Wrong = NoCount
+unfoldable pub thousandthsOf : Reading → Thousandths
+thousandthsOf Start = NoCount
+thousandthsOf (Whole t) = Count t
+thousandthsOf (Part t p) = endOf t p
+thousandthsOf Wrong = NoCount
 
 unfoldable pub signedOf : Bool → Thousandths → Number
 signedOf negative (Count n) = cond negative (Is (neg (valueOf n))) (Is (valueOf n))
@@ -95,6 +71,6 @@ signedOf negative NoCount = NoNumber
 unfoldable pub numberOf : List ℕ → Number
 numberOf text =
     cond (eqb (length text) 0) NoNumber
-    (cond (eqb (getD text 0 0) 45) (signedOf true (finishOf (readAll (drop 1 text) Start)))
-    (cond (eqb (getD text 0 0) 43) (signedOf false (finishOf (readAll (drop 1 text) Start)))
-    (signedOf false (finishOf (readAll (drop 0 text) Start)))))
+    (cond (eqb (getD text 0 0) 45) (signedOf true (thousandthsOf (readAll (drop 1 text) Start)))
+    (cond (eqb (getD text 0 0) 43) (signedOf false (thousandthsOf (readAll (drop 1 text) Start)))
+    (signedOf false (thousandthsOf (readAll (drop 0 text) Start)))))

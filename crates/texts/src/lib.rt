@@ -3,7 +3,7 @@
 ghost use Prim.Native.Nat.{_≤_};
 ghost use lib.ListN.{length, drop};
 ghost use mathlib.Core.Path.{_≡_};
-ghost use Rattle.texts.specs.Number.{valueOf, symbolOf, wholeOf, partOf, startOf, stepOf, readAll, endOf, finishOf, signedOf, numberOf};
+ghost use Rattle.texts.specs.Number.{valueOf, symbolOf, wholeOf, partOf, fromStart, stepOf, readAll, endOf, thousandthsOf, signedOf, numberOf};
 ghost use Rattle.texts.specs.Shown.{onGrid, digitsOf, shownOf};
 
 // A number that is being read, in thousandths.
@@ -100,8 +100,8 @@ fn part_of(t: u64, p: u8, k: u8) -> Reading
 }
 
 // A symbol before any digit.
-fn start_of(k: u8) -> Reading
-    ensures { λ r. ⌜ r ≡ startOf k ⌝ }
+fn from_start(k: u8) -> Reading
+    ensures { λ r. ⌜ r ≡ fromStart k ⌝ }
 {
     if k > 9 {
         return Reading::Wrong;
@@ -114,7 +114,7 @@ fn step(r: Reading, k: u8) -> Reading
     ensures { λ x. ⌜ x ≡ stepOf r k ⌝ }
 {
     match r {
-        Reading::Start => start_of(k),
+        Reading::Start => from_start(k),
         Reading::Whole(t) => whole_of(t, k),
         Reading::Part(t, p) => part_of(t, p, k),
         Reading::Wrong => Reading::Wrong,
@@ -137,7 +137,7 @@ fn read_from(text: &[u8], from: usize) -> Reading
 
 // Where a reading may end.
 fn finish(r: Reading) -> Thousandths
-    ensures { λ x. ⌜ x ≡ finishOf r ⌝ }
+    ensures { λ x. ⌜ x ≡ thousandthsOf r ⌝ }
 {
     match r {
         Reading::Start => Thousandths::NoCount,

@@ -24,7 +24,8 @@ returns c = entry-stays _ _ _ _ (sym (c .before .before .before .refusals .ensur
 returns-2 : tie.Need-returns-2
 returns-2 c =
     c .check .ensures
-    ∙ entry-check _ _ _ (sym (c .before .before .before .before .before .refusals .ensures) ∙ c .before .before .before .enum-told .given .1) (eq-eqb _ _ (c .before .if1 .taken))
+    ∙ entry-check _ _ _ (sym (c .before .before .before .before .before .refusals .ensures)
+    ∙ c .before .before .before .enum-told .given .1) (eq-eqb _ _ (c .before .if1 .taken))
 
 returns-3 : tie.Need-returns-3
 returns-3 c = entry-free _ _ _ (sym (c .before .before .before .before .refusals .ensures) ∙ c .before .before .enum-told .given .1) (ne-eqb _ _ (c .if1 .left))

@@ -30,7 +30,8 @@ returns-2 c =
     rw (not-false (c .before .before .before .before .before .before .args .coding) (c .before .before .before .before .if1 .left))
     (rw (c .find-in2 .ensures)
     (present-first (tableOf (c .before .before .before .before .before .before .args .s .now)) (c .before .before .before .before .before .before .args .t)
-    (sym (c .before .before .is-absent .ensures ∙ ap (λ (g : General). absentPart g (c .before .before .before .before .before .before .args .t)) (c .before .before .before .general-of .ensures))
+    (sym (c .before .before .is-absent .ensures ∙ ap (λ (g : General). absentPart g
+    (c .before .before .before .before .before .before .args .t)) (c .before .before .before .general-of .ensures))
     ∙ not-true _ (c .before .if2 .taken))))
 
 count-of-requires : tie.Need-count-of-requires
@@ -39,16 +40,24 @@ count-of-requires c κs = search needs
 returns-3 : tie.Need-returns-3
 returns-3 c =
     rw (not-false (c .before .before .before .before .before .before .before .args .coding) (c .before .before .before .before .before .if1 .left))
-    (empty-first (tableOf (c .before .before .before .before .before .before .before .args .s .now)) (c .before .before .before .before .before .before .before .args .t)
-    (count-in (c .before .before .before .before .before .before .before .args .s .now) (c .before .before .before .before .before .before .before .args .t) (c .before .before .before .before .before .before .before .pre .1) ∙ sym (c .before .count-of .ensures) ∙ c .if3 .taken))
+    (empty-first (tableOf (c .before .before .before .before .before .before .before .args .s .now))
+    (c .before .before .before .before .before .before .before .args .t)
+    (count-in (c .before .before .before .before .before .before .before .args .s .now)
+    (c .before .before .before .before .before .before .before .args .t)
+    (c .before .before .before .before .before .before .before .pre .1) ∙ sym (c .before .count-of .ensures) ∙ c .if3 .taken))
 
 returns-4 : tie.Need-returns-4
 returns-4 c =
     rw (not-false (c .before .before .before .before .before .before .before .args .coding) (c .before .before .before .before .before .if1 .left))
-    (absent-first (tableOf (c .before .before .before .before .before .before .before .args .s .now)) (c .before .before .before .before .before .before .before .args .t)
-    (sym (c .before .before .before .is-absent .ensures ∙ ap (λ (g : General). absentPart g (c .before .before .before .before .before .before .before .args .t)) (c .before .before .before .before .general-of .ensures))
+    (absent-first (tableOf (c .before .before .before .before .before .before .before .args .s .now))
+    (c .before .before .before .before .before .before .before .args .t)
+    (sym (c .before .before .before .is-absent .ensures
+    ∙ ap (λ (g : General). absentPart g (c .before .before .before .before .before .before .before .args .t))
+    (c .before .before .before .before .general-of .ensures))
     ∙ not-false _ (c .before .before .if2 .left))
-    (rw (count-in (c .before .before .before .before .before .before .before .args .s .now) (c .before .before .before .before .before .before .before .args .t) (c .before .before .before .before .before .before .before .pre .1)) (rw (← c .before .count-of .ensures) (omega arith))))
+    (rw (count-in (c .before .before .before .before .before .before .before .args .s .now)
+    (c .before .before .before .before .before .before .before .args .t)
+    (c .before .before .before .before .before .before .before .pre .1)) (rw (← c .before .count-of .ensures) (omega arith))))
 
 pub find-wrong-spec : {M : Type 1} → statement M
 find-wrong-spec =

@@ -19,17 +19,26 @@ Inv-loop s own start count i₀ i = Passed (homelessAt (tableOf s) own) count i
 abbrev μ-loop : tie.MeasureT-loop
 μ-loop s own start count i₀ i = count - i
 
-within : (c : tie.Start Inv-loop μ-loop) → startOf (c .args .s .now) segments + recordSize * countOf (c .args .s .now) segments + trailerSize ≤ length (c .args .s .now)
+within : (c : tie.Start Inv-loop μ-loop)
+    → startOf (c .args .s .now) segments + recordSize * countOf (c .args .s .now) segments + trailerSize ≤ length (c .args .s .now)
 within c = table-within (c .args .s .now) (c .pre) segments (omega arith)
 
 -- the record read is segment i
-segment : (c : tie.After-some-in Inv-loop μ-loop) → c .before .before .record-at .result ≡ recordIn (c .before .before .before .before .before .before .before .before .args .s .now) segments (c .before .before .before .before .loop .i)
+segment : (c : tie.After-some-in Inv-loop μ-loop) → c .before .before .record-at .result
+    ≡ recordIn (c .before .before .before .before .before .before .before .before .args .s .now) segments
+    (c .before .before .before .before .loop .i)
 segment c =
-    read-in _ segments _ _ _ (omega arith) (omega (arith, c .before .before .before .before .before .count-of .ensures, c .before .before .before .loop-test .taken))
+    read-in _ segments _ _ _ (omega arith) (omega (
+      arith,
+      c .before .before .before .before .before .count-of .ensures,
+      c .before .before .before .loop-test .taken,
+    ))
     (c .before .before .before .before .before .before .start-of .ensures) (c .before .before .record-at .ensures)
 
 -- what a turn asked of segment i
-asked : (c : tie.After-some-in Inv-loop μ-loop) → not (c .some-in .result) ≡ homelessAt (tableOf (c .before .before .before .before .before .before .before .before .args .s .now)) (c .before .before .before .before .before .before .before .before .args .own) (c .before .before .before .before .loop .i)
+asked : (c : tie.After-some-in Inv-loop μ-loop) → not (c .some-in .result)
+    ≡ homelessAt (tableOf (c .before .before .before .before .before .before .before .before .args .s .now))
+    (c .before .before .before .before .before .before .before .before .args .own) (c .before .before .before .before .loop .i)
 asked c =
     rw (c .some-in .ensures)
     (rw (c .before .home-question .ensures)
@@ -65,7 +74,8 @@ some-in-requires c κs = (c .before .before .before .before .before .before .bef
 returns : tie.Need-returns Inv-loop μ-loop
 returns c =
     rw (← c .before .before .before .before .before .before .count-of .ensures)
-    (some-here _ _ _ (c .before .before .before .before .loop-test .taken) (c .before .before .before .before .before .loop .inv) (rw (← asked (c .before)) (c .if1 .taken)))
+    (some-here _ _ _ (c .before .before .before .before .loop-test .taken) (c .before .before .before .before .before .loop .inv)
+    (rw (← asked (c .before)) (c .if1 .taken)))
 
 add-i : tie.Need-add-i Inv-loop μ-loop
 add-i c = omega arith
@@ -75,7 +85,8 @@ loop-less c = omega arith
 
 loop-again : tie.Need-loop-again Inv-loop μ-loop
 loop-again c =
-    passed-step _ _ _ (c .before .before .before .before .loop-test .taken) (c .before .before .before .before .before .loop .inv) (rw (← asked (c .before)) (c .if1 .left))
+    passed-step _ _ _ (c .before .before .before .before .loop-test .taken) (c .before .before .before .before .before .loop .inv)
+    (rw (← asked (c .before)) (c .if1 .left))
 
 returns-2 : tie.Need-returns-2 Inv-loop μ-loop
 returns-2 c = rw (← c .before .before .count-of .ensures) (some-none _ _ _ (c .loop-test .left) (c .before .loop .inv))

@@ -9,10 +9,14 @@ is-plain-requires : tie.Need-is-plain-requires
 is-plain-requires c κs = search needs
 
 left-requires : tie.Need-left-requires
-left-requires c κs = (c .before .before .before .pre, plain-smooth (c .before .before .before .args .s .now) (sym (c .before .is-plain .ensures) ∙ c .if1 .taken))
+left-requires c κs = (
+  c .before .before .before .pre,
+  plain-smooth (c .before .before .before .args .s .now) (sym (c .before .is-plain .ensures) ∙ c .if1 .taken),
+)
 
 returns : tie.Need-returns
-returns c = c .left .ensures ∙ sym (plain-left (c .before .before .before .before .args .s .now) (sym (c .before .before .is-plain .ensures) ∙ c .before .if1 .taken))
+returns c = c .left .ensures ∙ sym (plain-left (c .before .before .before .before .args .s .now)
+    (sym (c .before .before .is-plain .ensures) ∙ c .before .if1 .taken))
 
 in-order-requires : tie.Need-in-order-requires
 in-order-requires c κs = search needs

@@ -64,8 +64,10 @@ u32-at-requires c κs = search needs
 returns : tie.Need-returns
 unfolding generalOf
 returns c =
-    rw (← c .before .before .before .before .before .before .before .before .before .before .before .before .before .before .before .before .before .before .u64-at .ensures)
-    (rw (← c .before .before .before .before .before .before .before .before .before .before .before .before .before .before .before .before .before .u64-at2 .ensures)
+    rw (← c .before .before .before .before .before .before .before
+    .before .before .before .before .before .before .before .before .before .before .before .u64-at .ensures)
+    (rw (← c .before .before .before .before .before .before
+    .before .before .before .before .before .before .before .before .before .before .before .u64-at2 .ensures)
     (rw (← c .before .before .before .before .before .before .before .before .before .before .before .before .before .before .before .before .u64-at3 .ensures)
     (rw (← c .before .before .before .before .before .before .before .before .before .before .before .before .before .before .before .u64-at4 .ensures)
     (rw (← c .before .before .before .before .before .before .before .before .before .before .before .before .before .before .u64-at5 .ensures)

@@ -27,7 +27,8 @@ returns c =
     (rw (c .before .mark .ensures)
     (rw (c .before .before .flat .ensures)
     (rw (c .before .before .before .rung-number .ensures)
-    (rw (toZ-ofZ w32 (rungNumber (c .before .before .before .before .before .args .a .rung)) (rung-signed _ (c .before .before .before .before .before .pre .0)))))))
+    (rw (toZ-ofZ w32 (rungNumber (c .before .before .before .before .before .args .a .rung))
+    (rung-signed _ (c .before .before .before .before .before .pre .0)))))))
 
 pub ceiling-flat-spec : {M : Type 1} → statement M
 ceiling-flat-spec =

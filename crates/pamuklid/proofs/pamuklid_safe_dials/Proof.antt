@@ -18,7 +18,11 @@ safe-dials-requires c κs = search needs
 dials-flat-requires : tie.Need-dials-flat-requires
 dials-flat-requires c κs =
     rw (c .before .before .safe-dials .ensures .answered)
-    (list-counted (c .before .before .before .before .before .station-in .result) (c .before .before .before .before .before .before .before .before .args .direction) (c .before .before .before .before .edges-in .result) (c .before .before .before .before .before .before .before .before .args .image .now) (c .before .before .before .before .before .before .before .before .args .rows .now))
+    (list-counted (c .before .before .before .before .before .station-in .result)
+    (c .before .before .before .before .before .before .before .before .args .direction)
+    (c .before .before .before .before .edges-in .result)
+    (c .before .before .before .before .before .before .before .before .args .image .now)
+    (c .before .before .before .before .before .before .before .before .args .rows .now))
 
 same-length : tie.Need-same-length
 same-length c = search needs

@@ -26,7 +26,8 @@ held-by-requires : tie.Need-held-by-requires Inv-loop μ-loop
 held-by-requires c κs = (c .before .before .before .before .pre, omega (arith, c .before .before .count-of .ensures))
 
 returns : tie.Need-returns Inv-loop μ-loop
-returns c = rw (← c .before .before .before .before .count-of .ensures) (found-here _ _ _ (c .before .before .loop-test .taken) (c .before .before .before .loop .inv) (sym (c .before .held-by .ensures) ∙ c .if1 .taken))
+returns c = rw (← c .before .before .before .before .count-of .ensures) (found-here _ _ _ (c .before .before .loop-test .taken)
+    (c .before .before .before .loop .inv) (sym (c .before .held-by .ensures) ∙ c .if1 .taken))
 
 add-j : tie.Need-add-j Inv-loop μ-loop
 add-j c = omega arith

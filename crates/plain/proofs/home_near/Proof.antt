@@ -16,7 +16,8 @@ held-by-requires : tie.Need-held-by-requires
 held-by-requires c κs = search needs
 
 returns : tie.Need-returns
-returns c = sym (some-true _ _ _ (omega (arith, c .before .before .before .count-of .ensures, c .before .before .if1 .taken)) (sym (c .before .held-by .ensures) ∙ c .if2 .taken))
+returns c = sym (some-true _ _ _ (omega (arith, c .before .before .before .count-of .ensures, c .before .before .if1 .taken))
+    (sym (c .before .held-by .ensures) ∙ c .if2 .taken))
 
 add-next : tie.Need-add-next
 add-next c = search needs
@@ -26,7 +27,11 @@ held-by-requires-2 c κs = search needs
 
 returns-2 : tie.Need-returns-2
 returns-2 c =
-    sym (some-true _ _ _ (omega (arith, c .before .before .before .before .before .before .count-of .ensures, c .before .before .if3 .taken)) (sym (c .before .held-by2 .ensures) ∙ c .if4 .taken))
+    sym (some-true _ _ _ (omega (
+      arith,
+      c .before .before .before .before .before .before .count-of .ensures,
+      c .before .before .if3 .taken,
+    )) (sym (c .before .held-by2 .ensures) ∙ c .if4 .taken))
 
 first-home-requires : tie.Need-first-home-requires
 first-home-requires c κs = search needs

@@ -20,17 +20,24 @@ Inv-loop s start count near₀ i₀ near i = Passed (homelessAt (tableOf s) fals
 abbrev μ-loop : tie.MeasureT-loop
 μ-loop s start count near₀ i₀ near i = count - i
 
-within : (c : tie.Start Inv-loop μ-loop) → startOf (c .args .s .now) segments + recordSize * countOf (c .args .s .now) segments + trailerSize ≤ length (c .args .s .now)
+within : (c : tie.Start Inv-loop μ-loop)
+    → startOf (c .args .s .now) segments + recordSize * countOf (c .args .s .now) segments + trailerSize ≤ length (c .args .s .now)
 within c = table-within (c .args .s .now) (c .pre .0) segments (omega arith)
 
 -- what a turn asked of segment i
-asked : (c : tie.After-home-near Inv-loop μ-loop) → not (isAt (c .home-near .result)) ≡ homelessAt (tableOf (c .before .before .before .before .before .before .before .before .args .s .now)) false (c .before .before .before .before .loop .i)
+asked : (c : tie.After-home-near Inv-loop μ-loop) → not (isAt (c .home-near .result))
+    ≡ homelessAt (tableOf (c .before .before .before .before .before .before .before .before .args .s .now)) false
+    (c .before .before .before .before .loop .i)
 asked c =
     rw (c .home-near .ensures)
     (rw (c .before .high-at .ensures)
     (rw (c .before .before .low-at .ensures)
     (rw (c .before .before .before .before .before .before .start-of .ensures)
-    (ap not (held-some _ (c .before .before .before .before .before .before .before .before .pre .1) _ (omega (arith, c .before .before .before .before .before .count-of .ensures, c .before .before .before .loop-test .taken)))))))
+    (ap not (held-some _ (c .before .before .before .before .before .before .before .before .pre .1) _ (omega (
+      arith,
+      c .before .before .before .before .before .count-of .ensures,
+      c .before .before .before .loop-test .taken,
+    )))))))
 
 start-of-requires : tie.Need-start-of-requires Inv-loop μ-loop
 start-of-requires c κs = omega (arith, c .before .pre .0 .sized)
@@ -68,7 +75,9 @@ enum-told c = search needs
 returns : tie.Need-returns Inv-loop μ-loop
 returns c =
     rw (← c .before .before .before .before .before .before .before .count-of .ensures)
-    (some-here _ _ _ (c .before .before .before .before .before .loop-test .taken) (c .before .before .before .before .before .before .loop .inv) (rw (← asked (c .before .before)) (rw (c .enum-told .given .1))))
+    (some-here _ _ _ (c .before .before .before .before .before .loop-test .taken)
+    (c .before .before .before .before .before .before .loop .inv)
+    (rw (← asked (c .before .before)) (rw (c .enum-told .given .1))))
 
 add-i : tie.Need-add-i Inv-loop μ-loop
 add-i c = omega arith
@@ -78,7 +87,9 @@ loop-less c = omega arith
 
 loop-again : tie.Need-loop-again Inv-loop μ-loop
 loop-again c =
-    passed-step _ _ _ (c .before .before .before .before .before .before .loop-test .taken) (c .before .before .before .before .before .before .before .loop .inv) (rw (← asked (c .before .before .before)) (rw (c .before .k .given .1)))
+    passed-step _ _ _ (c .before .before .before .before .before .before .loop-test .taken)
+    (c .before .before .before .before .before .before .before .loop .inv)
+    (rw (← asked (c .before .before .before)) (rw (c .before .k .given .1)))
 
 returns-2 : tie.Need-returns-2 Inv-loop μ-loop
 returns-2 c = rw (← c .before .before .count-of .ensures) (some-none _ _ _ (c .loop-test .left) (c .before .loop .inv))

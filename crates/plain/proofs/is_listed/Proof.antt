@@ -1,11 +1,11 @@
 -- `plain::is_listed` equals its definition. By the tests on the way to each return.
 use borrow.Author.Tests.{lt-ltb, lt-leb, le-ltb, le-leb, eq-eqb, ne-eqb}
-use Rattle.plain.specs.Quick.{listedOf}
+use Rattle.plain.specs.Quick.{listedPrivilege}
 use Rattle.plain.proofs.is_listed.Statement.{statement}
 use Rattle.plain.proofs.is_listed.Tie as tie
 
 returns : tie.Need-returns
-unfolding listedOf
+unfolding listedPrivilege
 returns c =
     rw (lt-ltb _ _ (c .before .before .before .before .before .before .before .before .before .before .before .before .before .before .before .if1 .taken))
     (rw (le-leb _ _ (c .before .before .before .before .before .before .before .before .before .before .before .before .before .if2 .taken))
@@ -17,7 +17,7 @@ returns c =
     (rw (eq-eqb _ _ (c .before .if8 .taken)))))))))
 
 returns-2 : tie.Need-returns-2
-unfolding listedOf
+unfolding listedPrivilege
 returns-2 c =
     rw (lt-ltb _ _ (c .before .before .before .before .before .before .before .before .before .before .before .before .before .before .if1 .taken))
     (rw (le-leb _ _ (c .before .before .before .before .before .before .before .before .before .before .before .before .if2 .taken))
@@ -29,7 +29,7 @@ returns-2 c =
     (rw (ne-eqb _ _ (c .if8 .left)))))))))
 
 returns-3 : tie.Need-returns-3
-unfolding listedOf
+unfolding listedPrivilege
 returns-3 c =
     rw (lt-ltb _ _ (c .before .before .before .before .before .before .before .before .before .before .before .before .if1 .taken))
     (rw (le-leb _ _ (c .before .before .before .before .before .before .before .before .before .before .if2 .taken))
@@ -40,7 +40,7 @@ returns-3 c =
     (rw (lt-leb _ _ (c .if7 .left))))))))
 
 returns-4 : tie.Need-returns-4
-unfolding listedOf
+unfolding listedPrivilege
 returns-4 c =
     rw (lt-ltb _ _ (c .before .before .before .before .before .before .before .before .before .before .if1 .taken))
     (rw (le-leb _ _ (c .before .before .before .before .before .before .before .before .if2 .taken))
@@ -50,7 +50,7 @@ returns-4 c =
     (rw (ne-eqb _ _ (c .if6 .left)))))))
 
 returns-5 : tie.Need-returns-5
-unfolding listedOf
+unfolding listedPrivilege
 returns-5 c =
     rw (lt-ltb _ _ (c .before .before .before .before .before .before .before .before .if1 .taken))
     (rw (le-leb _ _ (c .before .before .before .before .before .before .if2 .taken))
@@ -59,7 +59,7 @@ returns-5 c =
     (rw (lt-leb _ _ (c .if5 .left))))))
 
 returns-6 : tie.Need-returns-6
-unfolding listedOf
+unfolding listedPrivilege
 returns-6 c =
     rw (lt-ltb _ _ (c .before .before .before .before .before .before .if1 .taken))
     (rw (le-leb _ _ (c .before .before .before .before .if2 .taken))
@@ -67,20 +67,20 @@ returns-6 c =
     (rw (ne-eqb _ _ (c .if4 .left)))))
 
 returns-7 : tie.Need-returns-7
-unfolding listedOf
+unfolding listedPrivilege
 returns-7 c =
     rw (lt-ltb _ _ (c .before .before .before .before .if1 .taken))
     (rw (le-leb _ _ (c .before .before .if2 .taken))
     (rw (ne-eqb _ _ (c .if3 .left))))
 
 returns-8 : tie.Need-returns-8
-unfolding listedOf
+unfolding listedPrivilege
 returns-8 c =
     rw (lt-ltb _ _ (c .before .before .if1 .taken))
     (rw (lt-leb _ _ (c .if2 .left)))
 
 returns-9 : tie.Need-returns-9
-unfolding listedOf
+unfolding listedPrivilege
 returns-9 c =
     rw (le-ltb _ _ (c .if1 .left))
 

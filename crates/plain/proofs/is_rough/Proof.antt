@@ -17,11 +17,14 @@ Inv-loop s start₀ t₀ start t = (start ≡ startOf s t) × Passed (roughIn s)
 abbrev μ-loop : tie.MeasureT-loop
 μ-loop s start₀ t₀ start t = tables - t
 
-within : (c : tie.In-loop Inv-loop μ-loop) → startOf (c .before .before .before .before .args .s .now) (c .before .loop .t) + recordSize * countOf (c .before .before .before .before .args .s .now) (c .before .loop .t) + trailerSize ≤ length (c .before .before .before .before .args .s .now)
+within : (c : tie.In-loop Inv-loop μ-loop) → startOf (c .before .before .before .before .args .s .now)
+    (c .before .loop .t) + recordSize * countOf (c .before .before .before .before .args .s .now)
+    (c .before .loop .t) + trailerSize ≤ length (c .before .before .before .before .args .s .now)
 within c = table-within (c .before .before .before .before .args .s .now) (c .before .before .before .before .pre) (c .before .loop .t) (c .loop-test .taken)
 
 -- what a turn asked of table t
-asked : (c : tie.After-rough-from Inv-loop μ-loop) → c .rough-from .result ≡ roughIn (c .before .before .before .before .before .before .args .s .now) (c .before .before .before .loop .t)
+asked : (c : tie.After-rough-from Inv-loop μ-loop) → c .rough-from .result
+    ≡ roughIn (c .before .before .before .before .before .before .args .s .now) (c .before .before .before .loop .t)
 asked c = rw (c .rough-from .ensures) (rw (c .before .count-of .ensures) (rw (c .before .before .before .loop .inv .0)))
 
 tables-from-requires : tie.Need-tables-from-requires Inv-loop μ-loop
@@ -42,13 +45,20 @@ rough-from-requires c κs = omega (arith, within (c .before), c .count-of .ensur
 
 returns : tie.Need-returns Inv-loop μ-loop
 unfolding isRough
-returns c = some-here _ _ _ (c .before .before .before .loop-test .taken) (c .before .before .before .before .loop .inv .1) (sym (asked (c .before)) ∙ c .if1 .taken)
+returns c = some-here _ _ _ (c .before .before .before .loop-test .taken)
+    (c .before .before .before .before .loop .inv .1) (sym (asked (c .before)) ∙ c .if1 .taken)
 
 mul-start : tie.Need-mul-start Inv-loop μ-loop
 mul-start c = omega (arith, within (c .before .before .before), c .before .before .count-of .ensures)
 
 add-start : tie.Need-add-start Inv-loop μ-loop
-add-start c = omega (arith, within (c .before .before .before), c .before .before .count-of .ensures, c .before .before .before .before .loop .inv .0, c .before .before .before .before .before .before .before .pre .small)
+add-start c = omega (
+  arith,
+  within (c .before .before .before),
+  c .before .before .count-of .ensures,
+  c .before .before .before .before .loop .inv .0,
+  c .before .before .before .before .before .before .before .pre .small,
+)
 
 add-t : tie.Need-add-t Inv-loop μ-loop
 add-t c = omega arith
@@ -58,7 +68,12 @@ loop-less c = omega arith
 
 loop-again : tie.Need-loop-again Inv-loop μ-loop
 loop-again c = (
-  omega (arith, c .before .before .count-of .ensures, c .before .before .before .before .loop .inv .0, records-more (c .before .before .before .before .before .before .before .args .s .now) (c .before .before .before .before .loop .t)),
+  omega (
+    arith,
+    c .before .before .count-of .ensures,
+    c .before .before .before .before .loop .inv .0,
+    records-more (c .before .before .before .before .before .before .before .args .s .now) (c .before .before .before .before .loop .t),
+  ),
   passed-step _ _ _ (c .before .before .before .loop-test .taken) (c .before .before .before .before .loop .inv .1) (sym (asked (c .before)) ∙ c .if1 .left),
 )
 

@@ -1,6 +1,7 @@
 -- `plain::pass` meets its contract: by the table, the fewer tests show that a record is plain.
 use borrow.Author.Needs.{needs}
-use Rattle.plain.specs.Quick.{stretch-none, stretch-by, plain-band, plain-segment, plain-channel, plain-privilege, plain-automatic, plain-excluded, plain-power, plain-plan-data, plain-plan-avoid}
+use Rattle.plain.specs.Quick.{stretch-none, stretch-by, plain-band, plain-segment, plain-channel, plain-privilege}
+use Rattle.plain.specs.Quick.{plain-automatic, plain-excluded, plain-power, plain-plan-data, plain-plan-avoid}
 use Rattle.plain.proofs.pass.Statement.{statement}
 use Rattle.plain.proofs.pass.Tie as tie
 

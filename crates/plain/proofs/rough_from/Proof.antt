@@ -38,7 +38,8 @@ whole-test-requires c κs = search needs
 returns : tie.Need-returns Inv-loop μ-loop
 unfolding roughFrom
 returns c =
-    sym (some-true _ _ _ (c .before .before .before .loop-test .taken) (rw (← c .before .before .record-at .ensures) (rw (← c .before .whole-test .ensures) (c .if1 .taken))))
+    sym (some-true _ _ _ (c .before .before .before .loop-test .taken)
+    (rw (← c .before .before .record-at .ensures) (rw (← c .before .whole-test .ensures) (c .if1 .taken))))
 
 add-pass : tie.Need-add-pass Inv-loop μ-loop
 add-pass c = omega arith

@@ -1,5 +1,5 @@
 -- `texts::finish` equals its definition. Each arm by its case.
-use Rattle.texts.specs.Number.{finishOf}
+use Rattle.texts.specs.Number.{thousandthsOf}
 use borrow.Author.Needs.{needs}
 use Rattle.texts.proofs.finish.Statement.{statement}
 use Rattle.texts.proofs.finish.Tie as tie
@@ -20,23 +20,23 @@ enum-told-2 : tie.Need-enum-told-2
 enum-told-2 c = search needs
 
 returns : tie.Need-returns
-unfolding finishOf
+unfolding thousandthsOf
 returns c =
     rw (c .enum-told .given .1)
 
 returns-2 : tie.Need-returns-2
-unfolding finishOf
+unfolding thousandthsOf
 returns-2 c =
     rw (c .before .r .given .1)
 
 returns-3 : tie.Need-returns-3
-unfolding finishOf
+unfolding thousandthsOf
 returns-3 c =
     rw (c .before .before .r2 .given .1)
     (rw (c .end-of .ensures))
 
 returns-4 : tie.Need-returns-4
-unfolding finishOf
+unfolding thousandthsOf
 returns-4 c =
     rw (c .enum-told2 .given .1)
 

@@ -3,7 +3,7 @@ use Prim.Native.Nat.{_-_}
 use native.Mathlib.Omega.{arith}
 use lib.ListN.{length}
 use borrow.Author.Needs.{needs}
-use Rattle.texts.specs.Number.{Scanned, scanned-none, scanned-more, scanned-end}
+use Rattle.texts.specs.Laws.{Scanned, scanned-none, scanned-more, scanned-end}
 use Rattle.texts.proofs.read_from.Statement.{statement}
 use Rattle.texts.proofs.read_from.Tie as tie
 

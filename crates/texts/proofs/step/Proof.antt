@@ -7,8 +7,8 @@ use Rattle.texts.proofs.step.Tie as tie
 enum-told : tie.Need-enum-told
 enum-told c = search needs
 
-start-of-requires : tie.Need-start-of-requires
-start-of-requires c κs = search needs
+from-start-requires : tie.Need-from-start-requires
+from-start-requires c κs = search needs
 
 enum-known-r : tie.Need-enum-known-r
 enum-known-r c = search needs
@@ -29,7 +29,7 @@ returns : tie.Need-returns
 unfolding stepOf
 returns c =
     rw (c .before .enum-told .given .1)
-    (rw (c .start-of .ensures))
+    (rw (c .from-start .ensures))
 
 returns-2 : tie.Need-returns-2
 unfolding stepOf
@@ -53,7 +53,7 @@ step-spec =
     tie.close
     (tie.spec
     enum-told
-    start-of-requires
+    from-start-requires
     enum-known-r
     whole-of-requires
     enum-known-r-2

@@ -1,6 +1,6 @@
 -- `tidy::is_tidy` meets its contract: on each way to a return, the tests and what the calls ensure say which case of the definition holds.
 use mathlib.Core.Path.{sym, _∙_}
-use Rattle.image.specs.Check.{accepted-whole}
+use Rattle.image.specs.Laws.{accepted-whole}
 use borrow.Author.Needs.{needs}
 use Rattle.tidy.proofs.is_tidy.Statement.{statement}
 use Rattle.tidy.proofs.is_tidy.Tie as tie

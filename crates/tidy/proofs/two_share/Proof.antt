@@ -7,7 +7,8 @@ use Rattle.layout.specs.Layout.{recordSize, trailerSize, countOf, startOf}
 use Rattle.layout.specs.Form.{table-within}
 use Rattle.scan.specs.First.{Passed, isAt, passed-none, passed-step, some-here, some-none}
 use Rattle.table.specs.Table.{tableOf, count-in}
-use Rattle.tidy.specs.Tidy.{twoShare, sharesEarlier, earlier-in}
+use Rattle.tidy.specs.Tidy.{twoShare, sharesEarlier}
+use Rattle.tidy.specs.Laws.{earlier-in}
 use native.Mathlib.Omega.{arith}
 use Rattle.tidy.proofs.two_share.Statement.{statement}
 use Rattle.tidy.proofs.two_share.Tie as tie
@@ -18,11 +19,15 @@ Inv-loop s t classes start count j₀ j = Passed (sharesEarlier (tableOf s) t cl
 abbrev μ-loop : tie.MeasureT-loop
 μ-loop s t classes start count j₀ j = count - j
 
-within : (c : tie.Start Inv-loop μ-loop) → startOf (c .args .s .now) (c .args .t) + recordSize * countOf (c .args .s .now) (c .args .t) + trailerSize ≤ length (c .args .s .now)
+within : (c : tie.Start Inv-loop μ-loop) → startOf (c .args .s .now)
+    (c .args .t) + recordSize * countOf (c .args .s .now) (c .args .t) + trailerSize ≤ length (c .args .s .now)
 within c = table-within (c .args .s .now) (c .pre .0) (c .args .t) (c .pre .1)
 
 -- what a turn asked of the records before record j
-asked : (c : tie.After-find-from Inv-loop μ-loop) → isAt (c .find-from .result) ≡ sharesEarlier (tableOf (c .before .before .before .before .before .before .before .before .args .s .now)) (c .before .before .before .before .before .before .before .before .args .t) (c .before .before .before .before .before .before .before .before .args .classes) (c .before .before .before .before .loop .j)
+asked : (c : tie.After-find-from Inv-loop μ-loop) → isAt (c .find-from .result)
+    ≡ sharesEarlier (tableOf (c .before .before .before .before .before .before .before .before .args .s .now))
+    (c .before .before .before .before .before .before .before .before .args .t)
+    (c .before .before .before .before .before .before .before .before .args .classes) (c .before .before .before .before .loop .j)
 asked c =
     let a = c .before .before .before .before .before .before .before .before in
     earlier-in (a .args .s .now) (a .args .t) (a .args .classes) (c .before .before .before .before .loop .j) _ _ _ _ (a .pre .1)
@@ -66,7 +71,9 @@ returns c =
     let a = c .before .before .before .before .before .before .before .before .before .before in
     rw (count-in (a .args .s .now) (a .args .t) (a .pre .1))
     (rw (← c .before .before .before .before .before .before .before .count-of .ensures)
-    (some-here _ _ _ (c .before .before .before .before .before .loop-test .taken) (c .before .before .before .before .before .before .loop .inv) (rw (← asked (c .before .before)) (ap isAt (c .enum-told .given .1)))))
+    (some-here _ _ _ (c .before .before .before .before .before .loop-test .taken)
+    (c .before .before .before .before .before .before .loop .inv)
+    (rw (← asked (c .before .before)) (ap isAt (c .enum-told .given .1)))))
 
 enum-told-2 : tie.Need-enum-told-2 Inv-loop μ-loop
 enum-told-2 c = search needs
@@ -79,7 +86,9 @@ loop-less c = omega arith
 
 loop-again : tie.Need-loop-again Inv-loop μ-loop
 loop-again c =
-    passed-step _ _ _ (c .before .before .before .before .before .loop-test .taken) (c .before .before .before .before .before .before .loop .inv) (rw (← asked (c .before .before)) (ap isAt (c .enum-told2 .given .1)))
+    passed-step _ _ _ (c .before .before .before .before .before .loop-test .taken)
+    (c .before .before .before .before .before .before .loop .inv)
+    (rw (← asked (c .before .before)) (ap isAt (c .enum-told2 .given .1)))
 
 returns-2 : tie.Need-returns-2 Inv-loop μ-loop
 unfolding twoShare
