@@ -49,7 +49,8 @@ pub struct Notes {
 
 fn notes_of(s: &[u8], c: Case, r: Range) -> Notes
     requires { ⌜ Whole (now s) ⌝ }
-    ensures { λ x. ⌜ (x .marks ≡ notesUpTo (noteAt (tableOf (now (s .entry))) c r) (countOf (now (s .entry)) power)) × (x .any ≡ anyNote (noteAt (tableOf (now (s .entry))) c r) (countOf (now (s .entry)) power)) ⌝ }
+    ensures { λ x. ⌜ (x .marks ≡ notesUpTo (noteAt (tableOf (now (s .entry))) c r) (countOf (now (s .entry)) power))
+        × (x .any ≡ anyNote (noteAt (tableOf (now (s .entry))) c r) (countOf (now (s .entry)) power)) ⌝ }
 {
     let start = layout::start_of(s, layout::POWER);
     let count = layout::count_of(s, layout::POWER) as usize;

@@ -49,12 +49,12 @@ rungOf l k =
     })
 
 -- "with a floor byte each (1 joins the floor control edges, 0 the ordinary ones)"
-abbrev pub controlOf : Edges → Edges → ℕ → Edges
-controlOf ordinary floor mark = cond (eqb mark 1) floor ordinary
+abbrev pub controlEdges : Edges → Edges → ℕ → Edges
+controlEdges ordinary floor mark = cond (eqb mark 1) floor ordinary
 
 -- rung k with its control frame
 unfoldable pub burstOf : Edges → Edges → List Float → List ℕ → ℕ → Edges
-burstOf ordinary floor rungs floors k = unionOf (rungOf rungs k) (controlOf ordinary floor (byteAt floors k))
+burstOf ordinary floor rungs floors k = unionOf (rungOf rungs k) (controlEdges ordinary floor (byteAt floors k))
 
 -- "The envelope gathers rung and control edges."
 abbrev pub joinedOf : Envelope → Edges → Edges
@@ -66,8 +66,8 @@ abbrev pub noDecision : Decision
 noDecision = refusedOf 0
 
 -- below the first rung
-unfoldable pub startOf : Climb
-startOf = record { envelope = Unreached; rung = NoRung; limited = false; limit = noDecision }
+unfoldable pub climbStart : Climb
+climbStart = record { envelope = Unreached; rung = NoRung; limited = false; limit = noDecision }
 
 -- a climb that rung k ends, and one that goes on from it
 unfoldable pub endedOf : Rung → Edges → Decision → Climb
@@ -77,8 +77,8 @@ unfoldable pub wentOn : ℕ → Edges → Climb
 wentOn k e = record { envelope = Reached e; rung = Fastest k; limited = false; limit = noDecision }
 
 -- a climb after the decision on rung k's envelope
-unfoldable pub judgedOf : Climb → ℕ → Edges → Decision → Climb
-judgedOf c k e d = cond (isBlocked (d .verdict)) (endedOf (c .rung) e d) (wentOn k e)
+unfoldable pub climbAfter : Climb → ℕ → Edges → Decision → Climb
+climbAfter c k e d = cond (isBlocked (d .verdict)) (endedOf (c .rung) e d) (wentOn k e)
 
 -- how an envelope is judged: as data, by the verdict's own definition
 unfoldable pub judgeBy : Table → Situation → Direction → Edges → Decision
@@ -91,16 +91,16 @@ rungStep judge envelope more =
 
 -- rung k judged, with what it adds to the envelope
 unfoldable pub rungJudged : (Edges → Decision) → Climb → ℕ → Edges → Climb
-rungJudged judge c k more = judgedOf c k (joinedOf (c .envelope) more) (judge (joinedOf (c .envelope) more))
+rungJudged judge c k more = climbAfter c k (joinedOf (c .envelope) more) (judge (joinedOf (c .envelope) more))
 
 -- one rung more; a climb that is over stays as it is
-unfoldable pub stepOf : (Edges → Decision) → Climb → ℕ → Edges → Climb
-stepOf judge c k more = cond (c .limited) c (rungJudged judge c k more)
+unfoldable pub climbStep : (Edges → Decision) → Climb → ℕ → Edges → Climb
+climbStep judge c k more = cond (c .limited) c (rungJudged judge c k more)
 
 -- the climb over the first n rungs
 unfoldable pub climbed : (Edges → Decision) → (ℕ → Edges) → ℕ → Climb
-climbed judge burst zero = startOf
-climbed judge burst (suc n) = stepOf judge (climbed judge burst n) n (burst n)
+climbed judge burst zero = climbStart
+climbed judge burst (suc n) = climbStep judge (climbed judge burst n) n (burst n)
 
 -- "15 an edge not finite or above 2^40 in size": every figure of the rungs, also past the last whole four, and both control frames
 abbrev pub unsizedAt : List Float → ℕ → Bool
@@ -131,14 +131,14 @@ abbrev pub ceilingTests : StationRecord → ℕ → Edges → Edges → List ℕ
 ceilingTests r direction ordinary floor l rungs floors = entryTests r (directionValid direction) l ++ rungTests ordinary floor rungs floors
 
 -- the answer of a climb, or the refusal: its number, no rung, and a limit that says the same: the number, Blocked, all else absent
-abbrev pub unlessRefused : Checked → Climb → CeilingAnswer
-unlessRefused Accepted c = record { refusal = Accepted; rung = c .rung; limited = c .limited; limit = c .limit }
-unlessRefused (Refused n) c = record { refusal = Refused n; rung = NoRung; limited = false; limit = refusedOf n }
+abbrev pub ceilingUnlessRefused : Checked → Climb → CeilingAnswer
+ceilingUnlessRefused Accepted c = record { refusal = Accepted; rung = c .rung; limited = c .limited; limit = c .limit }
+ceilingUnlessRefused (Refused n) c = record { refusal = Refused n; rung = NoRung; limited = false; limit = refusedOf n }
 
 -- `ceiling`: "No rungs: rung and limit are both absent under every policy."
 unfoldable pub ceilingOf : StationRecord → ℕ → Edges → Edges → List ℕ → List Float → List ℕ → CeilingAnswer
 ceilingOf r direction ordinary floor l rungs floors =
-    unlessRefused (refusalOf (ceilingTests r direction ordinary floor l rungs floors))
+    ceilingUnlessRefused (refusalOf (ceilingTests r direction ordinary floor l rungs floors))
     (climbed (judgeBy (tableOf l) (situationOf r) (directionOf direction)) (burstOf (edgesRead ordinary) (edgesRead floor) rungs floors)
     (length rungs / 4))
 

@@ -9,14 +9,15 @@ use lib.Dec.{eqb, ltb}
 use lib.ListN.{length}
 use lib.Ieee.{Float}
 use Rattle.codes.specs.Read.{directionValid}
-use Rattle.codes.specs.Refusal.{refusalOf, refusal-both, none-fails}
+use Rattle.codes.specs.Refusal.{refusalOf}
+use Rattle.codes.specs.Laws.{refusal-both, none-fails}
 use Rattle.codes.specs.declared.Checked.the-variants.{Accepted}
 use Rattle.station.specs.declared.StationRecord.{StationRecord}
 use Rattle.entry.specs.Entry.{entryTests}
 use Rattle.occupancy.specs.declared.Edges.{Edges}
-use Rattle.scan.specs.First.{cond-yes, cond-not}
+use Rattle.scan.specs.Laws.{cond-yes, cond-not}
 use Rattle.decision.specs.declared.Decision.{Decision}
-use Rattle.ceiling.specs.Ceiling.{noDecision, startOf, endedOf, wentOn, judgedOf, rungStep, rungJudged, stepOf, climbed}
+use Rattle.ceiling.specs.Ceiling.{noDecision, climbStart, endedOf, wentOn, climbAfter, rungStep, rungJudged, climbStep, climbed}
 use Rattle.ceiling.specs.Ceiling.{anyUnmarked, badRungs, rungTests, ceilingTests}
 use Rattle.ceiling.specs.declared.Climb.{Climb}
 use Rattle.ceiling.specs.declared.Step.{Step}
@@ -32,16 +33,16 @@ pub record Climbing (judge : Edges → Decision) (burst : ℕ → Edges) (n i : 
   pub free : c .limited ≡ false
 
 module _ (judge : Edges → Decision) (burst : ℕ → Edges) where
-  one-more : (i : ℕ) → climbed judge burst (i + 1) ≡ stepOf judge (climbed judge burst i) i (burst i)
+  one-more : (i : ℕ) → climbed judge burst (i + 1) ≡ climbStep judge (climbed judge burst i) i (burst i)
   unfolding climbed
   one-more i = let e : i + 1 ≡ suc i = omega arith in rw e
 
-  step-free : (c : Climb) (k : ℕ) (more : Edges) → c .limited ≡ false → stepOf judge c k more ≡ rungJudged judge c k more
-  unfolding stepOf
+  step-free : (c : Climb) (k : ℕ) (more : Edges) → c .limited ≡ false → climbStep judge c k more ≡ rungJudged judge c k more
+  unfolding climbStep
   step-free c k more e = cond-not c (rungJudged judge c k more) e
 
-  step-over : (c : Climb) (k : ℕ) (more : Edges) → c .limited ≡ true → stepOf judge c k more ≡ c
-  unfolding stepOf
+  step-over : (c : Climb) (k : ℕ) (more : Edges) → c .limited ≡ true → climbStep judge c k more ≡ c
+  unfolding climbStep
   step-over c k more e = cond-yes c (rungJudged judge c k more) e
 
   -- A climb that is over stays as it is.
@@ -49,19 +50,19 @@ module _ (judge : Edges → Decision) (burst : ℕ → Edges) where
   stays zero k h = let e : zero + k ≡ k = omega arith in ap (climbed judge burst) e
   stays (suc d) k h =
       let e : suc d + k ≡ d + k + 1 = omega arith in
-      ap (climbed judge burst) e ∙ one-more (d + k) ∙ ap (λ (c : Climb). stepOf judge c (d + k) (burst (d + k))) (stays d k h)
+      ap (climbed judge burst) e ∙ one-more (d + k) ∙ ap (λ (c : Climb). climbStep judge c (d + k) (burst (d + k))) (stays d k h)
       ∙ step-over (climbed judge burst k) (d + k) (burst (d + k)) h
 
   module _ (n : ℕ) where
-    pub climbing-start : (c : Climb) → c ≡ startOf → Climbing judge burst n 0 c
-    unfolding climbed startOf
+    pub climbing-start : (c : Climb) → c ≡ climbStart → Climbing judge burst n 0 c
+    unfolding climbed climbStart
     climbing-start c e = record { within = omega arith; is = e; free = ap (λ (x : Climb). x .limited) e }
 
     module _ (i : ℕ) (c x : Climb) (p : Climbing judge burst n i c) where
       -- x is the climb after one rung more
       turned : x ≡ rungJudged judge c i (burst i) → x ≡ climbed judge burst (i + 1)
       turned e =
-          e ∙ sym (step-free c i (burst i) (p .free)) ∙ ap (λ (y : Climb). stepOf judge y i (burst i)) (p .is) ∙ sym (one-more i)
+          e ∙ sym (step-free c i (burst i) (p .free)) ∙ ap (λ (y : Climb). climbStep judge y i (burst i)) (p .is) ∙ sym (one-more i)
 
       pub climbing-again : i < n → x ≡ rungJudged judge c i (burst i) → x .limited ≡ false → Climbing judge burst n (i + 1) x
       climbing-again h e f = record { within = omega arith; is = turned e; free = f }
@@ -86,7 +87,7 @@ Free judge burst n i envelope rung = Climbing judge burst n i (freeClimb envelop
 
 module _ (judge : Edges → Decision) (burst : ℕ → Edges) (n : ℕ) where
   pub free-start : Free judge burst n 0 Unreached NoRung
-  unfolding startOf
+  unfolding climbStart
   free-start = climbing-start judge burst n (freeClimb Unreached NoRung) refl
 
   -- the climb after a step
@@ -97,7 +98,7 @@ module _ (judge : Edges → Decision) (burst : ℕ → Edges) (n : ℕ) where
       (i : ℕ) (envelope : Envelope) (rung : Rung) (t : Step) (p : Free judge burst n i envelope rung) (h : i < n)
       (e : t ≡ rungStep judge envelope (burst i)) where
     by-step : (b : Bool) → t .blocked ≡ b → after rung i t b ≡ rungJudged judge (freeClimb envelope rung) i (burst i)
-    unfolding rungStep rungJudged judgedOf
+    unfolding rungStep rungJudged climbAfter
     by-step b q = ap (after rung i t) (sym q) ∙ ap (λ (x : Step). after rung i x (x .blocked)) e
 
     -- rung i is allowed

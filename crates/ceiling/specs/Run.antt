@@ -13,7 +13,8 @@ use Rattle.codes.specs.declared.Checked.{Checked}
 use Rattle.codes.specs.declared.Checked.the-variants.{Accepted, Refused}
 use Rattle.occupancy.specs.Edges.{unionOf}
 use Rattle.occupancy.specs.declared.Edges.{Edges}
-use Rattle.scan.specs.First.{firstFrom, first, onFound, Hit, first-at, first-nothing}
+use Rattle.scan.specs.First.{firstFrom, first, onFound}
+use Rattle.scan.specs.Laws.{Hit, first-at, first-nothing}
 use Rattle.scan.specs.declared.Found.{Found}
 use Rattle.scan.specs.declared.Found.the-variants.{At, Nothing}
 use Rattle.station.specs.Station.{situationOf}
@@ -22,7 +23,8 @@ use Rattle.table.specs.Table.{tableOf}
 use Rattle.entry.specs.Entry.{edgesRead}
 use Rattle.decision.specs.Decision.{isBlocked, refusedOf}
 use Rattle.decision.specs.declared.Decision.{Decision}
-use Rattle.ceiling.specs.Ceiling.{joinedOf, noDecision, startOf, endedOf, wentOn, judgedOf, judgeBy, rungJudged, stepOf, climbed, burstOf, ceilingTests, unlessRefused, ceilingOf}
+use Rattle.ceiling.specs.Ceiling.{joinedOf, noDecision, climbStart, endedOf, wentOn, climbAfter, judgeBy, rungJudged}
+use Rattle.ceiling.specs.Ceiling.{climbStep, climbed, burstOf, ceilingTests, ceilingUnlessRefused, ceilingOf}
 use Rattle.ceiling.specs.declared.Rung.{Rung}
 use Rattle.ceiling.specs.declared.Rung.the-variants.{Fastest, NoRung}
 use Rattle.ceiling.specs.declared.Envelope.{Envelope}
@@ -90,30 +92,30 @@ module _ (judge : Edges → Decision) (burst : ℕ → Edges) where
   grows (suc n) = refl
 
   -- one rung more, from either
-  more-free : (n : ℕ) → stepOf judge (freeAt n) n (burst n) ≡ onFound (cond (blockedAt judge burst n) (At n) Nothing) stoppedAt (freeAt (suc n))
-  unfolding stepOf rungJudged judgedOf wentOn
-  more-free n = ap (λ (e : Edges). judgedOf (freeAt n) n e (judge e)) (grows n) ∙ go (blockedAt judge burst n)
+  more-free : (n : ℕ) → climbStep judge (freeAt n) n (burst n) ≡ onFound (cond (blockedAt judge burst n) (At n) Nothing) stoppedAt (freeAt (suc n))
+  unfolding climbStep rungJudged climbAfter wentOn
+  more-free n = ap (λ (e : Edges). climbAfter (freeAt n) n e (judge e)) (grows n) ∙ go (blockedAt judge burst n)
     where
       go :
           (b : Bool) → cond b (stoppedAt n) (wentOn n (envelopeOf burst n)) ≡ onFound (cond b (At n) Nothing) stoppedAt (freeAt (suc n))
       go true = refl
       go false = refl
 
-  more-over : (j n : ℕ) → stepOf judge (stoppedAt j) n (burst n) ≡ stoppedAt j
-  unfolding stepOf endedOf
+  more-over : (j n : ℕ) → climbStep judge (stoppedAt j) n (burst n) ≡ stoppedAt j
+  unfolding climbStep endedOf
   more-over j n = refl
 
   -- The climb is that up to the first rung that is blocked.
   pub climb-first : (n : ℕ) → climbed judge burst n ≡ onFound (first (blockedAt judge burst) n) stoppedAt (freeAt n)
-  unfolding climbed startOf firstFrom
+  unfolding climbed climbStart firstFrom
   climb-first zero = refl
   climb-first (suc n) =
-      ap (λ (c : Climb). stepOf judge c n (burst n)) (climb-first n) ∙ go (first (blockedAt judge burst) n)
+      ap (λ (c : Climb). climbStep judge c n (burst n)) (climb-first n) ∙ go (first (blockedAt judge burst) n)
       ∙ sym (ap (λ (f : Found). onFound f stoppedAt (freeAt (suc n))) (first-more (blockedAt judge burst) n))
     where
       go :
           (f : Found)
-          → stepOf judge (onFound f stoppedAt (freeAt n)) n (burst n)
+          → climbStep judge (onFound f stoppedAt (freeAt n)) n (burst n)
           ≡ onFound (onFound f At (cond (blockedAt judge burst n) (At n) Nothing)) stoppedAt (freeAt (suc n))
       go (At j) = more-over j n
       go Nothing = more-free n
@@ -153,12 +155,12 @@ module _ (judge : Edges → Decision) (burst : ℕ → Edges) where
       go (At j) p = (j, subst (λ (c : Climb). RunOf n c j) (at p) (run-ended n j (first-at (blockedAt judge burst) n j p)))
       go Nothing p = (n, subst (λ (c : Climb). RunOf n c n) (at p) (run-free n (first-nothing (blockedAt judge burst) n p)))
 
-climb-zero : (judge : Edges → Decision) (burst : ℕ → Edges) → climbed judge burst 0 ≡ startOf
+climb-zero : (judge : Edges → Decision) (burst : ℕ → Edges) → climbed judge burst 0 ≡ climbStart
 unfolding climbed
 climb-zero judge burst = refl
 
-absent-by : (x : Checked) (c : Climb) → c ≡ startOf → (unlessRefused x c .rung ≡ NoRung) × (unlessRefused x c .limited ≡ false)
-unfolding startOf
+absent-by : (x : Checked) (c : Climb) → c ≡ climbStart → (ceilingUnlessRefused x c .rung ≡ NoRung) × (ceilingUnlessRefused x c .limited ≡ false)
+unfolding climbStart
 absent-by Accepted c e = (ap (λ (y : Climb). y .rung) e, ap (λ (y : Climb). y .limited) e)
 absent-by (Refused n) c e = (refl, refl)
 
@@ -175,7 +177,7 @@ climb-blocked judge burst n =
     go Nothing p = ap (λ (c : Climb). isBlocked (c .limit .verdict)) (at p)
 
 unless-blocked :
-    (x : Checked) (c : Climb) → isBlocked (c .limit .verdict) ≡ true → isBlocked (unlessRefused x c .limit .verdict) ≡ true
+    (x : Checked) (c : Climb) → isBlocked (c .limit .verdict) ≡ true → isBlocked (ceilingUnlessRefused x c .limit .verdict) ≡ true
 unfolding refusedOf
 unless-blocked Accepted c e = e
 unless-blocked (Refused n) c e = refl
@@ -198,7 +200,9 @@ module _ (r : StationRecord) (direction : ℕ) (ordinary floor : Edges) (l : Lis
   ceiling-run e =
       let c = climb-run judging bursts (length rungs / 4) in (
         c .0,
-        subst (λ (x : Checked). Run judging bursts (length rungs / 4) (unlessRefused x (climbed judging bursts (length rungs / 4)) .rung) (unlessRefused x (climbed judging bursts (length rungs / 4)) .limited) (unlessRefused x (climbed judging bursts (length rungs / 4)) .limit) (c .0))
+        subst (λ (x : Checked). Run judging bursts (length rungs / 4) (ceilingUnlessRefused x (climbed judging bursts
+            (length rungs / 4)) .rung) (ceilingUnlessRefused x (climbed judging bursts (length rungs / 4)) .limited)
+            (ceilingUnlessRefused x (climbed judging bursts (length rungs / 4)) .limit) (c .0))
             (sym e) (c .1),
       )
 

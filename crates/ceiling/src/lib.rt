@@ -15,7 +15,7 @@ ghost use Rattle.codes.specs.Refusal.{refusalOf};
 ghost use Rattle.codes.specs.declared.Policy.the-variants.{Rules};
 ghost use Rattle.layout.specs.Form.{Whole};
 ghost use Rattle.table.specs.Table.{tableOf};
-ghost use Rattle.ceiling.specs.Ceiling.{figureAt, rungOf, controlOf, burstOf, joinedOf, judgeBy, rungStep, climbed};
+ghost use Rattle.ceiling.specs.Ceiling.{figureAt, rungOf, controlEdges, burstOf, joinedOf, judgeBy, rungStep, climbed};
 ghost use Rattle.ceiling.specs.Ceiling.{anyUnsized, anyUnmarked, badEdges, badRungs, ceilingTests, ceilingOf};
 
 // The fastest rung allowed.
@@ -163,7 +163,7 @@ fn rung_edges(rungs: &[f64], k: usize) -> Edges
 
 // The control frame that goes with a rung, by its floor byte.
 fn control_edges(ordinary: Edges, floor: Edges, mark: u8) -> Edges
-    ensures { λ x. ⌜ x ≡ controlOf ordinary floor mark ⌝ }
+    ensures { λ x. ⌜ x ≡ controlEdges ordinary floor mark ⌝ }
 {
     if mark == 1 { floor } else { ordinary }
 }
@@ -246,7 +246,8 @@ fn climb_all(
     floors: &[u8],
 ) -> Climb
     requires { ⌜ (s .policy ≡ Rules → Whole (now image)) × (length (now floors) ≡ length (now rungs) / 4) ⌝ }
-    ensures { λ x. ⌜ x ≡ climbed (judgeBy (tableOf (now (image .entry))) s direction) (burstOf ordinary floor (now (rungs .entry)) (now (floors .entry))) (length (now (rungs .entry)) / 4) ⌝ }
+    ensures { λ x. ⌜ x ≡ climbed (judgeBy (tableOf (now (image .entry))) s direction)
+        (burstOf ordinary floor (now (rungs .entry)) (now (floors .entry))) (length (now (rungs .entry)) / 4) ⌝ }
 {
     let count = rungs.len() / 4;
     let mut envelope = Envelope::Unreached;

@@ -1,3 +1,5 @@
 pub mod Code
 pub mod Read
 pub mod Refusal
+pub mod Laws
+pub mod ReadBack

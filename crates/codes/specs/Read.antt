@@ -1,15 +1,11 @@
 -- From a number to its case. A number outside its term's values has its case too, the last: refusal 20 comes before it is read.
 use Prim.Native.Nat.{ℕ}
-use mathlib.Core.Bool.{Bool, true, false, _||_, cond}
-use mathlib.Core.Path.{_≡_, refl}
+use mathlib.Core.Bool.{Bool, _||_, cond}
 use lib.Dec.{leb, eqb}
 use Rattle.codes.specs.declared.Policy.{Policy}
 use Rattle.codes.specs.declared.Policy.the-variants.{Unset, NoProfile, Rules, Broken}
-use Rattle.codes.specs.declared.ControlMode.{ControlMode}
 use Rattle.codes.specs.declared.ControlMode.the-variants.{Local, Remote, Automatic}
-use Rattle.codes.specs.declared.LicenseClass.{LicenseClass}
 use Rattle.codes.specs.declared.LicenseClass.the-variants.{Novice, Technician, General, Advanced, Extra}
-use Rattle.codes.specs.declared.Sideband.{Sideband}
 use Rattle.codes.specs.declared.Sideband.the-variants.{Usb, Lsb}
 use Rattle.codes.specs.declared.EmissionKind.{EmissionKind}
 use Rattle.codes.specs.declared.EmissionKind.the-variants.{Data, Cw, Test, Nothing}
@@ -21,7 +17,6 @@ use Rattle.codes.specs.declared.License.{License}
 use Rattle.codes.specs.declared.License.the-variants.{LicenseIs, NoLicense}
 use Rattle.codes.specs.declared.SidebandSet.{SidebandSet}
 use Rattle.codes.specs.declared.SidebandSet.the-variants.{SidebandIs, NoSideband}
-use Rattle.codes.specs.Code.{policyCode, controlCode, classCode, sidebandCode, kindCode, directionCode}
 
 -- which numbers are among a term's values; "255 for an absent control, licence or sideband"
 abbrev pub policyValid : ℕ → Bool
@@ -67,41 +62,3 @@ kindOf n = cond (eqb n 0) Data (cond (eqb n 1) Cw (cond (eqb n 2) Test Nothing))
 
 abbrev pub directionOf : ℕ → Direction
 directionOf n = cond (eqb n 0) Originate (cond (eqb n 1) Respond Operator)
-
--- Reading a case's number gives that case.
-pub policy-read : (p : Policy) → policyOf (policyCode p) ≡ p
-policy-read Unset = refl
-policy-read NoProfile = refl
-policy-read Rules = refl
-policy-read Broken = refl
-
-pub control-read : (m : ControlMode) → controlOf (controlCode m) ≡ ControlIs m
-control-read Local = refl
-control-read Remote = refl
-control-read Automatic = refl
-
-pub license-read : (l : LicenseClass) → licenseOf (classCode l) ≡ LicenseIs l
-license-read Novice = refl
-license-read Technician = refl
-license-read General = refl
-license-read Advanced = refl
-license-read Extra = refl
-
-pub sideband-read : (s : Sideband) → sidebandOf (sidebandCode s) ≡ SidebandIs s
-sideband-read Usb = refl
-sideband-read Lsb = refl
-
-pub kind-read : (k : EmissionKind) → kindOf (kindCode k) ≡ k
-kind-read Data = refl
-kind-read Cw = refl
-kind-read Test = refl
-kind-read Nothing = refl
-
-pub direction-read : (d : Direction) → directionOf (directionCode d) ≡ d
-direction-read Originate = refl
-direction-read Respond = refl
-direction-read Operator = refl
-
--- and 255 is absent
-pub absent-read : (controlOf 255 ≡ NoControl) × (licenseOf 255 ≡ NoLicense) × (sidebandOf 255 ≡ NoSideband)
-absent-read = (refl, refl, refl)

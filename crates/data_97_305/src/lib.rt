@@ -108,7 +108,8 @@ fn too_wide(band: u8, limit: DataLimit) -> Finding
 // By the first data segment that holds the guarded range; too wide comes before "no segment".
 pub fn judge_data(s: &[u8], g: General, c: Case, band: u8) -> Finding
     requires { ⌜ (Whole (now s)) × (g ≡ generalOf (now s)) ⌝ }
-    ensures { λ x. ⌜ concluded (tableOf (now (s .entry))) c x ≡ judgeData (tableOf (now (s .entry))) c band (firstIn (tableOf (now (s .entry))) segments (Holds (c .guarded))) ⌝ }
+    ensures { λ x. ⌜ concluded (tableOf (now (s .entry))) c x
+        ≡ judgeData (tableOf (now (s .entry))) c band (firstIn (tableOf (now (s .entry))) segments (Holds (c .guarded))) ⌝ }
 {
     let guarded = c.guarded;
     let general = table::data_of(g);

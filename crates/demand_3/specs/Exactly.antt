@@ -20,7 +20,7 @@ use Rattle.codes.specs.declared.EmissionKind.the-variants.{Data}
 use Rattle.profile.specs.Range.{holdsOf, lengthy}
 use Rattle.profile.specs.declared.Range.{Range}
 use Rattle.air.specs.Air.{rfRangeOf, guardedOf}
-use Rattle.scan.specs.First.{first-at, some-true, and-true}
+use Rattle.scan.specs.Laws.{first-at, some-true, and-true}
 use Rattle.station.specs.declared.Situation.{Situation}
 use Rattle.station.specs.declared.Figure.the-variants.{Known}
 use Rattle.layout.specs.Layout.{bands}
@@ -32,7 +32,7 @@ use Rattle.rows.specs.Order.{anyRow}
 use Rattle.rows.specs.declared.SafeDial.{SafeDial}
 use Rattle.dial_rows.specs.Dials.{requestOf, dataRows, rowsOf}
 use Rattle.dial_rows.specs.declared.Request.{Request}
-use Rattle.dials.specs.List.{withSideband, withLicense, withControl}
+use Rattle.dials.specs.List.{rowsWithSideband, rowsWithLicense, rowsWithControl}
 use Rattle.part97.specs.Part97.{bandAt, judge}
 use Rattle.part97.specs.declared.Case.{Case}
 use Rattle.verdict.specs.Verdict.{caseOf, underRulesOf}
@@ -57,8 +57,8 @@ rowsKnown table s direction audio sideband class control =
 
 abbrev pub rowsFor : Table → Situation → Direction → Range → List SafeDial
 rowsFor table s direction audio =
-    withSideband (s .sideband)
-    (λ sideband. withLicense (s .license) (λ class. withControl (s .control) (rowsKnown table s direction audio sideband class)))
+    rowsWithSideband (s .sideband)
+    (λ sideband. rowsWithLicense (s .license) (λ class. rowsWithControl (s .control) (rowsKnown table s direction audio sideband class)))
 
 -- a dial lies in one of them, outside the channel band
 abbrev pub listedAt : Table → Situation → Direction → Range → Float → Bool
@@ -121,10 +121,10 @@ module _ (table : Table) (s : Situation) (direction : Direction) (audio : Range)
   rows-are =
       ap
       (λ (x : SidebandSet).
-      withSideband x (λ sb. withLicense (s .license) (λ cl. withControl (s .control) (rowsKnown table s direction audio sb cl))))
+      rowsWithSideband x (λ sb. rowsWithLicense (s .license) (λ cl. rowsWithControl (s .control) (rowsKnown table s direction audio sb cl))))
       (P .has-sideband)
-      ∙ ap (λ (x : License). withLicense x (λ cl. withControl (s .control) (rowsKnown table s direction audio (P .sideband) cl))) (P .has-license)
-      ∙ ap (λ (x : Control). withControl x (rowsKnown table s direction audio (P .sideband) (P .class))) (P .has-control)
+      ∙ ap (λ (x : License). rowsWithLicense x (λ cl. rowsWithControl (s .control) (rowsKnown table s direction audio (P .sideband) cl))) (P .has-license)
+      ∙ ap (λ (x : Control). rowsWithControl x (rowsKnown table s direction audio (P .sideband) (P .class))) (P .has-control)
 
   ruling : underRulesOf table s (Known dial) Data direction audio ≡ judge table judgedCase
   ruling =

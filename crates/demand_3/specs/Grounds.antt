@@ -10,7 +10,8 @@ use borrow.Author.Tests.{eqb-true, not-true, not-false}
 use lib.Ieee.{Float, ofBits, neg, lt, le, eq}
 use Rattle.figures.specs.Figure.{zeroHz, limit40, negativeZeroBits, inSize, readHz, figureOf, minOf, maxOf}
 use Rattle.codes.specs.Code.{bitOf, policyCode}
-use Rattle.codes.specs.Refusal.{refusalOf, none-fails, refusal-both}
+use Rattle.codes.specs.Refusal.{refusalOf}
+use Rattle.codes.specs.Laws.{none-fails, refusal-both}
 use Rattle.codes.specs.declared.Checked.{Checked}
 use Rattle.codes.specs.declared.Checked.the-variants.{Accepted, Refused}
 use Rattle.codes.specs.declared.Policy.the-variants.{Unset, NoProfile, Rules, Broken}
@@ -20,11 +21,13 @@ use Rattle.occupancy.specs.declared.Edges.{Edges}
 use Rattle.occupancy.specs.declared.Reading.{Reading}
 use Rattle.occupancy.specs.declared.Reading.the-variants.{Power, Spectral, Wider}
 use Rattle.air.specs.Air.{widthOf}
-use Rattle.scan.specs.First.{some, some-false, and-true}
+use Rattle.scan.specs.First.{some}
+use Rattle.scan.specs.Laws.{some-false, and-true}
 use Rattle.station.specs.Station.{underRules, figureValid, figuresValid, figureRead, stationTests, situationOf}
 use Rattle.station.specs.declared.Figure.the-variants.{Known, Absent}
 use Rattle.station.specs.declared.StationRecord.{StationRecord}
-use Rattle.layout.specs.Form.{formTests, or-false-both}
+use Rattle.layout.specs.Form.{formTests}
+use Rattle.layout.specs.Laws.{or-false-both}
 use Rattle.layout.specs.Layout.{tables, power}
 use Rattle.table.specs.Parts.{elsewhereOf}
 use Rattle.table.specs.Table.{Table, tableOf}

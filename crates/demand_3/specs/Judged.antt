@@ -35,7 +35,7 @@ use Rattle.decision.specs.declared.Code.the-variants.{Permitted, AutomaticSegme
 use Rattle.decision.specs.declared.BandNumber.the-variants.{Band}
 use Rattle.decision.specs.declared.Draft.{Draft}
 use Rattle.decision.specs.declared.Decision.{Decision}
-use Rattle.part97.specs.Part97.{bandAt, segmentAt, limitFor, tooWide, warned, adviceWarns, automaticRule, draftOf, draftInside, draftAutomatic}
+use Rattle.part97.specs.Part97.{bandAt, segmentAt, limitFor, blockedTooWide, warned, adviceWarns, automaticRule, draftOf, draftInside, draftAutomatic}
 use Rattle.part97.specs.Part97.{privilegedOf, underPrivilege, advised, advisedAutomatic, automaticElsewhere, automaticData, nearestUpTo, onNearest}
 use Rattle.part97.specs.Part97.{outsideSegments, overshootOf, insideSegment, judgeData, offSixty, sixty, judgeOnBand, judgeInBand, touching, judge}
 use Rattle.part97.specs.declared.Case.{Case}
@@ -190,7 +190,7 @@ module _ (table : Table) (c : Case) where
   module _ (K : Comparable (elsewhereOf (table .general)) (c .width)) (band : ℕ) where
     abbrev placed : Found → Bool → Decision
     placed f b =
-        cond b (tooWide c band (limitFor table f))
+        cond b (blockedTooWide c band (limitFor table f))
         (onFound f (λ i. insideSegment table c band (segmentAt table i)) (outsideSegments table c band))
 
     data-in : Placed → allows (offSixty table c band Data) ≡ true

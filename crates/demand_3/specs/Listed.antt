@@ -11,7 +11,8 @@ use Rattle.profile.specs.declared.Range.{Range}
 use Rattle.profile.specs.declared.Shared.the-variants.{Stretch, Nothing}
 use Rattle.air.specs.Air.{rfRangeOf, guardedOf, dialEndsOf}
 use Rattle.air.specs.declared.DialRange.the-variants.{Dials, NoDial}
-use Rattle.scan.specs.First.{first, some, isAt, first-at, some-true, and-true}
+use Rattle.scan.specs.First.{first, some, isAt}
+use Rattle.scan.specs.Laws.{first-at, some-true, and-true}
 use Rattle.scan.specs.declared.Found.{Found}
 use Rattle.scan.specs.declared.Found.the-variants.{At, Nothing as NotFound}
 use Rattle.layout.specs.Layout.{segments, privileges, automatic, tables}
@@ -26,8 +27,8 @@ use Rattle.eighths.specs.Grid.{Figure}
 use Rattle.lists.specs.Each.{each}
 use Rattle.rows.specs.Order.{anyRow, Index, any-each-in, any-each-of}
 use Rattle.rows.specs.declared.SafeDial.{SafeDial}
-use Rattle.dial_rows.specs.Dials.{dialRows, pieceRows, onShared, automaticAt, automaticRows, cut, cutRows, mayUse, privilegeRows}
-use Rattle.dial_rows.specs.Dials.{privilegeAt, privilegesRows, tooWide, excludedBand, segmentRows, segmentAt, dataRows}
+use Rattle.dial_rows.specs.Dials.{dialRows, pieceRows, onShared, automaticRowsAt, automaticRows, cut, cutRows, mayUse, privilegeRows}
+use Rattle.dial_rows.specs.Dials.{privilegeRowsAt, privilegesRows, tooWide, excludedBand, segmentRows, segmentRowsAt, dataRows}
 use Rattle.dial_rows.specs.declared.Request.{Request}
 use Rattle.distance.specs.Distance.{isOutside, counts}
 use Rattle.demand_3.specs.Order.{Grid, grid, le-trans, Ends, Figures, ends, held, held-low, held-high}
@@ -167,16 +168,16 @@ module _ (flags channel : ℕ) (q : Request) (dial : Float) (D : Figure dial) (M
       where
         inside :
             Some (λ i. asks (Holds signal) (table .at automatic i)) (table .count automatic)
-            → listed (each (table .count automatic) (automaticAt table q (s .band) piece)) ≡ true
+            → listed (each (table .count automatic) (automaticRowsAt table q (s .band) piece)) ≡ true
         inside a =
-            any-each-in (lies flags channel dial) (table .count automatic) (automaticAt table q (s .band) piece) (a .index) (a .below)
+            any-each-in (lies flags channel dial) (table .count automatic) (automaticRowsAt table q (s .band) piece) (a .index) (a .below)
             (shared-in piece (spanOf (table .at automatic (a .index))) P (S .span automatic (a .index) (omega arith) (a .below))
             (pieceRows q (s .band) (q .«segments_rule»)) (λ r R k. piece-in (s .band) (q .«segments_rule») r R o k) h
             (sym (asks-holds signal (table .at automatic (a .index))) ∙ a .passes))
 
         go :
             (b : Bool) → (b ≡ true → someIn table automatic (Holds signal) ≡ true)
-            → listed (cond b (each (table .count automatic) (automaticAt table q (s .band) piece)) (pieceRows q (s .band) (s .rule) piece)) ≡ true
+            → listed (cond b (each (table .count automatic) (automaticRowsAt table q (s .band) piece)) (pieceRows q (s .band) (s .rule) piece)) ≡ true
         go true auto = inside (some-index (λ i. asks (Holds signal) (table .at automatic i)) (table .count automatic) (auto refl))
         go false auto = piece-in (s .band) (s .rule) piece P o h
 
@@ -190,7 +191,7 @@ module _ (flags channel : ℕ) (q : Request) (dial : Float) (D : Figure dial) (M
     unfolding cutRows automaticRows
     cut-of s piece P e = go (cut q) refl e
       where
-        inside : Index (lies flags channel dial) (table .count automatic) (automaticAt table q (s .band) piece) → CutOf s piece
+        inside : Index (lies flags channel dial) (table .count automatic) (automaticRowsAt table q (s .band) piece) → CutOf s piece
         inside a =
             shared-of piece (spanOf (table .at automatic (a .index))) P (S .span automatic (a .index) (omega arith) (a .below))
             (pieceRows q (s .band) (q .«segments_rule»)) (CutOf s piece)
@@ -208,9 +209,9 @@ module _ (flags channel : ℕ) (q : Request) (dial : Float) (D : Figure dial) (M
 
         go :
             (b : Bool) → cut q ≡ b
-            → listed (cond b (each (table .count automatic) (automaticAt table q (s .band) piece)) (pieceRows q (s .band) (s .rule) piece)) ≡ true
+            → listed (cond b (each (table .count automatic) (automaticRowsAt table q (s .band) piece)) (pieceRows q (s .band) (s .rule) piece)) ≡ true
             → CutOf s piece
-        go true c e = inside (any-each-of (lies flags channel dial) (table .count automatic) (automaticAt table q (s .band) piece) e)
+        go true c e = inside (any-each-of (lies flags channel dial) (table .count automatic) (automaticRowsAt table q (s .band) piece) e)
         go false c e =
             let x = piece-of (s .band) (s .rule) piece P e in
             record { outside = x .0; holds = x .1; automatic-holds = λ t. absurd (true≢false (sym t ∙ c)) }
@@ -279,23 +280,23 @@ module _ (flags channel : ℕ) (q : Request) (dial : Float) (D : Figure dial) (M
     pub data-in : Lawful → listed (dataRows table q) ≡ true
     unfolding dataRows segmentRows privilegesRows
     data-in w =
-        any-each-in (lies flags channel dial) (table .count segments) (segmentAt table q) (w .segment) (w .segment-below)
+        any-each-in (lies flags channel dial) (table .count segments) (segmentRowsAt table q) (w .segment) (w .segment-below)
         (rw (w .narrow)
         (rw (w .not-excluded)
-        (any-each-in (lies flags channel dial) (table .count privileges) (privilegeAt table q (segmentIn (w .segment))) (w .privilege) (w .privilege-below)
+        (any-each-in (lies flags channel dial) (table .count privileges) (privilegeRowsAt table q (segmentIn (w .segment))) (w .privilege) (w .privilege-below)
         (pair-in (segmentIn (w .segment)) (privilegeIn (w .privilege)) (segment-span (w .segment) (w .segment-below))
         (privilege-span (w .privilege) (w .privilege-below)) (w .pair)))))
 
     pub data-of : listed (dataRows table q) ≡ true → Lawful
     unfolding dataRows segmentRows privilegesRows
-    data-of e = outer (any-each-of (lies flags channel dial) (table .count segments) (segmentAt table q) e)
+    data-of e = outer (any-each-of (lies flags channel dial) (table .count segments) (segmentRowsAt table q) e)
       where
-        outer : Index (lies flags channel dial) (table .count segments) (segmentAt table q) → Lawful
+        outer : Index (lies flags channel dial) (table .count segments) (segmentRowsAt table q) → Lawful
         outer s = go (tooWide q (segmentIn (s .index))) (excludedBand table q (segmentIn (s .index))) refl refl (s .passes)
           where
             inner :
                 tooWide q (segmentIn (s .index)) ≡ false → excludedBand table q (segmentIn (s .index)) ≡ false
-                → Index (lies flags channel dial) (table .count privileges) (privilegeAt table q (segmentIn (s .index))) → Lawful
+                → Index (lies flags channel dial) (table .count privileges) (privilegeRowsAt table q (segmentIn (s .index))) → Lawful
             inner n o p =
                 record {
                   segment = s .index;
@@ -311,7 +312,8 @@ module _ (flags channel : ℕ) (q : Request) (dial : Float) (D : Figure dial) (M
 
             go :
                 (a b : Bool) → tooWide q (segmentIn (s .index)) ≡ a → excludedBand table q (segmentIn (s .index)) ≡ b
-                → listed (cond (a || b) [] (each (table .count privileges) (privilegeAt table q (segmentIn (s .index))))) ≡ true → Lawful
+                → listed (cond (a || b) [] (each (table .count privileges) (privilegeRowsAt table q (segmentIn (s .index))))) ≡ true → Lawful
             go true b n o e = absurd (false≢true e)
             go false true n o e = absurd (false≢true e)
-            go false false n o e = inner n o (any-each-of (lies flags channel dial) (table .count privileges) (privilegeAt table q (segmentIn (s .index))) e)
+            go false false n o e = inner n o
+                (any-each-of (lies flags channel dial) (table .count privileges) (privilegeRowsAt table q (segmentIn (s .index))) e)

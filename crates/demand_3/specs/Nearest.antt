@@ -8,11 +8,12 @@ use native.Mathlib.Decide.{decLe}
 use borrow.Author.Tests.{eqb-true, eq-eqb, ne-eqb}
 use lib.Ieee.{Float, binary64, sub, lt, le, eq}
 use Rattle.figures.specs.Figure.{zeroHz}
-use Rattle.scan.specs.First.{some, some-true, and-true}
+use Rattle.scan.specs.First.{some}
+use Rattle.scan.specs.Laws.{some-true, and-true}
 use Rattle.eighths.specs.Grid.{Figure}
 use Rattle.eighths.specs.Laws.{zero-eighths, eq-eighths}
 use Rattle.exact.specs.Air.{distance, distance-above}
-use Rattle.rows.specs.Rows.{rowSize, lowAt, highAt, bandAt}
+use Rattle.rows.specs.Rows.{rowSize, lowAt, highAt, rowBand}
 use Rattle.distance.specs.Distance.{isOutside, counts, distanceTo, nearerOf, consideredAt, leastUpTo}
 use Rattle.distance.specs.declared.Distance.{Distance}
 use Rattle.distance.specs.declared.Distance.the-variants.{Hertz, NoneListed, Refused as NoAnswer}
@@ -104,11 +105,11 @@ module _ (dial : Float) (flags channel : ℕ) (rows : List ℕ) where
   abbrev pub highOf : ℕ → Float
   highOf i = highAt rows (i * rowSize)
 
-  abbrev pub bandOf : ℕ → ℕ
-  bandOf i = bandAt rows (i * rowSize)
+  abbrev pub rowBandOf : ℕ → ℕ
+  rowBandOf i = rowBand rows (i * rowSize)
 
   abbrev pub countsAt : ℕ → Bool
-  countsAt i = counts flags channel (bandOf i) (lowOf i) (highOf i)
+  countsAt i = counts flags channel (rowBandOf i) (lowOf i) (highOf i)
 
   abbrev pub liesAt : ℕ → Bool
   liesAt i = countsAt i && between dial (lowOf i) (highOf i)
@@ -202,7 +203,7 @@ module _ (dial : Float) (flags channel : ℕ) (rows : List ℕ) where
 
   module _
       (count : ℕ) (D : Figure dial)
-      (E : (i : ℕ) → i < count → isOutside flags channel (bandOf i) ≡ true → (RowEnd (lowOf i)) × (RowEnd (highOf i)))
+      (E : (i : ℕ) → i < count → isOutside flags channel (rowBandOf i) ≡ true → (RowEnd (lowOf i)) × (RowEnd (highOf i)))
     where
       least-of : (n : ℕ) → n ≤ count → LeastOf (leastUpTo dial flags channel rows n) n
       unfolding leastUpTo consideredAt
@@ -213,7 +214,7 @@ module _ (dial : Float) (flags channel : ℕ) (rows : List ℕ) where
               (b : Bool) → countsAt n ≡ b → (best : Distance) → LeastOf best n
               → LeastOf (cond b (nearerOf best (distanceTo dial (lowOf n) (highOf n))) best) (suc n)
           go true c best before =
-              let e = E n (omega arith) (and-true (isOutside flags channel (bandOf n)) (le (lowOf n) (highOf n)) c .0) in
+              let e = E n (omega arith) (and-true (isOutside flags channel (rowBandOf n)) (le (lowOf n) (highOf n)) c .0) in
               counted n c (row-near dial (lowOf n) (highOf n) D (e .0) (e .1)) best before
           go false c best before = passed n c best before
 

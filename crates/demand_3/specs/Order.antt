@@ -8,7 +8,7 @@ use lib.Ieee.{Float, lt, le, ne}
 use Rattle.figures.specs.Figure.{minOf, maxOf}
 use Rattle.profile.specs.Range.{holdsOf, lengthy, commonOf}
 use Rattle.profile.specs.declared.Range.{Range}
-use Rattle.scan.specs.First.{and-true}
+use Rattle.scan.specs.Laws.{and-true}
 use Rattle.eighths.specs.Grid.{Figure, Eighths}
 use Rattle.eighths.specs.Laws.{lt-eighths, le-eighths, eq-eighths}
 use Rattle.demand_3.specs.Tests.{and-both}

@@ -9,10 +9,11 @@ use lib.ListN.{length, getD}
 use lib.Ieee.{Float}
 use Rattle.figures.specs.Figure.{zeroHz}
 use Rattle.profile.specs.Range.{range}
-use Rattle.scan.specs.First.{some, some-true}
+use Rattle.scan.specs.First.{some}
+use Rattle.scan.specs.Laws.{some-true}
 use Rattle.eighths.specs.Grid.{Figure}
-use Rattle.rows.specs.Rows.{rowSize, encodeAll, sorted, lowAt, highAt, bandAt}
-use Rattle.lists.specs.Each.{Every}
+use Rattle.rows.specs.Rows.{rowSize, encodeAll, sorted, lowAt, highAt, rowBand}
+use Rattle.lists.specs.Laws.{Every}
 use Rattle.rows.specs.Order.{anyRow, any-sorted, length-sorted, every-sorted, or-left, or-right}
 use Rattle.rows.specs.Read.{low-of, high-of, band-of}
 use Rattle.rows.specs.declared.SafeDial.{SafeDial}
@@ -22,7 +23,7 @@ use Rattle.demand_3.specs.Tests.{same}
 use Rattle.demand_3.specs.Words.{nought}
 use Rattle.demand_3.specs.Dial.{RowEnd}
 use Rattle.demand_3.specs.Listed.{Some, some-index, lies}
-use Rattle.demand_3.specs.Rows.{Counted}
+use Rattle.demand_3.specs.Rows.{OutsideEnds}
 use Rattle.demand_3.specs.Nearest.{liesAt, least-nought}
 
 -- a row for places past the end
@@ -61,7 +62,7 @@ module _ (dial : Float) (flags channel : ℕ) (ys : List SafeDial) (rest : List 
     high-is : highAt bytes (i * rowSize) ≡ getD ys i noRow .«dial_high_hz»
     high-is = high-of ys rest i noRow h (every-get DialsFit ys F i h .1)
 
-    pub band-is : bandAt bytes (i * rowSize) ≡ getD ys i noRow .band
+    pub band-is : rowBand bytes (i * rowSize) ≡ getD ys i noRow .band
     band-is = band-of ys rest i noRow h
 
     lies-is : liesAt dial flags channel bytes i ≡ lies flags channel dial (getD ys i noRow)
@@ -79,19 +80,20 @@ module _ (dial : Float) (flags channel : ℕ) (ys : List SafeDial) (rest : List 
       some-true (liesAt dial flags channel bytes) (length ys) (s .index) (s .below) (lies-is (s .index) (s .below) ∙ s .passes))
 
   -- So the distance is nought exactly then.
-  rows-nought : Figure dial → Every (Counted flags channel) ys → nought (leastUpTo dial flags channel bytes (length ys)) ≡ anyRow (lies flags channel dial) ys
+  rows-nought : Figure dial → Every (OutsideEnds flags channel) ys
+      → nought (leastUpTo dial flags channel bytes (length ys)) ≡ anyRow (lies flags channel dial) ys
   rows-nought D E =
       least-nought dial flags channel bytes (length ys) D
       (λ i h o.
-      let r = every-get (Counted flags channel) ys E i h (ap (isOutside flags channel) (sym (band-is i h)) ∙ o) in
+      let r = every-get (OutsideEnds flags channel) ys E i h (ap (isOutside flags channel) (sym (band-is i h)) ∙ o) in
       (subst RowEnd (sym (low-is i h)) (r .low), subst RowEnd (sym (high-is i h)) (r .high)))
       ∙ lies-read
 
 -- The same of the rows in their order, as the list call leaves them.
 pub sorted-nought :
-    (dial : Float) (flags channel : ℕ) → Figure dial → (xs : List SafeDial) (rest : List ℕ) → Every DialsFit xs → Every (Counted flags channel) xs
+    (dial : Float) (flags channel : ℕ) → Figure dial → (xs : List SafeDial) (rest : List ℕ) → Every DialsFit xs → Every (OutsideEnds flags channel) xs
     → nought (leastUpTo dial flags channel (encodeAll (sorted xs) ++ rest) (length xs)) ≡ anyRow (lies flags channel dial) xs
 sorted-nought dial flags channel D xs rest F E =
     ap (λ (n : ℕ). nought (leastUpTo dial flags channel (encodeAll (sorted xs) ++ rest) n)) (sym (length-sorted xs))
-    ∙ rows-nought dial flags channel (sorted xs) rest (every-sorted DialsFit xs F) D (every-sorted (Counted flags channel) xs E)
+    ∙ rows-nought dial flags channel (sorted xs) rest (every-sorted DialsFit xs F) D (every-sorted (OutsideEnds flags channel) xs E)
     ∙ any-sorted (lies flags channel dial) xs

@@ -17,12 +17,13 @@ use Rattle.table.specs.Parts.{spanOf, segmentOf, privilegeOf, channelsOf, centr
 use Rattle.table.specs.declared.Segment.{Segment}
 use Rattle.table.specs.declared.Channels.{Channels}
 use Rattle.eighths.specs.Grid.{Figure}
-use Rattle.lists.specs.Each.{Every, each, every-append, every-map}
+use Rattle.lists.specs.Each.{each}
+use Rattle.lists.specs.Laws.{Every, every-append, every-map}
 use Rattle.rows.specs.Order.{anyRow, any-append}
 use Rattle.rows.specs.declared.SafeDial.{SafeDial}
-use Rattle.dial_rows.specs.Dials.{dialRows, pieceRows, onShared, automaticAt, automaticRows, cut, cutRows, mayUse, privilegeRows, privilegeAt}
-use Rattle.dial_rows.specs.Dials.{privilegesRows, tooWide, excludedBand, segmentRows, segmentAt, dataRows, channelSafe, channelHolds}
-use Rattle.dial_rows.specs.Dials.{channelRow, channelAt, channelRows, channelsOpen, channelFound, openRows, bandRows, rowsOf}
+use Rattle.dial_rows.specs.Dials.{dialRows, pieceRows, onShared, automaticRowsAt, automaticRows, cut, cutRows, mayUse, privilegeRows, privilegeRowsAt}
+use Rattle.dial_rows.specs.Dials.{privilegesRows, tooWide, excludedBand, segmentRows, segmentRowsAt, dataRows, channelSafe, channelHolds}
+use Rattle.dial_rows.specs.Dials.{channelRow, channelRowsAt, channelRows, channelsOpen, channelFound, openRows, bandRows, rowsOf}
 use Rattle.dial_rows.specs.declared.Request.{Request}
 use Rattle.distance.specs.Distance.{isOutside}
 use Rattle.demand_3.specs.Order.{Figures, common-figures}
@@ -56,8 +57,8 @@ channel-rows :
     → Every P (openRows table q c)
 unfolding openRows channelRows channelRow
 channel-rows P table q c h =
-    every-cond P (channelsOpen q && channelFound table q) (each (table .count channels) (channelAt table q c)) []
-    (every-below P (table .count channels) (channelAt table q c)
+    every-cond P (channelsOpen q && channelFound table q) (each (table .count channels) (channelRowsAt table q c)) []
+    (every-below P (table .count channels) (channelRowsAt table q c)
     (λ i _.
     let centre = centreOf (table .at channels i) in
     every-cond P (channelHolds q c centre) (channelSafe c centre ∷ []) [] (h centre, tt) tt))
@@ -88,8 +89,8 @@ pub record RowEnds (x : SafeDial) : Type 0 where
   pub high : RowEnd (x .«dial_high_hz»)
 
 -- of a row outside the channel band
-abbrev pub Counted : ℕ → ℕ → SafeDial → Type 0
-Counted flags channel x = isOutside flags channel (x .band) ≡ true → RowEnds x
+abbrev pub OutsideEnds : ℕ → ℕ → SafeDial → Type 0
+OutsideEnds flags channel x = isOutside flags channel (x .band) ≡ true → RowEnds x
 
 module _ (table : Table) (q : Request) (S : Spans table) (M : Figure (q .«margin_hz»)) (A : Figures (q .audio)) where
   piece-ends : (band rule : ℕ) (piece : Range) → Figures piece → Every RowEnds (pieceRows q band rule piece)
@@ -121,8 +122,8 @@ module _ (table : Table) (q : Request) (S : Spans table) (M : Figure (q .«margi
   cut-ends : (s : Segment) (piece : Range) → Figures piece → Every RowEnds (cutRows table q s piece)
   unfolding cutRows automaticRows
   cut-ends s piece P =
-      every-cond RowEnds (cut q) (each (table .count automatic) (automaticAt table q (s .band) piece)) (pieceRows q (s .band) (s .rule) piece)
-      (every-below RowEnds (table .count automatic) (automaticAt table q (s .band) piece)
+      every-cond RowEnds (cut q) (each (table .count automatic) (automaticRowsAt table q (s .band) piece)) (pieceRows q (s .band) (s .rule) piece)
+      (every-below RowEnds (table .count automatic) (automaticRowsAt table q (s .band) piece)
       (λ a h. shared-ends piece (spanOf (table .at automatic a)) P (S .span automatic a (omega arith) h) (pieceRows q (s .band) (q .«segments_rule»))
       (piece-ends (s .band) (q .«segments_rule»))))
       (piece-ends (s .band) (s .rule) piece P)
@@ -130,11 +131,11 @@ module _ (table : Table) (q : Request) (S : Spans table) (M : Figure (q .«margi
   pub data-ends : Every RowEnds (dataRows table q)
   unfolding dataRows segmentRows privilegesRows privilegeRows
   data-ends =
-      every-below RowEnds (table .count segments) (segmentAt table q)
+      every-below RowEnds (table .count segments) (segmentRowsAt table q)
       (λ i h.
       every-cond RowEnds (tooWide q (segmentOf (table .at segments i)) || excludedBand table q (segmentOf (table .at segments i))) []
-      (each (table .count privileges) (privilegeAt table q (segmentOf (table .at segments i)))) tt
-      (every-below RowEnds (table .count privileges) (privilegeAt table q (segmentOf (table .at segments i)))
+      (each (table .count privileges) (privilegeRowsAt table q (segmentOf (table .at segments i)))) tt
+      (every-below RowEnds (table .count privileges) (privilegeRowsAt table q (segmentOf (table .at segments i)))
       (λ p k.
       every-cond RowEnds (mayUse q (privilegeOf (table .at privileges p)))
       (onShared (intersectOf (spanOf (table .at segments i)) (spanOf (table .at privileges p))) (cutRows table q (segmentOf (table .at segments i)))) []
@@ -143,10 +144,10 @@ module _ (table : Table) (q : Request) (S : Spans table) (M : Figure (q .«margi
       tt)))
 
   -- Every row that counts has both.
-  pub rows-ends : Every (Counted (table .general .flags) (table .general .«channel_band»)) (rowsOf table q)
+  pub rows-ends : Every (OutsideEnds (table .general .flags) (table .general .«channel_band»)) (rowsOf table q)
   unfolding rowsOf
   rows-ends =
-      let counted = Counted (table .general .flags) (table .general .«channel_band») in
+      let counted = OutsideEnds (table .general .flags) (table .general .«channel_band») in
       every-append counted (dataRows table q) (bandRows table q (channelsOf (table .general)))
       (every-map RowEnds counted (λ x r _. r) (dataRows table q) data-ends)
       (every-map (OnChannels table) counted (λ x e o. absurd (true≢false (sym o ∙ e))) (bandRows table q (channelsOf (table .general)))

@@ -13,7 +13,8 @@ use Rattle.codes.specs.declared.EmissionKind.the-variants.{Data}
 use Rattle.profile.specs.Range.{holdsOf, lengthy, shareOf}
 use Rattle.profile.specs.Limit.{allowsOf}
 use Rattle.profile.specs.declared.Range.{Range}
-use Rattle.scan.specs.First.{first, onFound, first-at, first-nothing, some-false, and-true}
+use Rattle.scan.specs.First.{first, onFound}
+use Rattle.scan.specs.Laws.{first-at, first-nothing, some-false, and-true}
 use Rattle.scan.specs.declared.Found.{Found}
 use Rattle.scan.specs.declared.Found.the-variants.{At, Nothing}
 use Rattle.layout.specs.Layout.{tables, bands, segments, privileges, automatic, excluded}

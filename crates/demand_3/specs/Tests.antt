@@ -1,7 +1,7 @@
 -- Tests joined by `&&`, and tests that are equal.
 use mathlib.Core.Bool.{Bool, true, false, _&&_}
 use mathlib.Core.Path.{_≡_, refl, sym}
-use Rattle.scan.specs.First.{and-true}
+use Rattle.scan.specs.Laws.{and-true}
 
 pub all-three : (a b c : Bool) → (a && (b && c)) ≡ true → (a ≡ true) × (b ≡ true) × (c ≡ true)
 all-three a b c e =

@@ -11,14 +11,15 @@ use borrow.Author.Tests.{eqb-true, le-ltb, not-false}
 use lib.Ieee.{Float}
 use Rattle.figures.specs.Figure.{limit40, inSize, readHz}
 use Rattle.codes.specs.Read.{policyOf, directionOf, directionValid}
-use Rattle.codes.specs.Refusal.{test, refusalOf, refusal-both, none-fails}
+use Rattle.codes.specs.Refusal.{test, refusalOf}
+use Rattle.codes.specs.Laws.{refusal-both, none-fails}
 use Rattle.codes.specs.declared.Checked.{Checked}
 use Rattle.codes.specs.declared.Checked.the-variants.{Accepted, Refused}
 use Rattle.codes.specs.declared.Policy.{Policy}
 use Rattle.codes.specs.declared.EmissionKind.the-variants.{Data}
 use Rattle.profile.specs.declared.Range.{Range}
 use Rattle.occupancy.specs.declared.Edges.{Edges}
-use Rattle.scan.specs.First.{and-true, cond-yes}
+use Rattle.scan.specs.Laws.{and-true, cond-yes}
 use Rattle.station.specs.Station.{underRules, situationOf}
 use Rattle.station.specs.declared.Figure.the-variants.{Known}
 use Rattle.station.specs.declared.StationRecord.{StationRecord}
@@ -29,7 +30,7 @@ use Rattle.table.specs.Parts.{readingOf}
 use Rattle.entry.specs.Entry.{entryTests, edgesValid, edgesRead}
 use Rattle.rows.specs.Rows.{rowSize, sorted, encodeAll}
 use Rattle.rows.specs.Back.{length-encode}
-use Rattle.lists.specs.Each.{Every}
+use Rattle.lists.specs.Laws.{Every}
 use Rattle.rows.specs.Order.{anyRow, length-sorted}
 use Rattle.rows.specs.declared.SafeDial.{SafeDial}
 use Rattle.dial_rows.specs.Dials.{requestOf, rowsOf}
@@ -51,7 +52,7 @@ use Rattle.demand_3.specs.Words.{stationMet, signalMet, verdictAt, sent,
 use Rattle.demand_3.specs.Tests.{all-three}
 use Rattle.demand_3.specs.Order.{Figures}
 use Rattle.demand_3.specs.Listed.{lies}
-use Rattle.demand_3.specs.Rows.{Counted, rows-ends}
+use Rattle.demand_3.specs.Rows.{OutsideEnds, rows-ends}
 use Rattle.demand_3.specs.Nearest.{least-none, least-answers}
 use Rattle.demand_3.specs.Read.{sorted-nought}
 use Rattle.demand_3.specs.Grounds.{spans, under-rules, figures-valid, margin-figure, dial-figure, audio-figures}
@@ -194,7 +195,7 @@ module _
         let channel = generalOf l .«channel_band» in
         ap nought distance-is
         ∙ sorted-nought (readHz dial) flags channel D xs rest (subst (Every DialsFit) rows-are-asked (rows-fit l asked))
-        (subst (Every (Counted flags channel)) rows-are-asked (rows-ends (tableOf l) asked (spans (tableOf l) (P .table)) M A))
+        (subst (Every (OutsideEnds flags channel)) rows-are-asked (rows-ends (tableOf l) asked (spans (tableOf l) (P .table)) M A))
         ∙ ap (anyRow (lies flags channel (readHz dial))) rows-for
         ∙ listed-exactly (tableOf l) there (directionOf direction) audio (readHz dial) (P .table) (station .1) M A D (signal .1) (P .off-channels)
         ∙ ap allows (sym verdict-is)

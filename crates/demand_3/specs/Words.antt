@@ -48,7 +48,7 @@ use Rattle.dials.specs.declared.DialList.the-variants.{Rows}
 use Rattle.distance.specs.Distance.{distanceOf, isOutside}
 use Rattle.distance.specs.declared.Distance.{Distance}
 use Rattle.distance.specs.declared.Distance.the-variants.{Hertz, NoneListed, Refused as NoAnswer}
-use Rattle.rows.specs.Rows.{rowSize, bandAt}
+use Rattle.rows.specs.Rows.{rowSize, rowBand}
 
 -- ---- in eighths: "Hertz figures are those of image, edges, station record and dial asked; watts are none."
 
@@ -222,7 +222,7 @@ answers (NoAnswer n) = false
 -- no row that was left lies outside the channel band
 abbrev pub NoneOutside : List ℕ → ℕ → List ℕ → Type 0
 NoneOutside l count left =
-    (i : ℕ) → i < count → isOutside (generalOf l .flags) (generalOf l .«channel_band») (bandAt left (i * rowSize)) ≡ false
+    (i : ℕ) → i < count → isOutside (generalOf l .flags) (generalOf l .«channel_band») (rowBand left (i * rowSize)) ≡ false
 
 -- ---- the premises, and what demand 3 says
 

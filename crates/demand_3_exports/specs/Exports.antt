@@ -27,7 +27,7 @@ use Rattle.demand_3.specs.Words.{tableInEighths, dialInEighths, tuned, audioOf,
 use Rattle.demand_3.specs.Words.{signalMet, verdictAt, sent, allows, distanceAt, nought, answers, NoneOutside}
 use Rattle.demand_3.specs.Grounds.{tidy-met}
 use Rattle.demand_3.specs.Theorem.{demand-3}
-use Rattle.pamuklid.specs.Flat.{recordOf, edgesOf, flatOf, tidinessFlat, FlatDialed, distanceFlat}
+use Rattle.pamuklid.specs.Flat.{stationRecordOf, edgesOf, flatOf, tidinessFlat, FlatDialed, distanceFlat}
 use Rattle.pamuklid.specs.Safe.{verdict-not-refused, list-not-refused}
 use Rattle.pamuklid.specs.declared.FlatStation.{FlatStation}
 use Rattle.pamuklid.specs.declared.FlatEdges.{FlatEdges}
@@ -54,7 +54,7 @@ tunedFlat s dial =
 
 -- what pamuklid_evaluate answers on data (kind 0) at a dial
 abbrev pub flatVerdict : FlatStation → ℕ → FlatEdges → List ℕ → Float → FlatDecision
-flatVerdict s direction e l dial = flatOf (evaluateOf (recordOf (tunedFlat s dial)) 0 direction (edgesOf e) l)
+flatVerdict s direction e l dial = flatOf (evaluateOf (stationRecordOf (tunedFlat s dial)) 0 direction (edgesOf e) l)
 
 -- what pamuklid_distance_of answers, asked with bytes 42 and 43 of the image and the list's count
 abbrev pub flatDistance : List ℕ → ℕ → List ℕ → Float → FlatDistance
@@ -65,12 +65,12 @@ pub record FlatPremises (s : FlatStation) (direction : ℕ) (e : FlatEdges) (l :
   -- the table: accepted and tidy, and in eighths
   pub tidy : tidinessFlat (tidyOf l) .tidy ≡ 1
   pub eighths : tableInEighths (tableOf l) ≡ true
-  pub station : stationMet (tableOf l) (situationOf (recordOf (tunedFlat s dial))) ≡ true
-  pub own-dial : dialInEighths (situationOf (recordOf s) .dial) ≡ true
-  pub signal : signalMet (tableOf l) (situationOf (recordOf s)) (edgesRead (edgesOf e)) ≡ true
+  pub station : stationMet (tableOf l) (situationOf (stationRecordOf (tunedFlat s dial))) ≡ true
+  pub own-dial : dialInEighths (situationOf (stationRecordOf s) .dial) ≡ true
+  pub signal : signalMet (tableOf l) (situationOf (stationRecordOf s)) (edgesRead (edgesOf e)) ≡ true
   pub fitted : list .refusal ≡ 0
   pub not-refused : flatVerdict s direction e l dial .refusal ≡ 0
-  pub off-channels : onChannelBand (tableOf l) (situationOf (recordOf s)) (audioOf (tableOf l) (edgesRead (edgesOf e))) (readHz dial) ≡ false
+  pub off-channels : onChannelBand (tableOf l) (situationOf (stationRecordOf s)) (audioOf (tableOf l) (edgesRead (edgesOf e))) (readHz dial) ≡ false
 
 -- what it says of them
 pub record FlatDemand3 (verdict : FlatDecision) (distance : FlatDistance) (l : List ℕ) (count : ℕ) (left : List ℕ) : Type 0 where
@@ -103,8 +103,8 @@ sent-flat Legal = refl
 sent-flat Warning = refl
 sent-flat Blocked = refl
 
-tuned-flat : (s : FlatStation) (dial : Float) → recordOf (tunedFlat s dial) ≡ tuned (recordOf s) dial
-unfolding recordOf tunedFlat tuned
+tuned-flat : (s : FlatStation) (dial : Float) → stationRecordOf (tunedFlat s dial) ≡ tuned (stationRecordOf s) dial
+unfolding stationRecordOf tunedFlat tuned
 tuned-flat s dial = refl
 
 -- ---- demand 3
@@ -112,14 +112,14 @@ tuned-flat s dial = refl
 -- Whatever the exported list leaves: the flat distance is nought exactly when the flat verdict is not blocked.
 pub demand-3-flat :
     (s : FlatStation) (direction : ℕ) (e : FlatEdges) (l lent left : List ℕ) (list : FlatDials) (dial : Float)
-    → FlatDialed (recordOf s) direction (edgesOf e) l lent left list
+    → FlatDialed (stationRecordOf s) direction (edgesOf e) l lent left list
     → FlatPremises s direction e l list dial
     → FlatDemand3 (flatVerdict s direction e l dial) (flatDistance l (list .count) left dial) l (list .count) left
 unfolding flatOf
 demand-3-flat s direction e l lent left list dial L P =
-    let r = recordOf s in
-    let same : recordOf (tunedFlat s dial) ≡ tuned r dial = tuned-flat s dial in
-    let verdict : evaluateOf (recordOf (tunedFlat s dial)) 0 direction (edgesOf e) l ≡ verdictAt r direction (edgesOf e) l dial =
+    let r = stationRecordOf s in
+    let same : stationRecordOf (tunedFlat s dial) ≡ tuned r dial = tuned-flat s dial in
+    let verdict : evaluateOf (stationRecordOf (tunedFlat s dial)) 0 direction (edgesOf e) l ≡ verdictAt r direction (edgesOf e) l dial =
     ap (λ (x : StationRecord). evaluateOf x 0 direction (edgesOf e) l) same in
     let distance = distanceAt l (list .count) left dial in
     let D =
@@ -133,14 +133,14 @@ demand-3-flat s direction e l lent left list dial L P =
       fitted = list-not-refused r direction (edgesOf e) l lent left list L (P .fitted);
       not-refused =
           ap (λ d. d .refusal) (sym verdict)
-          ∙ verdict-not-refused (recordOf (tunedFlat s dial)) 0 direction (edgesOf e) l (P .not-refused);
+          ∙ verdict-not-refused (stationRecordOf (tunedFlat s dial)) 0 direction (edgesOf e) l (P .not-refused);
       off-channels = P .off-channels;
     }) in
     record {
       answered = answered-flat distance (D .answered);
       exactly =
           nought-flat distance ∙ D .exactly ∙ ap allows (sym verdict)
-          ∙ sym (sent-flat (evaluateOf (recordOf (tunedFlat s dial)) 0 direction (edgesOf e) l .verdict));
+          ∙ sym (sent-flat (evaluateOf (stationRecordOf (tunedFlat s dial)) 0 direction (edgesOf e) l .verdict));
       none-listed = λ none.
           let n = D .none-listed none in (
             ap (λ (d : Distance). distanceFlat d .listed) (n .0),

@@ -9,7 +9,8 @@ use native.Mathlib.Decide.{decLe}
 use lib.Dec.{eqb}
 use Rattle.layout.specs.Layout.{privileges, recordOf, countOf}
 use Rattle.layout.specs.declared.Record.{Record}
-use Rattle.table.specs.Table.{recordIn, at-in}
+use Rattle.table.specs.Table.{recordIn}
+use Rattle.table.specs.Laws.{at-in}
 
 -- privilege i is the class's
 abbrev pub isOf : List ℕ → ℕ → ℕ → Bool

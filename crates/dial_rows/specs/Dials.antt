@@ -83,11 +83,11 @@ onShared Nothing f = []
 -- ---- data segments
 
 -- 97.221(b): a piece inside each automatic segment, with the rule for these
-abbrev pub automaticAt : Table → Request → ℕ → Range → ℕ → List SafeDial
-automaticAt table q band piece a = onShared (intersectOf piece (spanOf (table .at automatic a))) (pieceRows q band (q .«segments_rule»))
+abbrev pub automaticRowsAt : Table → Request → ℕ → Range → ℕ → List SafeDial
+automaticRowsAt table q band piece a = onShared (intersectOf piece (spanOf (table .at automatic a))) (pieceRows q band (q .«segments_rule»))
 
 unfoldable pub automaticRows : Table → Request → ℕ → Range → List SafeDial
-automaticRows table q band piece = each (table .count automatic) (automaticAt table q band piece)
+automaticRows table q band piece = each (table .count automatic) (automaticRowsAt table q band piece)
 
 -- 97.221: cut to the automatic segments where it applies and 97.221(c) does not help; else whole, with the segment's rule
 abbrev pub cut : Request → Bool
@@ -104,12 +104,12 @@ mayUse q p = eqb (p .class) (q .class) && allowsOf (p .emissions) Data
 unfoldable pub privilegeRows : Table → Request → Segment → Privilege → List SafeDial
 privilegeRows table q s p = cond (mayUse q p) (onShared (intersectOf (s .range) (p .range)) (cutRows table q s)) []
 
-abbrev pub privilegeAt : Table → Request → Segment → ℕ → List SafeDial
-privilegeAt table q s p = privilegeRows table q s (privilegeOf (table .at privileges p))
+abbrev pub privilegeRowsAt : Table → Request → Segment → ℕ → List SafeDial
+privilegeRowsAt table q s p = privilegeRows table q s (privilegeOf (table .at privileges p))
 
 -- each privilege of the class, in table order
 unfoldable pub privilegesRows : Table → Request → Segment → List SafeDial
-privilegesRows table q s = each (table .count privileges) (privilegeAt table q s)
+privilegesRows table q s = each (table .count privileges) (privilegeRowsAt table q s)
 
 -- 97.307(f)(2), (3), (5): the signal is wider than the segment's limit, its own or the general one
 abbrev pub tooWide : Request → Segment → Bool
@@ -124,11 +124,11 @@ unfoldable pub segmentRows : Table → Request → Segment → List SafeDial
 segmentRows table q s = cond (tooWide q s || excludedBand table q s) [] (privilegesRows table q s)
 
 -- 97.305(c): each data segment, in table order
-abbrev pub segmentAt : Table → Request → ℕ → List SafeDial
-segmentAt table q s = segmentRows table q (segmentOf (table .at segments s))
+abbrev pub segmentRowsAt : Table → Request → ℕ → List SafeDial
+segmentRowsAt table q s = segmentRows table q (segmentOf (table .at segments s))
 
 unfoldable pub dataRows : Table → Request → List SafeDial
-dataRows table q = each (table .count segments) (segmentAt table q)
+dataRows table q = each (table .count segments) (segmentRowsAt table q)
 
 -- ---- 60 m channels (97.303(h)(3))
 
@@ -172,12 +172,12 @@ channelSafe c centre =
 unfoldable pub channelRow : Request → Channels → Float → List SafeDial
 channelRow q c centre = cond (channelHolds q c centre) (channelSafe c centre ∷ []) []
 
-abbrev pub channelAt : Table → Request → Channels → ℕ → List SafeDial
-channelAt table q c i = channelRow q c (centreOf (table .at channels i))
+abbrev pub channelRowsAt : Table → Request → Channels → ℕ → List SafeDial
+channelRowsAt table q c i = channelRow q c (centreOf (table .at channels i))
 
 -- every channel, once one is found
 unfoldable pub channelRows : Table → Request → Channels → List SafeDial
-channelRows table q c = each (table .count channels) (channelAt table q c)
+channelRows table q c = each (table .count channels) (channelRowsAt table q c)
 
 unfoldable pub openRows : Table → Request → Channels → List SafeDial
 openRows table q c = cond (channelsOpen q && channelFound table q) (channelRows table q c) []

@@ -19,7 +19,7 @@ use Rattle.profile.specs.declared.Range.{Range}
 use Rattle.profile.specs.declared.Shared.{Shared}
 use Rattle.profile.specs.declared.Shared.the-variants.{Stretch, Nothing}
 use Rattle.profile.specs.declared.DataLimit.{DataLimit}
-use Rattle.scan.specs.First.{and-true}
+use Rattle.scan.specs.Laws.{and-true}
 use Rattle.air.specs.Air.{rfRangeOf, guardedOf, widthOf, dialRangeOf, dialEndsOf}
 use Rattle.air.specs.declared.DialRange.{DialRange}
 use Rattle.air.specs.declared.DialRange.the-variants.{Dials, NoDial}
@@ -35,10 +35,14 @@ use Rattle.table.specs.declared.ChannelBand.{ChannelBand}
 use Rattle.table.specs.declared.ChannelBand.the-variants.{On, NoChannels}
 use Rattle.table.specs.declared.ElsewhereRule.{ElsewhereRule}
 use Rattle.automatic_97_221.specs.Automatic.{appliesOf, elsewhereAllows}
-use Rattle.lists.specs.Each.{Every, each, each-few, every-append, every-each, every-map}
+use Rattle.lists.specs.Each.{each}
+use Rattle.lists.specs.Laws.{Every, each-few, every-append, every-each, every-map}
 use Rattle.rows.specs.Back.{LowNumber}
 use Rattle.rows.specs.declared.SafeDial.{SafeDial}
-use Rattle.dial_rows.specs.Dials.{requestOf, dialRows, pieceRows, onShared, automaticAt, automaticRows, cut, cutRows, mayUse, privilegeRows, privilegeAt, tooWide, excludedBand, privilegesRows, segmentRows, segmentAt, dataRows, channelDial, channelHolds, channelSafe, channelRow, channelAt, channelsOpen, channelFound, channelRows, openRows, bandRows, rowsOf}
+use Rattle.dial_rows.specs.Dials.{requestOf, dialRows, pieceRows, onShared, automaticRowsAt, automaticRows, cut, cutRows}
+use Rattle.dial_rows.specs.Dials.{mayUse, privilegeRows, privilegeRowsAt, tooWide, excludedBand, privilegesRows}
+use Rattle.dial_rows.specs.Dials.{segmentRows, segmentRowsAt, dataRows, channelDial, channelHolds, channelSafe, channelRow}
+use Rattle.dial_rows.specs.Dials.{channelRowsAt, channelsOpen, channelFound, channelRows, openRows, bandRows, rowsOf}
 use Rattle.dial_rows.specs.Apart.{le-number}
 use Rattle.dial_rows.specs.declared.Request.{Request}
 
@@ -64,14 +68,15 @@ shared-few : (s : Shared) (f : Range → List SafeDial) (k : ℕ) → ((r : Rang
 shared-few (Stretch piece) f k h = h piece
 shared-few Nothing f k h = omega arith
 
-automatic-at-few : (l : List ℕ) (q : Request) (band : ℕ) (piece : Range) (a : ℕ) → length (automaticAt (tableOf l) q band piece a) ≤ 1
-automatic-at-few l q band piece a = shared-few (intersectOf piece (spanOf (recordIn l automatic a))) (pieceRows q band (q .«segments_rule»)) 1 (piece-few q band (q .«segments_rule»))
+automatic-at-few : (l : List ℕ) (q : Request) (band : ℕ) (piece : Range) (a : ℕ) → length (automaticRowsAt (tableOf l) q band piece a) ≤ 1
+automatic-at-few l q band piece a = shared-few (intersectOf piece (spanOf (recordIn l automatic a)))
+    (pieceRows q band (q .«segments_rule»)) 1 (piece-few q band (q .«segments_rule»))
 
 automatic-few : (l : List ℕ) → Whole l → (q : Request) (band : ℕ) (piece : Range) → length (automaticRows (tableOf l) q band piece) ≤ 256
 unfolding automaticRows
 automatic-few l w q band piece =
-    let a : length (each (countOf l automatic) (automaticAt (tableOf l) q band piece)) ≤ countOf l automatic * 1 =
-    each-few (countOf l automatic) 1 (automaticAt (tableOf l) q band piece) (automatic-at-few l q band piece) in
+    let a : length (each (countOf l automatic) (automaticRowsAt (tableOf l) q band piece)) ≤ countOf l automatic * 1 =
+    each-few (countOf l automatic) 1 (automaticRowsAt (tableOf l) q band piece) (automatic-at-few l q band piece) in
     let b : countOf l automatic ≤ 256 = w .few automatic (omega arith) in
     omega arith
 
@@ -79,7 +84,8 @@ cut-few : (l : List ℕ) → Whole l → (q : Request) (s : Segment) (piece : Ra
 unfolding cutRows
 cut-few l w q s piece =
     let a : length (pieceRows q (s .band) (s .rule) piece) ≤ 1 = piece-few q (s .band) (s .rule) piece in
-    cond-few (cut q) (automaticRows (tableOf l) q (s .band) piece) (pieceRows q (s .band) (s .rule) piece) 256 (automatic-few l w q (s .band) piece) (omega arith)
+    cond-few (cut q) (automaticRows (tableOf l) q (s .band) piece)
+    (pieceRows q (s .band) (s .rule) piece) 256 (automatic-few l w q (s .band) piece) (omega arith)
 
 privilege-few : (l : List ℕ) → Whole l → (q : Request) (s : Segment) (p : Privilege) → length (privilegeRows (tableOf l) q s p) ≤ 256
 unfolding privilegeRows
@@ -91,8 +97,8 @@ privilege-few l w q s p =
 pub privileges-few : (l : List ℕ) → Whole l → (q : Request) (s : Segment) → length (privilegesRows (tableOf l) q s) ≤ 65536
 unfolding privilegesRows
 privileges-few l w q s =
-    let a : length (each (countOf l privileges) (privilegeAt (tableOf l) q s)) ≤ countOf l privileges * 256 =
-    each-few (countOf l privileges) 256 (privilegeAt (tableOf l) q s) (λ i. privilege-few l w q s (privilegeOf (recordIn l privileges i))) in
+    let a : length (each (countOf l privileges) (privilegeRowsAt (tableOf l) q s)) ≤ countOf l privileges * 256 =
+    each-few (countOf l privileges) 256 (privilegeRowsAt (tableOf l) q s) (λ i. privilege-few l w q s (privilegeOf (recordIn l privileges i))) in
     let b : countOf l privileges ≤ 256 = w .few privileges (omega arith) in
     omega arith
 
@@ -104,8 +110,8 @@ segment-few l w q s =
 pub data-few : (l : List ℕ) → Whole l → (q : Request) → length (dataRows (tableOf l) q) ≤ 16777216
 unfolding dataRows
 data-few l w q =
-    let a : length (each (countOf l segments) (segmentAt (tableOf l) q)) ≤ countOf l segments * 65536 =
-    each-few (countOf l segments) 65536 (segmentAt (tableOf l) q) (λ i. segment-few l w q (segmentOf (recordIn l segments i))) in
+    let a : length (each (countOf l segments) (segmentRowsAt (tableOf l) q)) ≤ countOf l segments * 65536 =
+    each-few (countOf l segments) 65536 (segmentRowsAt (tableOf l) q) (λ i. segment-few l w q (segmentOf (recordIn l segments i))) in
     let b : countOf l segments ≤ 256 = w .few segments (omega arith) in
     omega arith
 
@@ -116,8 +122,8 @@ channel-few q c centre = cond-one (channelHolds q c centre) (channelSafe c centr
 pub band-few : (l : List ℕ) → Whole l → (q : Request) (b : ChannelBand) → length (bandRows (tableOf l) q b) ≤ 256
 unfolding openRows channelRows
 band-few l w q (On c) =
-    let a : length (each (countOf l channels) (channelAt (tableOf l) q c)) ≤ countOf l channels * 1 =
-    each-few (countOf l channels) 1 (channelAt (tableOf l) q c) (λ i. channel-few q c (centreOf (recordIn l channels i))) in
+    let a : length (each (countOf l channels) (channelRowsAt (tableOf l) q c)) ≤ countOf l channels * 1 =
+    each-few (countOf l channels) 1 (channelRowsAt (tableOf l) q c) (λ i. channel-few q c (centreOf (recordIn l channels i))) in
     let b : countOf l channels ≤ 256 = w .few channels (omega arith) in
     cond-few (channelsOpen q && channelFound (tableOf l) q) (channelRows (tableOf l) q c) [] 256 (omega arith) (omega arith)
 band-few l w q NoChannels = omega arith
@@ -142,8 +148,14 @@ cond-fit true xs ys p q = p
 cond-fit false xs ys p q = q
 
 pub ends-fit : (piece : Range) (s : Sideband) (audio : Range) (margin : Float) → RangeFits (dialEndsOf piece s audio margin)
-ends-fit piece Usb audio margin = (add-fits binary64 (sub binary64 (piece .«low_hz») (audio .«low_hz»)) margin, sub-fits binary64 (sub binary64 (piece .«high_hz») (audio .«high_hz»)) margin)
-ends-fit piece Lsb audio margin = (add-fits binary64 (add binary64 (piece .«low_hz») (audio .«high_hz»)) margin, sub-fits binary64 (add binary64 (piece .«high_hz») (audio .«low_hz»)) margin)
+ends-fit piece Usb audio margin = (
+  add-fits binary64 (sub binary64 (piece .«low_hz») (audio .«low_hz»)) margin,
+  sub-fits binary64 (sub binary64 (piece .«high_hz») (audio .«high_hz»)) margin,
+)
+ends-fit piece Lsb audio margin = (
+  add-fits binary64 (add binary64 (piece .«low_hz») (audio .«high_hz»)) margin,
+  sub-fits binary64 (add binary64 (piece .«high_hz») (audio .«low_hz»)) margin,
+)
 
 dial-fit :
     (band rule : ℕ) (piece : Range) (ends : Range) (b : Bool) → RangeFits ends → (b ≡ true → isNan (ends .«low_hz») ≡ false)
@@ -166,7 +178,7 @@ shared-fit Nothing f h = tt
 automatic-fit : (l : List ℕ) (q : Request) (band : ℕ) (piece : Range) → Every DialsFit (automaticRows (tableOf l) q band piece)
 unfolding automaticRows
 automatic-fit l q band piece =
-    every-each DialsFit (countOf l automatic) (automaticAt (tableOf l) q band piece)
+    every-each DialsFit (countOf l automatic) (automaticRowsAt (tableOf l) q band piece)
     (λ a. shared-fit (intersectOf piece (spanOf (recordIn l automatic a))) (pieceRows q band (q .«segments_rule»)) (piece-fit q band (q .«segments_rule»)))
 
 cut-fit : (l : List ℕ) (q : Request) (s : Segment) (piece : Range) → Every DialsFit (cutRows (tableOf l) q s piece)
@@ -187,11 +199,11 @@ segment-fit : (l : List ℕ) (q : Request) (s : Segment) → Every DialsFit (seg
 unfolding segmentRows privilegesRows
 segment-fit l q s =
     cond-fit (tooWide q s || excludedBand (tableOf l) q s) [] (privilegesRows (tableOf l) q s) tt
-    (every-each DialsFit (countOf l privileges) (privilegeAt (tableOf l) q s) (λ p. privilege-fit l q s (privilegeOf (recordIn l privileges p))))
+    (every-each DialsFit (countOf l privileges) (privilegeRowsAt (tableOf l) q s) (λ p. privilege-fit l q s (privilegeOf (recordIn l privileges p))))
 
 data-fit : (l : List ℕ) (q : Request) → Every DialsFit (dataRows (tableOf l) q)
 unfolding dataRows
-data-fit l q = every-each DialsFit (countOf l segments) (segmentAt (tableOf l) q) (λ s. segment-fit l q (segmentOf (recordIn l segments s)))
+data-fit l q = every-each DialsFit (countOf l segments) (segmentRowsAt (tableOf l) q) (λ s. segment-fit l q (segmentOf (recordIn l segments s)))
 
 one-fit : (b : Bool) (x : SafeDial) → (b ≡ true → DialsFit x) → Every DialsFit (cond b (x ∷ []) [])
 one-fit true x h = (h refl, tt)
@@ -218,7 +230,7 @@ band-fit : (l : List ℕ) (q : Request) (b : ChannelBand) → Every DialsFit (ba
 unfolding openRows channelRows
 band-fit l q (On c) =
     cond-fit (channelsOpen q && channelFound (tableOf l) q) (channelRows (tableOf l) q c) []
-    (every-each DialsFit (countOf l channels) (channelAt (tableOf l) q c) (λ i. channel-fit q c (centreOf (recordIn l channels i))))
+    (every-each DialsFit (countOf l channels) (channelRowsAt (tableOf l) q c) (λ i. channel-fit q c (centreOf (recordIn l channels i))))
     tt
 band-fit l q NoChannels = tt
 

@@ -9,7 +9,8 @@ use native.Mathlib.Decide.{decLe}
 use lib.Dec.{eqb, ltb}
 use lib.ListN.{length}
 use borrow.Author.Tests.{lt-ltb, le-ltb}
-use Rattle.lists.specs.Each.{each, each-bare}
+use Rattle.lists.specs.Each.{each}
+use Rattle.lists.specs.Laws.{each-bare}
 use Rattle.lists.specs.From.{from, from-all, from-each, from-row, from-skip, from-end}
 use Rattle.lists.specs.From.{resume, resume-row, resume-bare, resume-from, resume-over}
 use Rattle.codes.specs.declared.EmissionKind.the-variants.{Data}
@@ -18,10 +19,12 @@ use Rattle.profile.specs.Range.{intersectOf}
 use Rattle.profile.specs.declared.Range.{Range}
 use Rattle.profile.specs.declared.Shared.{Shared}
 use Rattle.profile.specs.declared.Shared.the-variants.{Stretch, Nothing}
-use Rattle.layout.specs.Form.{Whole, table-within}
+use Rattle.layout.specs.Form.{Whole}
+use Rattle.layout.specs.Laws.{table-within}
 use Rattle.layout.specs.Layout.{recordSize, trailerSize, segments, channels, privileges, automatic, recordAt, countOf, startOf}
 use Rattle.layout.specs.declared.Record.{Record}
-use Rattle.table.specs.Table.{Table, recordIn, tableOf, read-in}
+use Rattle.table.specs.Table.{Table, recordIn, tableOf}
+use Rattle.table.specs.Laws.{read-in}
 use Rattle.table.specs.Parts.{spanOf, segmentOf, privilegeOf}
 use Rattle.table.specs.declared.Segment.{Segment}
 use Rattle.table.specs.declared.Privilege.{Privilege}
@@ -29,7 +32,9 @@ use Rattle.table.specs.declared.Channels.{Channels}
 use Rattle.table.specs.declared.ChannelBand.{ChannelBand}
 use Rattle.table.specs.declared.ChannelBand.the-variants.{On, NoChannels}
 use Rattle.rows.specs.declared.SafeDial.{SafeDial}
-use Rattle.dial_rows.specs.Dials.{pieceRows, onShared, automaticAt, automaticRows, cut, cutRows, mayUse, privilegeRows, privilegeAt, privilegesRows, tooWide, excludedBand, segmentRows, segmentAt, dataRows, channelAt, channelRows, channelsOpen, channelFound, openRows, bandRows}
+use Rattle.dial_rows.specs.Dials.{pieceRows, onShared, automaticRowsAt, automaticRows, cut, cutRows, mayUse, privilegeRows}
+use Rattle.dial_rows.specs.Dials.{privilegeRowsAt, privilegesRows, tooWide, excludedBand, segmentRows, segmentRowsAt}
+use Rattle.dial_rows.specs.Dials.{dataRows, channelRowsAt, channelRows, channelsOpen, channelFound, openRows, bandRows}
 use Rattle.dial_rows.specs.Class.{isOf, Ahead, Past}
 use Rattle.dial_rows.specs.declared.Request.{Request}
 use Rattle.dial_rows.specs.declared.Search.{Search}
@@ -66,7 +71,7 @@ abbrev pub automaticIn : Request → ℕ → Range → Record → List SafeDial
 automaticIn q band piece r = onShared (intersectOf piece (spanOf r)) (pieceRows q band (q .«segments_rule»))
 
 abbrev pub cutAt : Table → Request → Segment → Range → ℕ → List SafeDial
-cutAt table q s piece k = cond (cut q) (automaticAt table q (s .band) piece k) (pieceRows q (s .band) (s .rule) piece)
+cutAt table q s piece k = cond (cut q) (automaticRowsAt table q (s .band) piece k) (pieceRows q (s .band) (s .rule) piece)
 
 unfoldable pub cutsFrom : Table → Request → Segment → Range → ℕ → List SafeDial
 cutsFrom table q s piece k = from (cuts table q) (cutAt table q s piece) k
@@ -86,7 +91,7 @@ spotOf i k = record { privilege = i; cut = k }
 
 unfoldable pub privilegesFrom : Table → Request → Segment → Spot → List SafeDial
 privilegesFrom table q s spot =
-    resume (table .count privileges) (privilegeAt table q s) (privilegeFromAt table q s) (spot .privilege) (spot .cut)
+    resume (table .count privileges) (privilegeRowsAt table q s) (privilegeFromAt table q s) (spot .privilege) (spot .cut)
 
 -- the place behind a row of privilege i whose next cut is k
 abbrev pub behindOf : ℕ → ℕ → ℕ → Spot
@@ -102,7 +107,7 @@ channelCount table q (On c) = cond (channelsOpen q && channelFound table q) (tab
 channelCount table q NoChannels = 0
 
 abbrev pub channelsFrom : Table → Request → Channels → ℕ → ℕ → List SafeDial
-channelsFrom table q c n k = from n (channelAt table q c) k
+channelsFrom table q c n k = from n (channelRowsAt table q c) k
 
 -- ---- what a search knows
 
@@ -140,7 +145,7 @@ cuts-by false n f xs = from-all 1 (λ k. xs)
 cuts-all : (table : Table) (q : Request) (s : Segment) (piece : Range) → cutsFrom table q s piece 0 ≡ cutRows table q s piece
 unfolding cutsFrom cutRows automaticRows
 cuts-all table q s piece =
-    cuts-by (cut q) (table .count automatic) (automaticAt table q (s .band) piece) (pieceRows q (s .band) (s .rule) piece)
+    cuts-by (cut q) (table .count automatic) (automaticRowsAt table q (s .band) piece) (pieceRows q (s .band) (s .rule) piece)
 
 shared-same : (x : Shared) (f g : Range → List SafeDial) → ((r : Range) → f r ≡ g r) → onShared x f ≡ onShared x g
 shared-same (Stretch r) f g h = h r
@@ -174,12 +179,12 @@ module _ (l : List ℕ) (q : Request) (w : Search) (h : Known l q w) where
     cut-in k m e =
         ap (automaticIn q (s .band) piece)
         (read-in l automatic k (w .automatic) (recordAt l (w .automatic + recordSize * k)) (omega arith) (cut-below k m e) (h .automatic-from) refl)
-        ∙ ap (λ (b : Bool). cond b (automaticAt (tableOf l) q (s .band) piece k) (pieceRows q (s .band) (s .rule) piece))
+        ∙ ap (λ (b : Bool). cond b (automaticRowsAt (tableOf l) q (s .band) piece k) (pieceRows q (s .band) (s .rule) piece))
         (sym (sym (h .is-cut) ∙ e))
 
     pub cut-whole : (k : ℕ) → w .cut ≡ false → pieceRows q (s .band) (s .rule) piece ≡ cutAt (tableOf l) q s piece k
     cut-whole k e =
-        ap (λ (b : Bool). cond b (automaticAt (tableOf l) q (s .band) piece k) (pieceRows q (s .band) (s .rule) piece))
+        ap (λ (b : Bool). cond b (automaticRowsAt (tableOf l) q (s .band) piece k) (pieceRows q (s .band) (s .rule) piece))
         (sym (sym (h .is-cut) ∙ e))
 
     pub cuts-row :
@@ -240,7 +245,7 @@ module _ (table : Table) (q : Request) (s : Segment) where
       ap (λ (b : Bool). cond b (onShared (intersectOf (s .range) (p .range)) (λ r. cutsFrom table q s r k)) []) e
       ∙ ap (λ (x : Shared). onShared x (λ r. cutsFrom table q s r k)) f
 
-  begun : (i : ℕ) → i < table .count privileges → privilegeFromAt table q s i 0 ≡ privilegeAt table q s i
+  begun : (i : ℕ) → i < table .count privileges → privilegeFromAt table q s i 0 ≡ privilegeRowsAt table q s i
   begun i h = privilege-all table q s (privilegeOf (table .at privileges i))
 
   pub privileges-over :
@@ -248,14 +253,14 @@ module _ (table : Table) (q : Request) (s : Segment) where
       → privilegesFrom table q s (spotOf i k) ≡ privilegesFrom table q s (spotOf (i + 1) 0)
   unfolding privilegesFrom
   privileges-over i k h e =
-      resume-over (table .count privileges) (privilegeAt table q s) (privilegeFromAt table q s) 0 begun i k h e
+      resume-over (table .count privileges) (privilegeRowsAt table q s) (privilegeFromAt table q s) 0 begun i k h e
 
   pub privileges-row :
       (i k k' : ℕ) (x : SafeDial) → i < table .count privileges → privilegeFromAt table q s i k ≡ x ∷ privilegeFromAt table q s i k'
       → privilegesFrom table q s (spotOf i k) ≡ x ∷ privilegesFrom table q s (behindOf (cuts table q) i k')
   unfolding privilegesFrom
   privileges-row i k k' x h e =
-      resume-row (table .count privileges) (privilegeAt table q s) (privilegeFromAt table q s) i k k' x h e
+      resume-row (table .count privileges) (privilegeRowsAt table q s) (privilegeFromAt table q s) i k k' x h e
       ∙ ap (λ (xs : List SafeDial). x ∷ xs) (go (decLe (suc k') (cuts table q)))
     where
       go : Dec (suc k' ≤ cuts table q) → privilegesFrom table q s (spotOf i k') ≡ privilegesFrom table q s (behindOf (cuts table q) i k')
@@ -266,25 +271,25 @@ module _ (table : Table) (q : Request) (s : Segment) where
           (sym (le-ltb k' (cuts table q) (omega arith)))
 
 module _ (l : List ℕ) (q : Request) (s : Segment) where
-  class-none : (i : ℕ) → isOf l (q .class) i ≡ false → privilegeAt (tableOf l) q s i ≡ []
+  class-none : (i : ℕ) → isOf l (q .class) i ≡ false → privilegeRowsAt (tableOf l) q s i ≡ []
   class-none i e =
       sym (privilege-all (tableOf l) q s (privilegeOf (recordIn l privileges i))) ∙ other-class (tableOf l) q s (recordIn l privileges i) 0 e
 
   pub privileges-end : (end i k : ℕ) → Past l (q .class) end → end ≤ i → privilegesFrom (tableOf l) q s (spotOf i k) ≡ []
   unfolding privilegesFrom
   privileges-end end i k p h =
-      resume-bare (countOf l privileges) (privilegeAt (tableOf l) q s) (privilegeFromAt (tableOf l) q s) i k
+      resume-bare (countOf l privileges) (privilegeRowsAt (tableOf l) q s) (privilegeFromAt (tableOf l) q s) i k
       (λ b. other-class (tableOf l) q s (recordIn l privileges i) k (p .none i h b))
       (λ j a b. class-none j (p .none j (omega arith) b))
 
   pub privileges-all : (first : ℕ) → Ahead l (q .class) first → privilegesFrom (tableOf l) q s (spotOf first 0) ≡ privilegesRows (tableOf l) q s
   unfolding privilegesFrom privilegesRows
   privileges-all first a =
-      resume-from (countOf l privileges) (privilegeAt (tableOf l) q s) (privilegeFromAt (tableOf l) q s) 0 (begun (tableOf l) q s) first
+      resume-from (countOf l privileges) (privilegeRowsAt (tableOf l) q s) (privilegeFromAt (tableOf l) q s) 0 (begun (tableOf l) q s) first
       ∙ sym
-      (from-each (countOf l privileges) first (privilegeAt (tableOf l) q s) (a .within)
-      ∙ ap (λ (xs : List SafeDial). xs ++ from (countOf l privileges) (privilegeAt (tableOf l) q s) first)
-      (each-bare first (privilegeAt (tableOf l) q s) (λ i h. class-none i (a .none i h))))
+      (from-each (countOf l privileges) first (privilegeRowsAt (tableOf l) q s) (a .within)
+      ∙ ap (λ (xs : List SafeDial). xs ++ from (countOf l privileges) (privilegeRowsAt (tableOf l) q s) first)
+      (each-bare first (privilegeRowsAt (tableOf l) q s) (λ i h. class-none i (a .none i h))))
 
   -- ---- a segment
 
@@ -342,14 +347,14 @@ module _ (l : List ℕ) (q : Request) (w : Search) (h : Known l q w) (i : ℕ) (
   segment-placed = omega (arith, segment-below, table-within l (h .whole) segments (omega arith), h .segments-from)
 
   -- the segment that begins at its place
-  pub segment-read : (r : Record) → r ≡ recordAt l (w .segments + recordSize * i) → segmentRows (tableOf l) q (segmentOf r) ≡ segmentAt (tableOf l) q i
+  pub segment-read : (r : Record) → r ≡ recordAt l (w .segments + recordSize * i) → segmentRows (tableOf l) q (segmentOf r) ≡ segmentRowsAt (tableOf l) q i
   segment-read r e =
       ap (λ (x : Record). segmentRows (tableOf l) q (segmentOf x))
       (read-in l segments i (w .segments) r (omega arith) segment-below (h .segments-from) e)
 
-pub data-all : (l : List ℕ) (q : Request) (w : Search) → Known l q w → from (w .«segment_count») (segmentAt (tableOf l) q) 0 ≡ dataRows (tableOf l) q
+pub data-all : (l : List ℕ) (q : Request) (w : Search) → Known l q w → from (w .«segment_count») (segmentRowsAt (tableOf l) q) 0 ≡ dataRows (tableOf l) q
 unfolding dataRows
-data-all l q w h = ap (λ (n : ℕ). from n (segmentAt (tableOf l) q) 0) (h .segment-count) ∙ from-all (countOf l segments) (segmentAt (tableOf l) q)
+data-all l q w h = ap (λ (n : ℕ). from n (segmentRowsAt (tableOf l) q) 0) (h .segment-count) ∙ from-all (countOf l segments) (segmentRowsAt (tableOf l) q)
 
 -- ---- channel by channel
 
@@ -378,4 +383,4 @@ count-most table q NoChannels n e = omega arith
 pub band-all :
     (table : Table) (q : Request) (c : Channels) → channelsFrom table q c (channelCount table q (On c)) 0 ≡ bandRows table q (On c)
 unfolding openRows channelRows
-band-all table q c = open-by (channelsOpen q && channelFound table q) (table .count channels) (channelAt table q c)
+band-all table q c = open-by (channelsOpen q && channelFound table q) (table .count channels) (channelRowsAt table q c)

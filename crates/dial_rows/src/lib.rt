@@ -319,7 +319,8 @@ fn behind(w: Search, privilege: usize, k: usize) -> Spot
 // The first row of a segment's record under the privileges from a place on.
 pub fn privileges_from(image: &[u8], q: Request, w: Search, r: Record, spot: Spot) -> SegmentRow
     requires { ⌜ Known (now image) q w ⌝ }
-    ensures { λ a. ⌜ privilegesFrom (tableOf (now (image .entry))) q (segmentOf r) spot ≡ segmentNext (privilegesFrom (tableOf (now (image .entry))) q (segmentOf r)) a ⌝ }
+    ensures { λ a. ⌜ privilegesFrom (tableOf (now (image .entry))) q (segmentOf r) spot
+        ≡ segmentNext (privilegesFrom (tableOf (now (image .entry))) q (segmentOf r)) a ⌝ }
 {
     let mut i = spot.privilege;
     let mut from = spot.cut;
@@ -456,7 +457,8 @@ fn channel_row(q: Request, c: Channels, center_hz: f64) -> Arise
 // The first row of the channels from one on, and the channel after it; or no row.
 pub fn channels_from(image: &[u8], q: Request, w: Search, c: Channels, from: usize) -> CutRow
     requires { ⌜ Known (now image) q w ⌝ }
-    ensures { λ a. ⌜ channelsFrom (tableOf (now (image .entry))) q c (w .«channel_count») from ≡ cutNext (channelsFrom (tableOf (now (image .entry))) q c (w .«channel_count»)) a ⌝ }
+    ensures { λ a. ⌜ channelsFrom (tableOf (now (image .entry))) q c (w .«channel_count») from
+        ≡ cutNext (channelsFrom (tableOf (now (image .entry))) q c (w .«channel_count»)) a ⌝ }
 {
     let mut i = from;
     while i < w.channel_count {

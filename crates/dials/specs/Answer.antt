@@ -8,7 +8,8 @@ use lib.ListN.{length, getD, set, take, drop, length-set}
 use lib.Seq.{length-take-le, drop-length, take-at, paste, paste-zero, paste-suc}
 use borrow.Author.Tests.{lt-ltb, le-ltb}
 use Rattle.codes.specs.Read.{directionValid, directionOf}
-use Rattle.codes.specs.Refusal.{Test, test, refusalOf, refusal-next, refusal-stays}
+use Rattle.codes.specs.Refusal.{Test, test, refusalOf}
+use Rattle.codes.specs.Laws.{refusal-next, refusal-stays}
 use Rattle.codes.specs.declared.LicenseClass.{LicenseClass}
 use Rattle.codes.specs.declared.Sideband.{Sideband}
 use Rattle.codes.specs.declared.ControlMode.{ControlMode}
@@ -24,13 +25,14 @@ use Rattle.station.specs.declared.StationRecord.{StationRecord}
 use Rattle.station.specs.declared.Situation.{Situation}
 use Rattle.table.specs.Table.{Table, tableOf}
 use Rattle.entry.specs.Entry.{entryTests, entryOf, edgesValid, edgesRead}
-use Rattle.lists.specs.Each.{Every}
+use Rattle.lists.specs.Laws.{Every}
 use Rattle.rows.specs.Rows.{rowSize, insertAll, sorted, encodeAll}
 use Rattle.rows.specs.Pour.{pour}
 use Rattle.rows.specs.Back.{LowNumber, length-encode, pour-all}
 use Rattle.rows.specs.Order.{length-sorted}
 use Rattle.rows.specs.declared.SafeDial.{SafeDial}
-use Rattle.dials.specs.List.{withSideband, withLicense, withControl, knownRows, situationRows, listRows, lentTests, listTests, Listed, Begun, Filled, SafeDials}
+use Rattle.dials.specs.List.{rowsWithSideband, rowsWithLicense, rowsWithControl, knownRows, situationRows}
+use Rattle.dials.specs.List.{listRows, lentTests, listTests, Listed, Begun, Filled, SafeDials}
 use Rattle.dials.specs.declared.DialList.{DialList}
 use Rattle.dials.specs.declared.DialList.the-variants.{Rows, Refused as NoList}
 
@@ -107,39 +109,41 @@ module _ (table : Table) (s : Situation) (d : Direction) (e : Edges) where
   unfolding situationRows
   no-sideband p =
       ap
-      (λ x. withSideband x
-      (λ sideband. withLicense (s .license)
-      (λ license. withControl (s .control)
+      (λ x. rowsWithSideband x
+      (λ sideband. rowsWithLicense (s .license)
+      (λ license. rowsWithControl (s .control)
       (λ control. knownRows table s d e sideband license control)))) p
 
   with-sideband :
       (x : Sideband) → s .sideband ≡ SidebandIs x
-      → situationRows table s d e ≡ withLicense (s .license) (λ license. withControl (s .control) (λ control. knownRows table s d e x license control))
+      → situationRows table s d e ≡ rowsWithLicense (s .license) (λ license. rowsWithControl (s .control) (λ control. knownRows table s d e x license control))
   unfolding situationRows
   with-sideband x p =
       ap
-      (λ y. withSideband y
-      (λ sideband. withLicense (s .license)
-      (λ license. withControl (s .control)
+      (λ y. rowsWithSideband y
+      (λ sideband. rowsWithLicense (s .license)
+      (λ license. rowsWithControl (s .control)
       (λ control. knownRows table s d e sideband license control)))) p
 
   pub no-license : (x : Sideband) → s .sideband ≡ SidebandIs x → s .license ≡ NoLicense → situationRows table s d e ≡ []
-  no-license x p q = with-sideband x p ∙ ap (λ y. withLicense y (λ license. withControl (s .control) (λ control. knownRows table s d e x license control))) q
+  no-license x p q = with-sideband x p
+      ∙ ap (λ y. rowsWithLicense y (λ license. rowsWithControl (s .control) (λ control. knownRows table s d e x license control))) q
 
   with-license :
       (x : Sideband) (c : LicenseClass) → s .sideband ≡ SidebandIs x → s .license ≡ LicenseIs c
-      → situationRows table s d e ≡ withControl (s .control) (λ control. knownRows table s d e x c control)
-  with-license x c p q = with-sideband x p ∙ ap (λ y. withLicense y (λ license. withControl (s .control) (λ control. knownRows table s d e x license control))) q
+      → situationRows table s d e ≡ rowsWithControl (s .control) (λ control. knownRows table s d e x c control)
+  with-license x c p q = with-sideband x p
+      ∙ ap (λ y. rowsWithLicense y (λ license. rowsWithControl (s .control) (λ control. knownRows table s d e x license control))) q
 
   pub no-control :
       (x : Sideband) (c : LicenseClass) → s .sideband ≡ SidebandIs x → s .license ≡ LicenseIs c → s .control ≡ NoControl
       → situationRows table s d e ≡ []
-  no-control x c p q r = with-license x c p q ∙ ap (λ y. withControl y (λ control. knownRows table s d e x c control)) r
+  no-control x c p q r = with-license x c p q ∙ ap (λ y. rowsWithControl y (λ control. knownRows table s d e x c control)) r
 
   pub all-known :
       (x : Sideband) (c : LicenseClass) (m : ControlMode) → s .sideband ≡ SidebandIs x → s .license ≡ LicenseIs c → s .control ≡ ControlIs m
       → situationRows table s d e ≡ knownRows table s d e x c m
-  all-known x c m p q r = with-license x c p q ∙ ap (λ y. withControl y (λ control. knownRows table s d e x c control)) r
+  all-known x c m p q r = with-license x c p q ∙ ap (λ y. rowsWithControl y (λ control. knownRows table s d e x c control)) r
 
 pub filled-empty : (xs : List SafeDial) (lent : List ℕ) → xs ≡ [] → Filled xs lent lent (Rows 0)
 filled-empty xs lent e = rw e (filled-none lent)

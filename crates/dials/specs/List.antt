@@ -34,17 +34,17 @@ use Rattle.dials.specs.declared.DialList.{DialList}
 use Rattle.dials.specs.declared.DialList.the-variants.{Rows, Refused as NoList}
 
 -- without sideband, licence or control the Rust lists nothing, and refuses nothing
-abbrev pub withSideband : SidebandSet → (Sideband → List SafeDial) → List SafeDial
-withSideband (SidebandIs s) f = f s
-withSideband NoSideband f = []
+abbrev pub rowsWithSideband : SidebandSet → (Sideband → List SafeDial) → List SafeDial
+rowsWithSideband (SidebandIs s) f = f s
+rowsWithSideband NoSideband f = []
 
-abbrev pub withLicense : License → (LicenseClass → List SafeDial) → List SafeDial
-withLicense (LicenseIs c) f = f c
-withLicense NoLicense f = []
+abbrev pub rowsWithLicense : License → (LicenseClass → List SafeDial) → List SafeDial
+rowsWithLicense (LicenseIs c) f = f c
+rowsWithLicense NoLicense f = []
 
-abbrev pub withControl : Control → (ControlMode → List SafeDial) → List SafeDial
-withControl (ControlIs c) f = f c
-withControl NoControl f = []
+abbrev pub rowsWithControl : Control → (ControlMode → List SafeDial) → List SafeDial
+rowsWithControl (ControlIs c) f = f c
+rowsWithControl NoControl f = []
 
 -- the rows for a station as it is read, and edges as they are read
 abbrev pub knownRows : Table → Situation → Direction → Edges → Sideband → LicenseClass → ControlMode → List SafeDial
@@ -53,9 +53,9 @@ knownRows table s direction e sideband license control =
 
 unfoldable pub situationRows : Table → Situation → Direction → Edges → List SafeDial
 situationRows table s direction e =
-    withSideband (s .sideband)
-    (λ sideband. withLicense (s .license)
-    (λ license. withControl (s .control)
+    rowsWithSideband (s .sideband)
+    (λ sideband. rowsWithLicense (s .license)
+    (λ license. rowsWithControl (s .control)
     (λ control. knownRows table s direction e sideband license control)))
 
 -- the rows of the list, before they are sorted. Without Rules there are none: "Images are read only under Rules."

@@ -153,7 +153,8 @@ fn channel_rows(
 // Every row; and their count.
 fn gather(image: &[u8], rows: &mut [u8], q: Request, w: Search, band: ChannelBand) -> usize
     requires { ⌜ Searched (now image) q band w ⌝ }
-    ensures { λ r. ⌜ Poured (now (rows .entry)) 0 (now (rows .exit)) r (dataRows (tableOf (now (image .entry))) q ++ bandRows (tableOf (now (image .entry))) q band) ⌝ }
+    ensures { λ r. ⌜ Poured (now (rows .entry)) 0 (now (rows .exit)) r
+        (dataRows (tableOf (now (image .entry))) q ++ bandRows (tableOf (now (image .entry))) q band) ⌝ }
 {
     let n = data_rows(image, rows, q, w);
     match band {
@@ -172,8 +173,11 @@ fn settle(
     own: &[u8],
     count: usize,
 )
-    requires { ⌜ (Searched (now image) q band w) × (Begun (dataRows (tableOf (now image)) q ++ bandRows (tableOf (now image)) q band) (now own)) × (count ≡ length (dataRows (tableOf (now image)) q ++ bandRows (tableOf (now image)) q band)) × (count * 36 ≤ length (now rows)) ⌝ }
-    ensures { λ r. ⌜ now (rows .exit) ≡ encodeAll (sorted (dataRows (tableOf (now (image .entry))) q ++ bandRows (tableOf (now (image .entry))) q band)) ++ drop (count * 36) (now (rows .entry)) ⌝ }
+    requires { ⌜ (Searched (now image) q band w)
+        × (Begun (dataRows (tableOf (now image)) q ++ bandRows (tableOf (now image)) q band) (now own)) × (count
+        ≡ length (dataRows (tableOf (now image)) q ++ bandRows (tableOf (now image)) q band)) × (count * 36 ≤ length (now rows)) ⌝ }
+    ensures { λ r. ⌜ now (rows .exit) ≡ encodeAll (sorted (dataRows (tableOf (now (image .entry))) q
+        ++ bandRows (tableOf (now (image .entry))) q band)) ++ drop (count * 36) (now (rows .entry)) ⌝ }
 {
     let room = count * rows::ROW_SIZE;
     if room <= own.len() {
@@ -193,7 +197,8 @@ fn fill_from(
     band: ChannelBand,
 ) -> DialList
     requires { ⌜ Searched (now image) q band w ⌝ }
-    ensures { λ a. ⌜ Filled (dataRows (tableOf (now (image .entry))) q ++ bandRows (tableOf (now (image .entry))) q band) (now (rows .entry)) (now (rows .exit)) a ⌝ }
+    ensures { λ a. ⌜ Filled (dataRows (tableOf (now (image .entry))) q ++ bandRows (tableOf (now (image .entry))) q band)
+        (now (rows .entry)) (now (rows .exit)) a ⌝ }
 {
     let count = gather(image, own, q, w, band);
     if rows.len() / rows::ROW_SIZE < count {
@@ -206,7 +211,8 @@ fn fill_from(
 // The same with bytes made for it.
 fn fill(image: &[u8], rows: &mut [u8], q: Request, band: ChannelBand) -> DialList
     requires { ⌜ Whole (now image) ⌝ }
-    ensures { λ a. ⌜ Filled (dataRows (tableOf (now (image .entry))) q ++ bandRows (tableOf (now (image .entry))) q band) (now (rows .entry)) (now (rows .exit)) a ⌝ }
+    ensures { λ a. ⌜ Filled (dataRows (tableOf (now (image .entry))) q ++ bandRows (tableOf (now (image .entry))) q band)
+        (now (rows .entry)) (now (rows .exit)) a ⌝ }
 {
     let w = dial_rows::search_of(image, q, band);
     let mut own = [0u8; OWN];

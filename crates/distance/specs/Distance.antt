@@ -1,11 +1,9 @@
 -- "The distance of a dial is asked of a finished dial list: the least, over rows whose band byte isn't the channel band's number (all rows if
 -- flag bit 2 is clear), of how far the dial stands below the row's lower dial or above its upper, 0 on or between them. With no such row
 -- the answer is 'none listed'."
-use Prim.Native.Nat.{ℕ, zero, suc, _+_, _*_, _/_}
+use Prim.Native.Nat.{ℕ, zero, suc, _*_, _/_}
 use mathlib.Core.Bool.{Bool, not, cond, _&&_}
 use mathlib.Core.List.{List, [], _∷_}
-use mathlib.Core.Path.{_≡_, refl}
-use native.Mathlib.Numerals.{add-one}
 use lib.Dec.{eqb, ltb}
 use lib.ListN.{length}
 use lib.Ieee.{Float, binary64, sub, lt, le}
@@ -14,7 +12,7 @@ use Rattle.codes.specs.Code.{bitOf}
 use Rattle.codes.specs.Refusal.{Test, test, refusalOf}
 use Rattle.codes.specs.declared.Checked.{Checked}
 use Rattle.codes.specs.declared.Checked.the-variants.{Accepted, Refused}
-use Rattle.rows.specs.Rows.{rowSize, lowAt, highAt, bandAt}
+use Rattle.rows.specs.Rows.{rowSize, lowAt, highAt, rowBand}
 use Rattle.distance.specs.declared.Distance.{Distance}
 use Rattle.distance.specs.declared.Distance.the-variants.{Hertz, NoneListed, Refused as NoAnswer}
 
@@ -39,7 +37,7 @@ nearerOf (NoAnswer n) by = NoAnswer n
 -- the row at a place taken in
 unfoldable pub consideredAt : Float → ℕ → ℕ → List ℕ → Distance → ℕ → Distance
 consideredAt dial flags channel rows best at =
-    cond (counts flags channel (bandAt rows at) (lowAt rows at) (highAt rows at))
+    cond (counts flags channel (rowBand rows at) (lowAt rows at) (highAt rows at))
     (nearerOf best (distanceTo dial (lowAt rows at) (highAt rows at)))
     best
 
@@ -53,19 +51,11 @@ abbrev pub distanceTests : Float → ℕ → List ℕ → List Test
 distanceTests dial count rows =
     test 21 (not (inSize limit40 dial)) ∷ test 23 (ltb (length rows / rowSize) count) ∷ []
 
-abbrev pub unlessRefused : Checked → Distance → Distance
-unlessRefused Accepted d = d
-unlessRefused (Refused n) d = NoAnswer n
+abbrev pub distanceUnlessRefused : Checked → Distance → Distance
+distanceUnlessRefused Accepted d = d
+distanceUnlessRefused (Refused n) d = NoAnswer n
 
 -- the distance of a dial from the first count rows; a dial of negative zero reads as zero
 unfoldable pub distanceOf : Float → ℕ → ℕ → ℕ → List ℕ → Distance
 distanceOf dial flags channel count rows =
-    unlessRefused (refusalOf (distanceTests dial count rows)) (leastUpTo (readHz dial) flags channel rows count)
-
--- ---- one row more
-
-pub least-more :
-    (dial : Float) (flags channel : ℕ) (rows : List ℕ) (n : ℕ)
-    → leastUpTo dial flags channel rows (n + 1) ≡ consideredAt dial flags channel rows (leastUpTo dial flags channel rows n) (n * rowSize)
-unfolding leastUpTo
-least-more dial flags channel rows n = rw add-one
+    distanceUnlessRefused (refusalOf (distanceTests dial count rows)) (leastUpTo (readHz dial) flags channel rows count)

@@ -2,7 +2,7 @@
 ghost use mathlib.Core.Path.{_≡_};
 ghost use Prim.Native.Nat.{_+_, _*_, _≤_};
 ghost use lib.ListN.{length};
-ghost use Rattle.rows.specs.Rows.{lowAt, highAt, bandAt};
+ghost use Rattle.rows.specs.Rows.{lowAt, highAt, rowBand};
 ghost use Rattle.distance.specs.Distance.{isOutside, distanceTo, counts, nearerOf, consideredAt, leastUpTo, distanceOf};
 
 // How far a dial stands from the nearest row outside the channel band, that there is no such row, or the number of the refusal.
@@ -25,7 +25,7 @@ fn is_outside(flags: u8, channel_band: u8, band: u8) -> bool
 // Whether a row outside the channel band begins at a place.
 fn row_counts(rows: &[u8], at: usize, flags: u8, channel_band: u8) -> bool
     requires { ⌜ at + 36 ≤ length (now rows) ⌝ }
-    ensures { λ r. ⌜ r ≡ counts flags «channel_band» (bandAt (now (rows .entry)) at) (lowAt (now (rows .entry)) at) (highAt (now (rows .entry)) at) ⌝ }
+    ensures { λ r. ⌜ r ≡ counts flags «channel_band» (rowBand (now (rows .entry)) at) (lowAt (now (rows .entry)) at) (highAt (now (rows .entry)) at) ⌝ }
 {
     if is_outside(flags, channel_band, rows::band_at(rows, at)) {
         return rows::low_at(rows, at) <= rows::high_at(rows, at);

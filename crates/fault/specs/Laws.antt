@@ -8,17 +8,21 @@ use native.Mathlib.Decide.{decLe}
 use lib.Dec.{eqb, leb}
 use borrow.Author.Tests.{eqb-true, eqb-false, leb-true, eq-eqb, ne-eqb, lt-leb}
 use Rattle.codes.specs.Code.{bitOf}
-use Rattle.codes.specs.Refusal.{Test, refusalOf, refusal-stays}
+use Rattle.codes.specs.Refusal.{Test, refusalOf}
+use Rattle.codes.specs.Laws.{refusal-stays}
 use Rattle.codes.specs.declared.Checked.{Checked}
 use Rattle.codes.specs.declared.Checked.the-variants.{Accepted, Refused}
-use Rattle.scan.specs.First.{first, some, isAt, onFound, Passed, passed-none, found-here, found-none, first-at, some-false, some-all}
+use Rattle.scan.specs.First.{first, some, isAt, onFound}
+use Rattle.scan.specs.Laws.{Passed, passed-none, found-here, found-none, first-at, some-false, some-all}
 use Rattle.scan.specs.declared.Found.{Found}
 use Rattle.scan.specs.declared.Found.the-variants.{At, Nothing}
-use Rattle.layout.specs.Form.{formTests, Whole, whole-of}
+use Rattle.layout.specs.Form.{formTests, Whole}
+use Rattle.layout.specs.Laws.{whole-of}
 use Rattle.layout.specs.Layout.{tables, bands, segments, channels, privileges, automatic, planData, planAvoid, generalOf, countOf}
 use Rattle.layout.specs.declared.General.{General}
 use Rattle.coded.specs.Coded.{codedChannels, codedPlans, codedGeneral}
-use Rattle.table.specs.Table.{Table, countIn, recordIn, tableOf, count-in}
+use Rattle.table.specs.Table.{Table, countIn, recordIn, tableOf}
+use Rattle.table.specs.Laws.{count-in}
 use Rattle.find.specs.Question.{asks, firstIn, homelessAt}
 use Rattle.find.specs.declared.Question.the-variants.{Miscoded, NotLengthy, NoLimit}
 use Rattle.image.specs.Check.{codedBlock, miscodedIn, miscoded, soundBlock, unsoundIn, unsound, contentTests, checkTests, checkOf}

@@ -1,1 +1,2 @@
 pub mod Question
+pub mod Laws

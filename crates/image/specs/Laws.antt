@@ -2,9 +2,11 @@
 use Prim.Native.Nat.{ℕ, suc, zero}
 use mathlib.Core.List.{List, [], _∷_}
 use mathlib.Core.Path.{_≡_}
-use Rattle.codes.specs.Refusal.{Test, refusal-both}
+use Rattle.codes.specs.Refusal.{Test}
+use Rattle.codes.specs.Laws.{refusal-both}
 use Rattle.codes.specs.declared.Checked.the-variants.{Accepted}
-use Rattle.layout.specs.Form.{formTests, Whole, whole-of}
+use Rattle.layout.specs.Form.{formTests, Whole}
+use Rattle.layout.specs.Laws.{whole-of}
 use Rattle.table.specs.Table.{tableOf}
 use Rattle.image.specs.Check.{contentTests, checkOf}
 

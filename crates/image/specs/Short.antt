@@ -5,7 +5,7 @@ use mathlib.Core.List.{List, [], _∷_}
 use mathlib.Core.Path.{_≡_}
 use borrow.Author.Tests.{not-true}
 use Rattle.codes.specs.Refusal.{Test, test, refusalOf}
-use Rattle.scan.specs.First.{and-true}
+use Rattle.scan.specs.Laws.{and-true}
 use Rattle.layout.specs.Layout.{generalOf}
 use Rattle.table.specs.Table.{Table, tableOf}
 use Rattle.find.specs.Question.{homelessOf}

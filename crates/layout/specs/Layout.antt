@@ -2,9 +2,6 @@
 -- points back." Offsets and sizes stand here alone.
 use Prim.Native.Nat.{ℕ, zero, suc, _+_, _*_, _-_}
 use mathlib.Core.List.{List}
-use mathlib.Core.Path.{_≡_}
-use native.Mathlib.Numerals.{add-one}
-use native.Mathlib.Omega.{arith}
 use lib.ListN.{length}
 use Rattle.layout.specs.Bytes.{byteAt, u16At, u32At, u64At}
 use Rattle.layout.specs.declared.Record.{Record}
@@ -72,18 +69,6 @@ listsOf r = r .band + 256 * r .class + 65536 * r .emissions + 16777216 * r .flag
 abbrev pub rulesOf : Record → ℕ
 rulesOf r = r .rule + 65536 * r .«second_rule»
 
-pub lists-read : (l : List ℕ) (at : ℕ) → u32At l (at + 24) ≡ listsOf (recordAt l at)
-unfolding recordAt u32At u16At
-lists-read l at =
-    let a : at + 24 + 1 ≡ at + 25 = omega arith in
-    let b : at + 24 + 2 ≡ at + 26 = omega arith in
-    let d : at + 26 + 1 ≡ at + 27 = omega arith in
-    rw a (rw b (rw d (omega arith)))
-
-pub rules-read : (l : List ℕ) (at : ℕ) → u32At l (at + 28) ≡ rulesOf (recordAt l at)
-unfolding recordAt u32At
-rules-read l at = let a : at + 28 + 2 ≡ at + 30 = omega arith in rw a (omega arith)
-
 -- "General: 0 data limit, 8 elsewhere limit, 16 channel width, 24 carrier offset, 32 carrier tolerance (f64 each); bytes 40 region,
 -- 41 reading …, 42 flags …, 43 channel band, 44 sideband …, 45 emission bits; u16 rules at 46 data, 48 elsewhere,
 -- 50 automatic segments, 52 channels, 54 emissions, 56 privileges." The six bytes from 58 are unused.
@@ -135,10 +120,6 @@ lettersOf l = trailerOf l + 24
 unfoldable pub recordsBefore : List ℕ → ℕ → ℕ
 recordsBefore l zero = 0
 recordsBefore l (suc t) = recordsBefore l t + countOf l t
-
-pub records-more : (l : List ℕ) (t : ℕ) → recordsBefore l (t + 1) ≡ recordsBefore l t + countOf l t
-unfolding recordsBefore
-records-more l t = rw add-one
 
 -- where the tables begin: after the general block
 abbrev pub tablesFrom : List ℕ → ℕ

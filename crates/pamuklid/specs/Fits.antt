@@ -12,7 +12,8 @@ use lib.Ieee.{Float}
 use mir.Syntax.{w32}
 use mir.Val.{SFits}
 use Rattle.codes.specs.Read.{directionValid, directionOf}
-use Rattle.codes.specs.Refusal.{test, refusalOf, refusal-both, none-fails}
+use Rattle.codes.specs.Refusal.{test, refusalOf}
+use Rattle.codes.specs.Laws.{refusal-both, none-fails}
 use Rattle.codes.specs.declared.Checked.{Checked}
 use Rattle.codes.specs.declared.Checked.the-variants.{Accepted, Refused}
 use Rattle.codes.specs.declared.Sideband.{Sideband}
@@ -40,15 +41,16 @@ use Rattle.fault.specs.Fault.{faultOf}
 use Rattle.fault.specs.Laws.{named}
 use Rattle.fault.specs.declared.Fault.{Fault}
 use Rattle.fault.specs.declared.Fault.the-variants.{InRecord}
-use Rattle.entry.specs.Entry.{entryTests, entryOf, entry-whole, edgesValid, edgesRead}
+use Rattle.entry.specs.Entry.{entryTests, entryOf, edgesValid, edgesRead}
+use Rattle.entry.specs.Laws.{entry-whole}
 use Rattle.rows.specs.declared.SafeDial.{SafeDial}
 use Rattle.dial_rows.specs.Dials.{rowsOf}
 use Rattle.dial_rows.specs.Laws.{gathered-few}
 use Rattle.dial_rows.specs.declared.Request.{Request}
-use Rattle.dials.specs.List.{withSideband, withLicense, withControl, knownRows, situationRows, listRows, lentTests, listTests, answerOf}
+use Rattle.dials.specs.List.{rowsWithSideband, rowsWithLicense, rowsWithControl, knownRows, situationRows, listRows, lentTests, listTests, answerOf}
 use Rattle.dials.specs.declared.DialList.{DialList}
 use Rattle.dials.specs.declared.DialList.the-variants.{Rows}
-use Rattle.ceiling.specs.Ceiling.{rungNumber, judgeBy, burstOf, climbed, anyUnmarked, badRungs, rungTests, ceilingTests, unlessRefused, ceilingOf}
+use Rattle.ceiling.specs.Ceiling.{rungNumber, judgeBy, burstOf, climbed, anyUnmarked, badRungs, rungTests, ceilingTests, ceilingUnlessRefused, ceilingOf}
 use Rattle.ceiling.specs.Run.{rungBelow, ceiling-run}
 use Rattle.ceiling.specs.declared.Rung.{Rung}
 use Rattle.ceiling.specs.declared.Rung.the-variants.{Fastest, NoRung}
@@ -63,15 +65,15 @@ rows-few : (l : List ℕ) → Whole l → (q : Request) → length (rowsOf (tabl
 unfolding rowsOf
 rows-few l w q = gathered-few l w q (channelsOf (generalOf l))
 
-sideband-few : (x : SidebandSet) (f : Sideband → List SafeDial) (k : ℕ) → ((s : Sideband) → length (f s) ≤ k) → length (withSideband x f) ≤ k
+sideband-few : (x : SidebandSet) (f : Sideband → List SafeDial) (k : ℕ) → ((s : Sideband) → length (f s) ≤ k) → length (rowsWithSideband x f) ≤ k
 sideband-few (SidebandIs s) f k h = h s
 sideband-few NoSideband f k h = omega arith
 
-license-few : (x : License) (f : LicenseClass → List SafeDial) (k : ℕ) → ((c : LicenseClass) → length (f c) ≤ k) → length (withLicense x f) ≤ k
+license-few : (x : License) (f : LicenseClass → List SafeDial) (k : ℕ) → ((c : LicenseClass) → length (f c) ≤ k) → length (rowsWithLicense x f) ≤ k
 license-few (LicenseIs c) f k h = h c
 license-few NoLicense f k h = omega arith
 
-control-few : (x : Control) (f : ControlMode → List SafeDial) (k : ℕ) → ((m : ControlMode) → length (f m) ≤ k) → length (withControl x f) ≤ k
+control-few : (x : Control) (f : ControlMode → List SafeDial) (k : ℕ) → ((m : ControlMode) → length (f m) ≤ k) → length (rowsWithControl x f) ≤ k
 control-few (ControlIs m) f k h = h m
 control-few NoControl f k h = omega arith
 
@@ -79,9 +81,9 @@ situation-few : (l : List ℕ) → Whole l → (s : Situation) (d : Direction) (
 unfolding situationRows
 situation-few l w s d e =
     sideband-few (s .sideband)
-    (λ sideband. withLicense (s .license) (λ license. withControl (s .control) (λ control. knownRows (tableOf l) s d e sideband license control)))
+    (λ sideband. rowsWithLicense (s .license) (λ license. rowsWithControl (s .control) (λ control. knownRows (tableOf l) s d e sideband license control)))
     mostRows
-    (λ sideband. license-few (s .license) (λ license. withControl (s .control) (λ control. knownRows (tableOf l) s d e sideband license control)) mostRows
+    (λ sideband. license-few (s .license) (λ license. rowsWithControl (s .control) (λ control. knownRows (tableOf l) s d e sideband license control)) mostRows
     (λ license. control-few (s .control) (λ control. knownRows (tableOf l) s d e sideband license control) mostRows (λ control. rows-few l w _)))
 
 -- A list that was not refused for its station or its image has no more rows than that.
@@ -147,11 +149,13 @@ absent-fits : (k : Rung) → k ≡ NoRung → RungFits k
 absent-fits k a i e = let z : _≡_ {A = ℕ} 0 1 = cc in omega arith
 
 module _ (r : StationRecord) (direction : ℕ) (ordinary floor : Edges) (l : List ℕ) (rungs : List Float) (floors : List ℕ) where
-  refused-none : (n : ℕ) → refusalOf (ceilingTests r direction ordinary floor l rungs floors) ≡ Refused n → ceilingOf r direction ordinary floor l rungs floors .rung ≡ NoRung
+  refused-none : (n : ℕ) → refusalOf (ceilingTests r direction ordinary floor l rungs floors) ≡ Refused n
+      → ceilingOf r direction ordinary floor l rungs floors .rung ≡ NoRung
   unfolding ceilingOf
   refused-none n e =
       ap
-      (λ (x : Checked). unlessRefused x (climbed (judgeBy (tableOf l) (situationOf r) (directionOf direction)) (burstOf (edgesRead ordinary) (edgesRead floor) rungs floors) (length rungs / 4)) .rung)
+      (λ (x : Checked). ceilingUnlessRefused x (climbed (judgeBy (tableOf l) (situationOf r) (directionOf direction))
+      (burstOf (edgesRead ordinary) (edgesRead floor) rungs floors) (length rungs / 4)) .rung)
       e
 
   accepted-few : refusalOf (ceilingTests r direction ordinary floor l rungs floors) ≡ Accepted → length rungs / 4 ≤ 256
@@ -163,7 +167,8 @@ module _ (r : StationRecord) (direction : ℕ) (ordinary floor : Edges) (l : Lis
   pub ceiling-fits : RungFits (ceilingOf r direction ordinary floor l rungs floors .rung)
   ceiling-fits = go (refusalOf (ceilingTests r direction ordinary floor l rungs floors)) refl
     where
-      go : (x : Checked) → refusalOf (ceilingTests r direction ordinary floor l rungs floors) ≡ x → RungFits (ceilingOf r direction ordinary floor l rungs floors .rung)
+      go : (x : Checked) → refusalOf (ceilingTests r direction ordinary floor l rungs floors) ≡ x
+          → RungFits (ceilingOf r direction ordinary floor l rungs floors .rung)
       go (Refused n) e = absent-fits (ceilingOf r direction ordinary floor l rungs floors .rung) (refused-none n e)
       go Accepted e =
           let run = ceiling-run r direction ordinary floor l rungs floors e in

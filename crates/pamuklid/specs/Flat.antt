@@ -59,8 +59,8 @@ use Rattle.pamuklid.specs.declared.FlatDials.{FlatDials}
 use Rattle.pamuklid.specs.declared.FlatFault.{FlatFault}
 
 -- the station record that arrives, and one that leaves
-unfoldable pub recordOf : FlatStation → StationRecord
-recordOf s =
+unfoldable pub stationRecordOf : FlatStation → StationRecord
+stationRecordOf s =
     record {
       policy = s .policy;
       control = s .control;

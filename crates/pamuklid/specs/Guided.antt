@@ -31,7 +31,8 @@ use Rattle.profile.specs.Range.{range}
 use Rattle.profile.specs.declared.Range.{Range}
 use Rattle.occupancy.specs.Edges.{rangeOf}
 use Rattle.occupancy.specs.declared.Edges.{Edges}
-use Rattle.scan.specs.First.{firstFrom, first, onFound, first-at}
+use Rattle.scan.specs.First.{firstFrom, first, onFound}
+use Rattle.scan.specs.Laws.{first-at}
 use Rattle.scan.specs.declared.Found.{Found}
 use Rattle.scan.specs.declared.Found.the-variants.{At, Nothing}
 use Rattle.station.specs.Station.{situationOf}
@@ -81,7 +82,7 @@ use Rattle.verdict.specs.Verdict.{unruledOf, decideOf, besideValid, edgeTests, 
 use Rattle.verdict.specs.Laws.{rules-whole}
 use Rattle.verdict.specs.declared.Ready.{Ready}
 use Rattle.verdict.specs.declared.Ready.the-variants.{Met, Missing}
-use Rattle.ceiling.specs.Ceiling.{judgeBy, climbed, rungTests, ceilingTests, unlessRefused as withRefusal, ceilingOf}
+use Rattle.ceiling.specs.Ceiling.{judgeBy, climbed, rungTests, ceilingTests, ceilingUnlessRefused, ceilingOf}
 use Rattle.ceiling.specs.Run.{Run, judging, bursts, ceiling-run}
 use Rattle.ceiling.specs.declared.CeilingAnswer.{CeilingAnswer}
 use Rattle.pamuklid.specs.Flat.{guidanceIndex}
@@ -339,7 +340,7 @@ module _ (r : StationRecord) (direction : ℕ) (ordinary floor : Edges) (l : Lis
 
   refused-limit : (n : ℕ) → refusalOf (ceilingTests r direction ordinary floor l rungs floors) ≡ Refused n → answer .limit ≡ refusedOf n
   unfolding ceilingOf
-  refused-limit n e = ap (λ (x : Checked). withRefusal x (climbed (judging r direction ordinary floor l rungs floors)
+  refused-limit n e = ap (λ (x : Checked). ceilingUnlessRefused x (climbed (judging r direction ordinary floor l rungs floors)
       (bursts r direction ordinary floor l rungs floors) (length rungs / 4)) .limit) e
 
   judging-indexed :

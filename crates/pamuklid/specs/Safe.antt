@@ -14,7 +14,7 @@ use Rattle.codes.specs.Refusal.{Test, test, refusalOf}
 use Rattle.codes.specs.declared.Checked.{Checked}
 use Rattle.codes.specs.declared.Checked.the-variants.{Accepted, Refused}
 use Rattle.occupancy.specs.declared.Edges.{Edges}
-use Rattle.scan.specs.First.{and-true}
+use Rattle.scan.specs.Laws.{and-true}
 use Rattle.station.specs.Station.{underRules, stationTests}
 use Rattle.station.specs.declared.StationRecord.{StationRecord}
 use Rattle.image.specs.Check.{checkTests}

@@ -31,7 +31,7 @@ ghost use Rattle.ceiling.specs.Ceiling.{ceilingOf, rungNumber};
 ghost use Rattle.distance.specs.Distance.{distanceOf};
 ghost use Rattle.numbers.specs.Refusal.{refusalNumber};
 ghost use Rattle.pamuklid.specs.Fits.{FaultFits, RungFits, Counted};
-ghost use Rattle.pamuklid.specs.Flat.{recordOf, stationOf, edgesOf, rangeFlat, segmentFlat, overshootFlat};
+ghost use Rattle.pamuklid.specs.Flat.{stationRecordOf, stationOf, edgesOf, rangeFlat, segmentFlat, overshootFlat};
 ghost use Rattle.pamuklid.specs.Flat.{guidanceIndex, guidanceFlat, ruleFlat, bandFlat, widthFlat};
 ghost use Rattle.pamuklid.specs.Flat.{faultFlat, tidinessFlat, flatOf, ceilingFlat, dialsFlat, FlatDialed, infinityHz, distanceFlat, versionNumber};
 ghost use Rattle.pamuklid.specs.Guided.{Indexed};
@@ -176,7 +176,7 @@ pub struct FlatBand {
 }
 
 fn station_in(s: FlatStation) -> StationRecord
-    ensures { λ r. ⌜ r ≡ recordOf s ⌝ }
+    ensures { λ r. ⌜ r ≡ stationRecordOf s ⌝ }
 {
     StationRecord {
         policy: s.policy,
@@ -573,7 +573,7 @@ pub extern "C" fn pamuklid_evaluate(
     e: FlatEdges,
     image: &[u8],
 ) -> FlatDecision
-    ensures { λ r. ⌜ r ≡ flatOf (evaluateOf (recordOf s) kind direction (edgesOf e) (now (image .entry))) ⌝ }
+    ensures { λ r. ⌜ r ≡ flatOf (evaluateOf (stationRecordOf s) kind direction (edgesOf e) (now (image .entry))) ⌝ }
 {
     let record = station_in(s);
     let edges = edges_in(e);
@@ -583,7 +583,7 @@ pub extern "C" fn pamuklid_evaluate(
 // The refusal of a transmission whose spectrum is not known.
 #[no_mangle]
 pub extern "C" fn pamuklid_unmeasured(s: FlatStation, image: &[u8]) -> FlatDecision
-    ensures { λ r. ⌜ r ≡ flatOf (unmeasuredOf (recordOf s) (now (image .entry))) ⌝ }
+    ensures { λ r. ⌜ r ≡ flatOf (unmeasuredOf (stationRecordOf s) (now (image .entry))) ⌝ }
 {
     let record = station_in(s);
     flat(verdict::unmeasured(record, image))
@@ -600,7 +600,7 @@ pub extern "C" fn pamuklid_ceiling_of(
     rungs: &[f64],
     floors: &[u8],
 ) -> FlatCeiling
-    ensures { λ r. ⌜ r ≡ ceilingFlat (ceilingOf (recordOf s) direction
+    ensures { λ r. ⌜ r ≡ ceilingFlat (ceilingOf (stationRecordOf s) direction
         (edgesOf ordinary) (edgesOf floor) (now (image .entry)) (now (rungs .entry)) (now (floors .entry))) ⌝ }
 {
     let record = station_in(s);
@@ -627,7 +627,7 @@ pub extern "C" fn pamuklid_safe_dials(
     image: &[u8],
     rows: &mut [u8],
 ) -> FlatDials
-    ensures { λ r. ⌜ FlatDialed (recordOf s) direction (edgesOf e) (now (image .entry)) (now (rows .entry)) (now (rows .exit)) r ⌝ }
+    ensures { λ r. ⌜ FlatDialed (stationRecordOf s) direction (edgesOf e) (now (image .entry)) (now (rows .entry)) (now (rows .exit)) r ⌝ }
 {
     let record = station_in(s);
     let edges = edges_in(e);

@@ -10,7 +10,8 @@ use Rattle.figures.specs.Figure.{totalLess}
 use Rattle.profile.specs.Range.{overlapsOf}
 use Rattle.profile.specs.declared.Range.{Range}
 use Rattle.profile.specs.declared.DataLimit.{DataLimit}
-use Rattle.scan.specs.First.{onFound, cond-yes, cond-not}
+use Rattle.scan.specs.First.{onFound}
+use Rattle.scan.specs.Laws.{cond-yes, cond-not}
 use Rattle.scan.specs.declared.Found.{Found}
 use Rattle.scan.specs.declared.Found.the-variants.{At, Nothing}
 use Rattle.table.specs.Table.{Table}
@@ -18,7 +19,7 @@ use Rattle.table.specs.declared.Segment.{Segment}
 use Rattle.part97.specs.declared.Case.{Case}
 use Rattle.part97.specs.declared.Nearest.{Nearest}
 use Rattle.part97.specs.declared.Nearest.the-variants.{Near, NoneNear}
-use Rattle.part97.specs.Part97.{segmentAt, limitFor, tooWide, insideSegment, outsideSegments, judgeData}
+use Rattle.part97.specs.Part97.{segmentAt, limitFor, blockedTooWide, insideSegment, outsideSegments, judgeData}
 use Rattle.part97.specs.Part97.{reach, notesUpTo, anyNote, nearerBy, considered, nearestUpTo}
 
 pub notes-more : (note : ℕ → Bool) (n : ℕ) → notesUpTo note (n + 1) ≡ cond (note n) (set (notesUpTo note n) n 1) (notesUpTo note n)
@@ -64,10 +65,10 @@ nearest-below table c (suc n) i by e =
 module _ (table : Table) (c : Case) (band : ℕ) (found : Found) where
   pub judge-wide :
       (limit : DataLimit) → limit ≡ limitFor table found → lt (limit .«max_bandwidth_hz») (c .width) ≡ true
-      → tooWide c band limit ≡ judgeData table c band found
+      → blockedTooWide c band limit ≡ judgeData table c band found
   unfolding judgeData
   judge-wide limit e t =
-      ap (tooWide c band) e ∙ sym (cond-yes _ _ (ap (λ (d : DataLimit). lt (d .«max_bandwidth_hz») (c .width)) (sym e) ∙ t))
+      ap (blockedTooWide c band) e ∙ sym (cond-yes _ _ (ap (λ (d : DataLimit). lt (d .«max_bandwidth_hz») (c .width)) (sym e) ∙ t))
 
   pub judge-inside :
       (i : ℕ) → found ≡ At i → (s : Segment) → s ≡ segmentAt table i → (limit : DataLimit) → limit ≡ limitFor table found

@@ -306,14 +306,14 @@ abbrev pub limitFor : Table → Found → DataLimit
 limitFor table found =
     onFound found (λ i. dataLimitOf (segmentAt table i .own) (segmentAt table i .second) (generalLimit table)) (generalLimit table)
 
-abbrev pub tooWide : Case → ℕ → DataLimit → Decision
-tooWide c band limit = simpleOf (draftOf c (Band band)) Blocked TooWide (limit .rule)
+abbrev pub blockedTooWide : Case → ℕ → DataLimit → Decision
+blockedTooWide c band limit = simpleOf (draftOf c (Band band)) Blocked TooWide (limit .rule)
 
 -- 97.305(c), by the first data segment that holds the guarded range; too wide comes before "no segment"
 unfoldable pub judgeData : Table → Case → ℕ → Found → Decision
 judgeData table c band found =
     cond (wider (c .width) (limitFor table found .«max_bandwidth_hz»))
-    (tooWide c band (limitFor table found))
+    (blockedTooWide c band (limitFor table found))
     (onFound found (λ i. insideSegment table c band (segmentAt table i)) (outsideSegments table c band))
 
 -- ---- 97.305(a), (b): CW, test emissions and keying alone, off 60 m

@@ -9,9 +9,12 @@ use Rattle.bit_order.specs.Order.{bits-le}
 use Rattle.layout.specs.Layout.{bands, segments, countOf, startOf, recordOf}
 use Rattle.layout.specs.declared.Record.{Record}
 use Rattle.table.specs.Parts.{spanOf}
-use Rattle.table.specs.Table.{recordIn, tableOf, at-in}
-use Rattle.scan.specs.First.{some, isAt, some-same}
-use Rattle.find.specs.Question.{asks, asksAt, someIn, first-in}
+use Rattle.table.specs.Table.{recordIn, tableOf}
+use Rattle.table.specs.Laws.{at-in}
+use Rattle.scan.specs.First.{some, isAt}
+use Rattle.scan.specs.Laws.{some-same}
+use Rattle.find.specs.Question.{asks, asksAt, someIn}
+use Rattle.find.specs.Laws.{first-in}
 use Rattle.find.specs.declared.Question.the-variants.{Holds}
 use Rattle.plain.specs.Plain.{isRough}
 use Rattle.plain.specs.Laws.{parts, plain-at}

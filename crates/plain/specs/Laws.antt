@@ -12,8 +12,10 @@ use Rattle.layout.specs.Layout.{bands, segments, privileges, automatic, tables,
 use Rattle.layout.specs.declared.Record.{Record}
 use Rattle.coded.specs.Coded.{codedOf}
 use Rattle.table.specs.Table.{tableOf}
-use Rattle.scan.specs.First.{some, isAt, and-true, some-false, some-all}
-use Rattle.find.specs.Question.{soundBits, soundRecord, asks, asksAt, someIn, first-in}
+use Rattle.scan.specs.First.{some, isAt}
+use Rattle.scan.specs.Laws.{and-true, some-false, some-all}
+use Rattle.find.specs.Question.{soundBits, soundRecord, asks, asksAt, someIn}
+use Rattle.find.specs.Laws.{first-in}
 use Rattle.find.specs.declared.Question.{Question}
 use Rattle.find.specs.declared.Question.the-variants.{Miscoded, Unsound, NotLengthy, NoLimit}
 use Rattle.plain.specs.Plain.{sizedOf, longer, longOf, limitedOf, plainOf, roughAt, roughFrom, roughIn, isRough}

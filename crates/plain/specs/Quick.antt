@@ -12,7 +12,7 @@ use Rattle.bit_order.specs.Order.{limitBits}
 use Rattle.layout.specs.Layout.{recordSize, bands, segments, channels, privileges, automatic, excluded, power, planData, planAvoid, recordAt, listsOf, rulesOf}
 use Rattle.layout.specs.declared.Record.{Record}
 use Rattle.coded.specs.Coded.{codedOf}
-use Rattle.scan.specs.First.{and-true}
+use Rattle.scan.specs.Laws.{and-true}
 use Rattle.plain.specs.Plain.{sizedOf, longOf, limitedOf, plainOf}
 
 -- a range with a low end below its high end, and what the parts are at most

@@ -15,7 +15,7 @@ use Rattle.figures.specs.Figure.{totalLess, figureOf}
 use Rattle.layout.specs.Bytes.{u64At}
 use Rattle.bytes.specs.Bytes.{figureBytes, little}
 use Rattle.bytes.specs.Laws.{eight, figure-after, u64-drop}
-use Rattle.lists.specs.Each.{Every}
+use Rattle.lists.specs.Laws.{Every}
 use Rattle.rows.specs.Rows.{rowSize, insertRow, insertAll, sorted, figuresOf, encodeRow, encodeAll, lowAt}
 use Rattle.rows.specs.Held.{placeAt, insertFrom, insertAt, offerAt}
 use Rattle.rows.specs.Turns.{length-row}
@@ -36,13 +36,16 @@ unfolding encodeRow figuresOf tailOf
 parts x t = simp append-assoc
 
 pub two-figures : (a b : Float) → length (figureBytes a ++ figureBytes b) ≡ 16
-two-figures a b = length-append (figureBytes a) (figureBytes b) ∙ (let p : length (figureBytes a) ≡ 8 = eight a in let q : length (figureBytes b) ≡ 8 = eight b in omega arith)
+two-figures a b = length-append (figureBytes a) (figureBytes b)
+    ∙ (let p : length (figureBytes a) ≡ 8 = eight a in let q : length (figureBytes b) ≡ 8 = eight b in omega arith)
 
 pub low-back : (x : SafeDial) (t : List ℕ) → T (fits binary64 (x .«dial_low_hz»)) → lowAt (encodeRow x ++ t) 0 ≡ x .«dial_low_hz»
 low-back x t h =
     rw (parts x t)
-    (rw (← append-assoc (figureBytes (x .segment .«low_hz»)) (figureBytes (x .segment .«high_hz»)) (figureBytes (x .«dial_low_hz») ++ (figureBytes (x .«dial_high_hz») ++ (tailOf x ++ t))))
-    (figure-after (x .«dial_low_hz») (figureBytes (x .segment .«low_hz») ++ figureBytes (x .segment .«high_hz»)) (figureBytes (x .«dial_high_hz») ++ (tailOf x ++ t)) 16 (two-figures (x .segment .«low_hz») (x .segment .«high_hz»)) h))
+    (rw (← append-assoc (figureBytes (x .segment .«low_hz»)) (figureBytes (x .segment .«high_hz»))
+    (figureBytes (x .«dial_low_hz») ++ (figureBytes (x .«dial_high_hz») ++ (tailOf x ++ t))))
+    (figure-after (x .«dial_low_hz») (figureBytes (x .segment .«low_hz») ++ figureBytes (x .segment .«high_hz»))
+    (figureBytes (x .«dial_high_hz») ++ (tailOf x ++ t)) 16 (two-figures (x .segment .«low_hz») (x .segment .«high_hz»)) h))
 
 -- ---- a row put in its place
 
@@ -217,7 +220,8 @@ gap-front b c v hv hc =
     ∙ ap (λ (r : List ℕ). take rowSize (b ++ c) ++ b ++ r) d
     ∙ append-assoc (take rowSize (b ++ c)) b (drop rowSize c) in
     let t : length (take rowSize (b ++ c)) ≡ rowSize = length-take-le rowSize (b ++ c) (omega arith) in
-    let w : length (take rowSize (b ++ c) ++ (b ++ drop rowSize c)) ≡ length (take rowSize (b ++ c)) + length (b ++ drop rowSize c) = length-append (take rowSize (b ++ c)) (b ++ drop rowSize c) in
+    let w : length (take rowSize (b ++ c) ++ (b ++ drop rowSize c)) ≡ length (take rowSize (b ++ c)) + length (b ++ drop rowSize c) =
+    length-append (take rowSize (b ++ c)) (b ++ drop rowSize c) in
     let z : 0 + length v ≡ rowSize = omega arith in
     rw s
     (sets-eq v (take rowSize (b ++ c) ++ (b ++ drop rowSize c)) 0 (omega arith)
@@ -250,7 +254,8 @@ insert-held x held rest g f r h = go (split x held rest g f r)
         let lb : length b ≡ length (s .after) * rowSize = length-encode (s .after) in
         let n : length held ≡ length (s .before) + length (s .after) = ap length (s .whole) ∙ length-append (s .before) (s .after) in
         let l : encodeAll held ++ rest ≡ a ++ (b ++ rest) =
-        ap (λ (m : List SafeDial). encodeAll m ++ rest) (s .whole) ∙ ap (λ (m : List ℕ). m ++ rest) (encode-append (s .before) (s .after)) ∙ append-assoc a b rest in
+        ap (λ (m : List SafeDial). encodeAll m ++ rest) (s .whole)
+        ∙ ap (λ (m : List ℕ). m ++ rest) (encode-append (s .before) (s .after)) ∙ append-assoc a b rest in
         let moved : take (to - at) (drop at (a ++ (b ++ rest))) ≡ b =
         ap (λ (m : List ℕ). take (to - at) m) (drop-at a (b ++ rest) at la) ∙ take-at b rest (to - at) (omega arith) in
         let put : encodeAll (insertRow x held) ≡ a ++ (encodeRow x ++ b) =

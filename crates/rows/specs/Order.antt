@@ -8,7 +8,8 @@ use native.Mathlib.Omega.{arith}
 use native.Mathlib.Decide.{decLe}
 use lib.ListN.{length}
 use Rattle.figures.specs.Figure.{totalLess}
-use Rattle.lists.specs.Each.{Every, each}
+use Rattle.lists.specs.Each.{each}
+use Rattle.lists.specs.Laws.{Every}
 use Rattle.rows.specs.Rows.{insertRow, insertAll, sorted}
 use Rattle.rows.specs.Back.{every-insert, length-insert}
 use Rattle.rows.specs.declared.SafeDial.{SafeDial}

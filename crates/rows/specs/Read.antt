@@ -11,8 +11,8 @@ use Rattle.figures.specs.Figure.{figureOf}
 use Rattle.layout.specs.Bytes.{u16At, u64At}
 use Rattle.bytes.specs.Bytes.{figureBytes, little}
 use Rattle.bytes.specs.Laws.{eight, figure-after, u16-drop, u64-drop}
-use Rattle.lists.specs.Each.{Every}
-use Rattle.rows.specs.Rows.{rowSize, encodeRow, encodeAll, lowAt, highAt, bandAt, rowAt}
+use Rattle.lists.specs.Laws.{Every}
+use Rattle.rows.specs.Rows.{rowSize, encodeRow, encodeAll, lowAt, highAt, rowBand, rowAt}
 use Rattle.rows.specs.Turns.{length-row}
 use Rattle.rows.specs.Back.{tailOf, parts, two-figures, opened, low-back}
 use Rattle.rows.specs.declared.SafeDial.{SafeDial}
@@ -52,7 +52,8 @@ module _ (x : SafeDial) (t : List ℕ) where
       let c = figureBytes (x .«dial_low_hz») in
       let r = figureBytes (x .«dial_high_hz») ++ (tailOf x ++ t) in
       let e : encodeRow x ++ t ≡ (a ++ (b ++ c)) ++ r = parts x t ∙ simp append-assoc in
-      rw e (figure-after (x .«dial_high_hz») (a ++ (b ++ c)) (tailOf x ++ t) 24 (three-figures (x .segment .«low_hz») (x .segment .«high_hz») (x .«dial_low_hz»)) h)
+      rw e (figure-after (x .«dial_high_hz») (a ++ (b ++ c))
+      (tailOf x ++ t) 24 (three-figures (x .segment .«low_hz») (x .segment .«high_hz») (x .«dial_low_hz»)) h)
 
   -- past the figures
   past : drop 32 (encodeRow x ++ t) ≡ tailOf x ++ t
@@ -66,7 +67,7 @@ module _ (x : SafeDial) (t : List ℕ) where
       (drop-at (a ++ (b ++ (c ++ d))) (tailOf x ++ t) 32
       (four-figures (x .segment .«low_hz») (x .segment .«high_hz») (x .«dial_low_hz») (x .«dial_high_hz»)))
 
-  pub band-back : bandAt (encodeRow x ++ t) 0 ≡ x .band
+  pub band-back : rowBand (encodeRow x ++ t) 0 ≡ x .band
   unfolding tailOf
   band-back = sym (getD-drop 32 (encodeRow x ++ t) 0 0) ∙ ap (λ (m : List ℕ). getD m 0 0) past
 
@@ -110,7 +111,7 @@ low-drop l m = ap figureOf (sym (u64-drop l m 16))
 high-drop : (l : List ℕ) (m : ℕ) → highAt l m ≡ highAt (drop m l) 0
 high-drop l m = ap figureOf (sym (u64-drop l m 24))
 
-band-drop : (l : List ℕ) (m : ℕ) → bandAt l m ≡ bandAt (drop m l) 0
+band-drop : (l : List ℕ) (m : ℕ) → rowBand l m ≡ rowBand (drop m l) 0
 band-drop l m = sym (getD-drop m l 32 0)
 
 row-drop : (l : List ℕ) (m : ℕ) → rowAt l m ≡ rowAt (drop m l) 0
@@ -133,9 +134,9 @@ module _ (xs : List SafeDial) (rest : List ℕ) (i : ℕ) (d : SafeDial) (h : i 
       high-drop (encodeAll xs ++ rest) (i * rowSize) ∙ ap (λ (m : List ℕ). highAt m 0) (row-in xs rest i d h)
       ∙ high-back (getD xs i d) (encodeAll (drop (i + 1) xs) ++ rest) f
 
-  pub band-of : bandAt (encodeAll xs ++ rest) (i * rowSize) ≡ getD xs i d .band
+  pub band-of : rowBand (encodeAll xs ++ rest) (i * rowSize) ≡ getD xs i d .band
   band-of =
-      band-drop (encodeAll xs ++ rest) (i * rowSize) ∙ ap (λ (m : List ℕ). bandAt m 0) (row-in xs rest i d h)
+      band-drop (encodeAll xs ++ rest) (i * rowSize) ∙ ap (λ (m : List ℕ). rowBand m 0) (row-in xs rest i d h)
       ∙ band-back (getD xs i d) (encodeAll (drop (i + 1) xs) ++ rest)
 
   pub row-of : Sound (getD xs i d) → rowAt (encodeAll xs ++ rest) (i * rowSize) ≡ getD xs i d

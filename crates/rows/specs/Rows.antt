@@ -50,13 +50,13 @@ lowAt l at = figureOf (u64At l (at + 16))
 abbrev pub highAt : List ℕ → ℕ → Float
 highAt l at = figureOf (u64At l (at + 24))
 
-abbrev pub bandAt : List ℕ → ℕ → ℕ
-bandAt l at = byteAt l (at + 32)
+abbrev pub rowBand : List ℕ → ℕ → ℕ
+rowBand l at = byteAt l (at + 32)
 
 unfoldable pub rowAt : List ℕ → ℕ → SafeDial
 rowAt l at =
     record {
-      band = bandAt l at;
+      band = rowBand l at;
       segment = range (figureOf (u64At l at)) (figureOf (u64At l (at + 8)));
       rule = u16At l (at + 34);
       «dial_low_hz» = lowAt l at;

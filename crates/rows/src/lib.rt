@@ -5,7 +5,7 @@ ghost use mathlib.Core.Path.{_≡_};
 ghost use Prim.Native.Nat.{_+_, _*_, _-_, _≤_, _<_};
 ghost use lib.ListN.{length, take, drop};
 ghost use lib.Seq.{sets};
-ghost use Rattle.rows.specs.Rows.{figuresOf, encodeRow, lowAt, highAt, bandAt};
+ghost use Rattle.rows.specs.Rows.{figuresOf, encodeRow, lowAt, highAt, rowBand};
 ghost use Rattle.rows.specs.Held.{followsAt, placeAt, insertAt, rowOf, offerAt};
 
 pub const ROW_SIZE: usize = 36;
@@ -58,7 +58,7 @@ pub fn high_at(rows: &[u8], at: usize) -> f64
 
 pub fn band_at(rows: &[u8], at: usize) -> u8
     requires { ⌜ at + 36 ≤ length (now rows) ⌝ }
-    ensures { λ r. ⌜ r ≡ bandAt (now (rows .entry)) at ⌝ }
+    ensures { λ r. ⌜ r ≡ rowBand (now (rows .entry)) at ⌝ }
 {
     rows[at + 32]
 }

@@ -11,17 +11,20 @@ use lib.Dec.{eqb, ltb}
 use lib.ListN.{length}
 use lib.Ieee.{Float}
 use Rattle.codes.specs.Read.{directionValid, kindOf, directionOf}
-use Rattle.codes.specs.Refusal.{Test, test, refusalOf, refusal-next}
+use Rattle.codes.specs.Refusal.{Test, test, refusalOf}
+use Rattle.codes.specs.Laws.{refusal-next}
 use Rattle.codes.specs.declared.Checked.{Checked}
 use Rattle.codes.specs.declared.Checked.the-variants.{Accepted, Refused}
 use Rattle.occupancy.specs.declared.Edges.{Edges}
 use Rattle.station.specs.Station.{underRules, codesValid, figuresValid, stationTests, situationOf}
 use Rattle.station.specs.declared.StationRecord.{StationRecord}
 use Rattle.layout.specs.Layout.{tables, generalOf, countOf, recordOf}
-use Rattle.layout.specs.Form.{formTests, whole-of}
+use Rattle.layout.specs.Form.{formTests}
+use Rattle.layout.specs.Laws.{whole-of}
 use Rattle.layout.specs.declared.General.{General}
 use Rattle.layout.specs.declared.Record.{Record}
-use Rattle.table.specs.Table.{Table, countIn, recordIn, tableOf, count-in, at-in}
+use Rattle.table.specs.Table.{Table, countIn, recordIn, tableOf}
+use Rattle.table.specs.Laws.{count-in, at-in}
 use Rattle.image.specs.Check.{contentTests, checkTests, checkOf}
 use Rattle.tidy.specs.Tidy.{tidyTable, tidinessOf, tidyOf}
 use Rattle.entry.specs.Entry.{imageTests, entryTests, edgesValid, edgesRead}
@@ -32,7 +35,7 @@ use Rattle.decision.specs.Decision.{simpleOf}
 use Rattle.decision.specs.declared.Verdict.the-variants.{Blocked}
 use Rattle.decision.specs.declared.Code.the-variants.{Unmeasured}
 use Rattle.verdict.specs.Verdict.{signalOf, besideValid, edgeTests, decideOf, unlessRefused, evaluateOf, unmeasuredOf}
-use Rattle.ceiling.specs.Ceiling.{judgeBy, burstOf, climbed, rungTests, unlessRefused as withRefusal, ceilingOf}
+use Rattle.ceiling.specs.Ceiling.{judgeBy, burstOf, climbed, rungTests, ceilingUnlessRefused, ceilingOf}
 use Rattle.rows.specs.declared.SafeDial.{SafeDial}
 use Rattle.dials.specs.List.{situationRows, listRows, lentTests, listTests, answerOf, bytesOf, SafeDials}
 use Rattle.dials.specs.declared.DialList.{DialList}
@@ -166,7 +169,7 @@ module _ (l m : List ℕ) (L : InForm l) (M : InForm m) (same : tableOf l ≡ ta
   ceiling-same r direction ordinary floor rungs floors =
       ap₂
       (λ (c : Checked) (x : Table).
-      withRefusal c
+      ceilingUnlessRefused c
       (climbed (judgeBy x (situationOf r) (directionOf direction)) (burstOf (edgesRead ordinary) (edgesRead floor) rungs floors) (length rungs / 4)))
       (entry-same r (directionValid direction) (rungTests ordinary floor rungs floors))
       same

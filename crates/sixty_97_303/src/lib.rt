@@ -24,7 +24,8 @@ ghost use Rattle.table.specs.Table.{Table, tableOf};
 ghost use Prim.Native.Nat.{ℕ};
 ghost use mathlib.Core.List.{List};
 ghost use Rattle.part97.specs.Finding.{concluded};
-ghost use Rattle.part97.specs.Part97.{cwOnChannel, sameSideband, dataOnChannel, onChannel, sixtyChannel, isData, sixtySegment, sixtyPlace, sixtyEmission, sixtyKind, sixty};
+ghost use Rattle.part97.specs.Part97.{cwOnChannel, sameSideband, dataOnChannel, onChannel, sixtyChannel};
+ghost use Rattle.part97.specs.Part97.{isData, sixtySegment, sixtyPlace, sixtyEmission, sixtyKind, sixty};
 
 // The watts above which the operator is warned, on a channel and in the segment (97.313(i)).
 const CHANNEL_WATTS: f64 = 100.0;

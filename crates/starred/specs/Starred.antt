@@ -17,27 +17,34 @@ use Rattle.coded.specs.Coded.{codedOf, codedGeneral}
 use Rattle.find.specs.Question.{asks, soundBits, soundRecord}
 use Rattle.image.specs.Check.{codedBlock, miscoded, soundBlock, unsound, bare, unlimited, checkOf}
 use Rattle.station.specs.Station.{codesValid, figuresValid, situationOf, stationTests}
-use Rattle.entry.specs.Entry.{edgesValid, edgesRead, entry-check}
+use Rattle.entry.specs.Entry.{edgesValid, edgesRead}
+use Rattle.entry.specs.Laws.{entry-check}
 use Rattle.occupancy.specs.declared.Edges.{Edges}
 use Rattle.decision.specs.Decision.{noAdvice, finishOf, simpleOf, refusedOf}
 use Rattle.decision.specs.declared.Verdict.{Verdict}
 use Rattle.decision.specs.declared.Verdict.the-variants.{Legal, Blocked}
 use Rattle.decision.specs.declared.Code.{Code}
-use Rattle.decision.specs.declared.Code.the-variants.{Permitted, Privilege, OutsideDataSegment, NoDataHere, TooWide, AutomaticSegment, AutomaticOriginate, AutomaticResponse, SixtyChannel}
+use Rattle.decision.specs.declared.Code.the-variants.{Permitted, Privilege, OutsideDataSegment, NoDataHere, TooWide}
+use Rattle.decision.specs.declared.Code.the-variants.{AutomaticSegment, AutomaticOriginate, AutomaticResponse, SixtyChannel}
 use Rattle.decision.specs.declared.Edge.the-variants.{Upper}
 use Rattle.decision.specs.declared.Overshoot.{Overshoot}
 use Rattle.decision.specs.declared.Overshoot.the-variants.{Beyond, TooClose, NoOvershoot}
 use Rattle.decision.specs.declared.Decision.{Decision}
-use Rattle.part97.specs.Part97.{draftOf, draftInside, draftAutomatic, privilegedOf, noted, notesUpTo, anyNote, planSays, wantsPlan, guidanceOf, adviceOf, adviceWarns, advised, automaticElsewhere, automaticData, considered, nearestUpTo, overshootOf, outsideSegments, insideSegment, judgeData, allowedOnSixty, sixtyChannel, sixtySegment, sixtyPlace, sixtyEmission, sixtyKind, sixty, judgeOnBand, judgeInBand, touching, judge}
+use Rattle.part97.specs.Part97.{draftOf, draftInside, draftAutomatic, privilegedOf, noted, notesUpTo, anyNote, planSays, wantsPlan}
+use Rattle.part97.specs.Part97.{guidanceOf, adviceOf, adviceWarns, advised, automaticElsewhere, automaticData, considered}
+use Rattle.part97.specs.Part97.{nearestUpTo, overshootOf, outsideSegments, insideSegment, judgeData, allowedOnSixty, sixtyChannel}
+use Rattle.part97.specs.Part97.{sixtySegment, sixtyPlace, sixtyEmission, sixtyKind, sixty, judgeOnBand, judgeInBand, touching, judge}
 use Rattle.verdict.specs.Verdict.{airOf, signalOf, caseOf, readyOf, underRulesOf, unruledOf, decideOf, besideValid, evaluateOf}
 use Rattle.verdict.specs.Laws.{evaluate-accepted}
-use Rattle.ceiling.specs.Ceiling.{rungOf, burstOf, startOf, endedOf, wentOn, judgedOf, judgeBy, rungJudged, stepOf, climbed, badEdges, badRungs, ceilingOf}
+use Rattle.ceiling.specs.Ceiling.{rungOf, burstOf, climbStart, endedOf, wentOn, climbAfter, judgeBy}
+use Rattle.ceiling.specs.Ceiling.{rungJudged, climbStep, climbed, badEdges, badRungs, ceilingOf}
 use Rattle.ceiling.specs.declared.CeilingAnswer.{CeilingAnswer}
 use Rattle.ceiling.specs.declared.Rung.the-variants.{Fastest}
 use Rattle.dials.specs.List.{situationRows, listRows, listTests, answerOf, bytesOf}
 use Rattle.dials.specs.declared.DialList.{DialList}
 use Rattle.dials.specs.declared.DialList.the-variants.{Rows}
-use Rattle.dial_rows.specs.Dials.{requestOf, pieceRows, automaticRows, cutRows, privilegeRows, privilegesRows, segmentRows, dataRows, channelFound, channelRow, channelRows, openRows, rowsOf}
+use Rattle.dial_rows.specs.Dials.{requestOf, pieceRows, automaticRows, cutRows, privilegeRows, privilegesRows}
+use Rattle.dial_rows.specs.Dials.{segmentRows, dataRows, channelFound, channelRow, channelRows, openRows, rowsOf}
 use Rattle.bytes.specs.Bytes.{little}
 use Rattle.lists.specs.Each.{each}
 use Rattle.rows.specs.Rows.{insertRow, insertAll, figuresOf, encodeRow, encodeAll}
@@ -162,7 +169,7 @@ unfolding
     airOf judge touching judgeInBand judgeOnBand sixty sixtyKind sixtyEmission sixtyPlace sixtySegment sixtyChannel allowedOnSixty judgeData
     insideSegment outsideSegments overshootOf nearestUpTo considered automaticData automaticElsewhere advised adviceWarns adviceOf guidanceOf
     planSays wantsPlan notesUpTo anyNote noted privilegedOf draftAutomatic draftInside draftOf refusedOf simpleOf finishOf noAdvice edgesRead
-    edgesValid situationOf codesValid figuresValid rungOf burstOf startOf endedOf wentOn judgedOf judgeBy rungJudged stepOf climbed badEdges
+    edgesValid situationOf codesValid figuresValid rungOf burstOf climbStart endedOf wentOn climbAfter judgeBy rungJudged climbStep climbed badEdges
     badRungs ceilingOf situationRows listRows requestOf pieceRows automaticRows cutRows privilegeRows privilegesRows segmentRows dataRows
     channelFound channelRow channelRows openRows rowsOf insertRow insertAll little figuresOf encodeRow encodeAll each toBits
 opened = tt

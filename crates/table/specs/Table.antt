@@ -1,12 +1,10 @@
 -- A table as the rules speak of it: the general block, and for each of the nine tables how many records it has and which. Nothing lies past
 -- them. What an image's bytes hold is such a table; two images in form that hold the same one are the same to every rule.
-use Prim.Native.Nat.{ℕ, _+_, _*_, _<_}
+use Prim.Native.Nat.{ℕ}
 use mathlib.Core.Bool.{cond}
 use mathlib.Core.List.{List}
-use mathlib.Core.Path.{_≡_, sym, ap, _∙_}
-use borrow.Author.Tests.{lt-ltb}
 use lib.Dec.{ltb}
-use Rattle.layout.specs.Layout.{recordSize, tables, generalOf, countOf, startOf, recordAt, recordOf}
+use Rattle.layout.specs.Layout.{tables, generalOf, countOf, recordOf}
 use Rattle.layout.specs.declared.Record.{Record}
 use Rattle.layout.specs.declared.General.{General}
 
@@ -32,16 +30,3 @@ recordIn l t i = cond (ltb i (countIn l t)) (recordOf l t i) noRecord
 
 abbrev pub tableOf : List ℕ → Table
 tableOf l = record { general = generalOf l; count = countIn l; at = recordIn l }
-
-pub count-in : (l : List ℕ) (t : ℕ) → t < tables → countIn l t ≡ countOf l t
-count-in l t h = rw (lt-ltb t tables h)
-
-pub at-in : (l : List ℕ) (t i : ℕ) → t < tables → i < countOf l t → recordIn l t i ≡ recordOf l t i
-unfolding recordIn
-at-in l t i h k = rw (count-in l t h) (rw (lt-ltb i (countOf l t) k))
-
--- a record that was read from where its table begins
-pub read-in :
-    (l : List ℕ) (t i start : ℕ) (r : Record) → t < tables → i < countOf l t → start ≡ startOf l t → r ≡ recordAt l (start + recordSize * i)
-    → r ≡ recordIn l t i
-read-in l t i start r h k s e = e ∙ ap (λ (a : ℕ). recordAt l (a + recordSize * i)) s ∙ sym (at-in l t i h k)

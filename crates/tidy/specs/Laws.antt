@@ -4,11 +4,13 @@ use mathlib.Core.Bool.{Bool}
 use mathlib.Core.List.{List}
 use mathlib.Core.Path.{_≡_, refl, ap, _∙_}
 use native.Mathlib.Omega.{arith}
-use Rattle.scan.specs.First.{first, isAt, some-same}
+use Rattle.scan.specs.First.{first, isAt}
+use Rattle.scan.specs.Laws.{some-same}
 use Rattle.scan.specs.declared.Found.{Found}
 use Rattle.layout.specs.Layout.{recordSize, tables, countOf, startOf, recordAt}
 use Rattle.layout.specs.declared.Record.{Record}
-use Rattle.table.specs.Table.{recordIn, tableOf, read-in}
+use Rattle.table.specs.Table.{recordIn, tableOf}
+use Rattle.table.specs.Laws.{read-in}
 use Rattle.find.specs.Question.{asks, asksAt}
 use Rattle.find.specs.declared.Question.{Question}
 use Rattle.tidy.specs.Tidy.{pairQuestion, sharesEarlier}

@@ -5,9 +5,10 @@ use mathlib.Core.List.{List, [], _∷_, _++_}
 use mathlib.Core.Path.{_≡_, refl, sym, ap, _∙_}
 use lib.Dec.{eqb}
 use lib.Ieee.{Float}
-use Rattle.scan.specs.First.{cond-yes, cond-not}
+use Rattle.scan.specs.Laws.{cond-yes, cond-not}
 use Rattle.codes.specs.Read.{policyOf, kindOf, directionOf}
-use Rattle.codes.specs.Refusal.{Test, test, refusalOf, refusal-both, refusal-next}
+use Rattle.codes.specs.Refusal.{Test, test, refusalOf}
+use Rattle.codes.specs.Laws.{refusal-both, refusal-next}
 use Rattle.codes.specs.declared.Checked.{Checked}
 use Rattle.codes.specs.declared.Checked.the-variants.{Accepted}
 use Rattle.codes.specs.declared.Policy.{Policy}
@@ -15,7 +16,8 @@ use Rattle.codes.specs.declared.Policy.the-variants.{Unset, NoProfile as NoneAp
 use Rattle.station.specs.Station.{situationOf}
 use Rattle.station.specs.declared.StationRecord.{StationRecord}
 use Rattle.layout.specs.Form.{Whole}
-use Rattle.entry.specs.Entry.{entryTests, entryOf, entry-whole, edgesValid, edgesRead}
+use Rattle.entry.specs.Entry.{entryTests, entryOf, edgesValid, edgesRead}
+use Rattle.entry.specs.Laws.{entry-whole}
 use Rattle.codes.specs.declared.Control.{Control}
 use Rattle.codes.specs.declared.Control.the-variants.{ControlIs, NoControl as ControlAbsent}
 use Rattle.codes.specs.declared.ControlMode.{ControlMode}
@@ -43,7 +45,8 @@ use Rattle.decision.specs.Number.{noRule, §97-301, §97-109}
 use Rattle.decision.specs.declared.Code.the-variants.{Region, NoControl, NoLicense, NoSideband, NoDial}
 use Rattle.verdict.specs.declared.Ready.{Ready}
 use Rattle.verdict.specs.declared.Ready.the-variants.{Met, Missing}
-use Rattle.verdict.specs.Verdict.{withControl, withLicense, withSideband, withDial, signalOf, caseOf, readyOf, judgedOf, underRulesOf, decideOf, besideValid, edgeTests, unlessRefused, evaluateOf}
+use Rattle.verdict.specs.Verdict.{withControl, withLicense, withSideband, withDial, signalOf, caseOf, readyOf, judgedOf}
+use Rattle.verdict.specs.Verdict.{underRulesOf, decideOf, besideValid, edgeTests, unlessRefused, evaluateOf}
 
 module _ (g : General) (s : Situation) (dial : Figure) (kind : EmissionKind) (direction : Direction) (audio : Range) where
   -- what is asked after each prerequisite

@@ -30,7 +30,8 @@ ghost use Rattle.codes.specs.Refusal.{refusalOf};
 ghost use Rattle.layout.specs.Form.{Whole};
 ghost use Rattle.layout.specs.Layout.{generalOf};
 ghost use Rattle.table.specs.Table.{tableOf};
-ghost use Rattle.verdict.specs.Verdict.{airOf, signalOf, caseOf, readyOf, underRulesOf, unruledOf, decideOf, besideValid, evaluateTests, evaluateOf, unmeasuredOf};
+ghost use Rattle.verdict.specs.Verdict.{airOf, signalOf, caseOf, readyOf, underRulesOf, unruledOf};
+ghost use Rattle.verdict.specs.Verdict.{decideOf, besideValid, evaluateTests, evaluateOf, unmeasuredOf};
 
 // What the prerequisites leave: a case to judge, or what is missing, as a reason and its rule.
 pub enum Ready {

@@ -5,8 +5,9 @@ use mathlib.Core.Logic.{⊎-elim}
 use lib.ListN.{length}
 use borrow.Author.Needs.{needs}
 use Rattle.layout.specs.Layout.{recordSize, trailerSize, power, countOf, startOf}
-use Rattle.layout.specs.Form.{table-within}
-use Rattle.table.specs.Table.{tableOf, read-in}
+use Rattle.layout.specs.Laws.{table-within}
+use Rattle.table.specs.Table.{tableOf}
+use Rattle.table.specs.Laws.{read-in}
 use Rattle.part97.specs.Part97.{noteAt, notesUpTo, anyNote}
 use Rattle.part97.specs.Laws.{notes-more, any-more}
 use native.Mathlib.Omega.{arith}
@@ -14,21 +15,30 @@ use Rattle.advice_97_313.proofs.notes_of.Statement.{statement}
 use Rattle.advice_97_313.proofs.notes_of.Tie as tie
 
 abbrev Inv-loop : tie.InvT-loop
-Inv-loop s c r start count marks₀ any₀ i₀ marks any i = (i ≤ count) × (marks ≡ notesUpTo (noteAt (tableOf s) c r) i) × (any ≡ anyNote (noteAt (tableOf s) c r) i)
+Inv-loop s c r start count marks₀ any₀ i₀ marks any i =
+    (i ≤ count) × (marks ≡ notesUpTo (noteAt (tableOf s) c r) i) × (any ≡ anyNote (noteAt (tableOf s) c r) i)
 
 abbrev μ-loop : tie.MeasureT-loop
 μ-loop s c r start count marks₀ any₀ i₀ marks any i = count - i
 
-within : (c : tie.Start Inv-loop μ-loop) → startOf (c .args .s .now) power + recordSize * countOf (c .args .s .now) power + trailerSize ≤ length (c .args .s .now)
+within : (c : tie.Start Inv-loop μ-loop)
+    → startOf (c .args .s .now) power + recordSize * countOf (c .args .s .now) power + trailerSize ≤ length (c .args .s .now)
 within c = table-within (c .args .s .now) (c .pre) power (omega arith)
 
 -- what a turn asked of power record i
-asked : (c : tie.After-is-noted Inv-loop μ-loop) → c .is-noted .result ≡ noteAt (tableOf (c .before .before .before .before .before .before .before .before .args .s .now)) (c .before .before .before .before .before .before .before .before .args .c) (c .before .before .before .before .before .before .before .before .args .r) (c .before .before .before .before .loop .i)
+asked : (c : tie.After-is-noted Inv-loop μ-loop)
+    → c .is-noted .result ≡ noteAt (tableOf (c .before .before .before .before .before .before .before .before .args .s .now))
+    (c .before .before .before .before .before .before .before .before .args .c)
+    (c .before .before .before .before .before .before .before .before .args .r) (c .before .before .before .before .loop .i)
 asked c =
     rw (c .is-noted .ensures)
     (rw (c .before .power-limit-of .ensures)
     (rw
-    (read-in _ power _ _ _ (omega arith) (omega (arith, c .before .before .before .before .before .count-of .ensures, c .before .before .before .loop-test .taken))
+    (read-in _ power _ _ _ (omega arith) (omega (
+      arith,
+      c .before .before .before .before .before .count-of .ensures,
+      c .before .before .before .loop-test .taken,
+    ))
     (c .before .before .before .before .before .before .start-of .ensures) (c .before .before .record-at .ensures))))
 
 start-of-requires : tie.Need-start-of-requires Inv-loop μ-loop
@@ -86,7 +96,8 @@ loop-again c =
 
 returns : tie.Need-returns Inv-loop μ-loop
 returns c =
-    let e : c .before .loop .i ≡ countOf (c .before .before .before .before .before .args .s .now) power = omega (arith, c .before .before .count-of .ensures) in
+    let e : c .before .loop .i ≡ countOf (c .before .before .before .before .before .args .s .now) power =
+    omega (arith, c .before .before .count-of .ensures) in
     rw (← e) (c .before .loop .inv .1, c .before .loop .inv .2)
 
 pub notes-of-spec : {M : Type 1} → statement M

@@ -1,6 +1,7 @@
--- `automatic_data_97_221::automatic_data` meets its contract: on each way to a return, the tests and what the calls ensure say which case of the definition holds.
+-- `automatic_data_97_221::automatic_data` meets its contract: on each way to a return, the tests and what the calls ensure say which case
+-- of the definition holds.
 use mathlib.Core.Path.{sym, _∙_}
-use Rattle.find.specs.Question.{picked, missed}
+use Rattle.find.specs.Laws.{picked, missed}
 use Rattle.table.specs.Table.{tableOf}
 use Rattle.part97.specs.Part97.{automaticData}
 use Rattle.part97.specs.Finding.{lawful-automatic}

@@ -1,4 +1,5 @@
--- `automatic_data_97_221::automatic_elsewhere` meets its contract: on each way to a return, the tests and what the calls ensure say which case of the definition holds.
+-- `automatic_data_97_221::automatic_elsewhere` meets its contract: on each way to a return, the tests and what the calls ensure say which
+-- case of the definition holds.
 use Rattle.part97.specs.Part97.{automaticElsewhere}
 use Rattle.part97.specs.Finding.{in-segment, lawful-in}
 use borrow.Author.Needs.{needs}

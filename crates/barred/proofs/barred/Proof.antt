@@ -25,7 +25,10 @@ range-requires : tie.Need-range-requires
 range-requires c κs = search needs
 
 barred-by-rules-requires : tie.Need-barred-by-rules-requires
-barred-by-rules-requires c κs = (c .before .before .before .before .before .before .pre (c .before .before .before .enum-told3 .given .1), c .before .before .general-of .ensures)
+barred-by-rules-requires c κs = (
+  c .before .before .before .before .before .before .pre (c .before .before .before .enum-told3 .given .1),
+  c .before .before .general-of .ensures,
+)
 
 enum-told-4 : tie.Need-enum-told-4
 enum-told-4 c = search needs

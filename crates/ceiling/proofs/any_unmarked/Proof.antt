@@ -1,7 +1,7 @@
 -- The scan meets no such byte before i.
 use Prim.Native.Nat.{_-_}
 use lib.ListN.{length}
-use Rattle.scan.specs.First.{Passed, passed-none, passed-step, some-here, some-none}
+use Rattle.scan.specs.Laws.{Passed, passed-none, passed-step, some-here, some-none}
 use Rattle.ceiling.specs.Ceiling.{unmarkedAt}
 use native.Mathlib.Omega.{arith}
 use borrow.Author.Tests.{lt-ltb, le-ltb}
@@ -21,7 +21,8 @@ byte-at-requires : tie.Need-byte-at-requires Inv-loop μ-loop
 byte-at-requires c κs = omega arith
 
 returns : tie.Need-returns Inv-loop μ-loop
-returns c = some-here _ _ _ (c .before .before .loop-test .taken) (c .before .before .before .loop .inv) (rw (← c .before .byte-at .ensures) (lt-ltb _ _ (c .if1 .taken)))
+returns c = some-here _ _ _ (c .before .before .loop-test .taken) (c .before .before .before .loop .inv)
+    (rw (← c .before .byte-at .ensures) (lt-ltb _ _ (c .if1 .taken)))
 
 add-i : tie.Need-add-i Inv-loop μ-loop
 add-i c = omega arith
@@ -30,7 +31,8 @@ loop-less : tie.Need-loop-less Inv-loop μ-loop
 loop-less c = omega arith
 
 loop-again : tie.Need-loop-again Inv-loop μ-loop
-loop-again c = passed-step _ _ _ (c .before .before .loop-test .taken) (c .before .before .before .loop .inv) (rw (← c .before .byte-at .ensures) (le-ltb _ _ (c .if1 .left)))
+loop-again c = passed-step _ _ _ (c .before .before .loop-test .taken) (c .before .before .before .loop .inv)
+    (rw (← c .before .byte-at .ensures) (le-ltb _ _ (c .if1 .left)))
 
 returns-2 : tie.Need-returns-2 Inv-loop μ-loop
 returns-2 c = some-none _ _ _ (c .loop-test .left) (c .before .loop .inv)

@@ -2,7 +2,7 @@
 use borrow.Author.Needs.{needs}
 use Prim.Native.Nat.{_-_}
 use lib.ListN.{length}
-use Rattle.scan.specs.First.{Passed, passed-none, passed-step, some-here, some-none}
+use Rattle.scan.specs.Laws.{Passed, passed-none, passed-step, some-here, some-none}
 use Rattle.ceiling.specs.Ceiling.{unsizedAt}
 use native.Mathlib.Omega.{arith}
 use Rattle.ceiling.proofs.any_unsized.Statement.{statement}
@@ -24,7 +24,8 @@ in-size-requires : tie.Need-in-size-requires Inv-loop μ-loop
 in-size-requires c κs = search needs
 
 returns : tie.Need-returns Inv-loop μ-loop
-returns c = some-here _ _ _ (c .before .before .before .loop-test .taken) (c .before .before .before .before .loop .inv) (rw (← c .before .before .figure-at .ensures) (rw (← c .before .in-size .ensures) (c .if1 .taken)))
+returns c = some-here _ _ _ (c .before .before .before .loop-test .taken) (c .before .before .before .before .loop .inv)
+    (rw (← c .before .before .figure-at .ensures) (rw (← c .before .in-size .ensures) (c .if1 .taken)))
 
 add-i : tie.Need-add-i Inv-loop μ-loop
 add-i c = omega arith
@@ -33,7 +34,8 @@ loop-less : tie.Need-loop-less Inv-loop μ-loop
 loop-less c = omega arith
 
 loop-again : tie.Need-loop-again Inv-loop μ-loop
-loop-again c = passed-step _ _ _ (c .before .before .before .loop-test .taken) (c .before .before .before .before .loop .inv) (rw (← c .before .before .figure-at .ensures) (rw (← c .before .in-size .ensures) (c .if1 .left)))
+loop-again c = passed-step _ _ _ (c .before .before .before .loop-test .taken) (c .before .before .before .before .loop .inv)
+    (rw (← c .before .before .figure-at .ensures) (rw (← c .before .in-size .ensures) (c .if1 .left)))
 
 returns-2 : tie.Need-returns-2 Inv-loop μ-loop
 returns-2 c = some-none _ _ _ (c .loop-test .left) (c .before .loop .inv)

@@ -36,7 +36,8 @@ edges-read-requires-2 c κs = search needs
 climb-all-requires : tie.Need-climb-all-requires
 climb-all-requires c κs =
     let a = c .before .before .before .before .before .before .before .before .before .before .args in
-    let accepted = sym (c .before .before .before .before .before .before .ceiling-refusals .ensures) ∙ c .before .before .before .before .enum-told .given .1 in (
+    let accepted = sym (c .before .before .before .before .before .before .ceiling-refusals .ensures)
+    ∙ c .before .before .before .before .enum-told .given .1 in (
       λ p.
           rules-whole (a .r) (directionValid (a .direction)) (a .image .now) (rungTests (a .ordinary) (a .floor) (a .rungs .now) (a .floors .now)) accepted
           (sym (ap (λ (s : Situation). s .policy) (c .before .before .before .situation-of .ensures)) ∙ p),

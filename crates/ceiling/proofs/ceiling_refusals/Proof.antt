@@ -1,7 +1,8 @@
 -- The refusals in order: what the front of the call said, then 15, then 16.
 use mathlib.Core.Path.{_≡_, sym, _∙_}
 use Rattle.codes.specs.Read.{directionValid}
-use Rattle.codes.specs.Refusal.{refusalOf, refusal-next, refusal-stays}
+use Rattle.codes.specs.Refusal.{refusalOf}
+use Rattle.codes.specs.Laws.{refusal-next, refusal-stays}
 use Rattle.entry.specs.Entry.{entryTests, entryOf}
 use Rattle.ceiling.specs.Ceiling.{rungTests}
 use borrow.Author.Needs.{needs}

@@ -36,7 +36,11 @@ returns c =
     (c .before .before .before .rung-step .ensures ∙ ap (rungStep _ _) (c .before .before .before .before .burst .ensures)) (c .before .if1 .taken))
 
 add-i : tie.Need-add-i Inv-loop μ-loop
-add-i c = omega (arith, c .before .before .before .before .loop-test .taken, c .before .before .before .before .before .before .before .before .before .good .1 .1 .1 .1 .1 .0)
+add-i c = omega (
+  arith,
+  c .before .before .before .before .loop-test .taken,
+  c .before .before .before .before .before .before .before .before .before .good .1 .1 .1 .1 .1 .0,
+)
 
 loop-less : tie.Need-loop-less Inv-loop μ-loop
 loop-less c = omega arith

@@ -1,6 +1,6 @@
 -- `data_97_305::inside_segment` meets its contract: on each way to a return, the tests and what the calls ensure say which case of the definition holds.
 use mathlib.Core.Path.{sym, _∙_}
-use Rattle.scan.specs.First.{cond-yes, cond-not}
+use Rattle.scan.specs.Laws.{cond-yes, cond-not}
 use Rattle.part97.specs.Part97.{insideSegment}
 use Rattle.part97.specs.Finding.{in-segment, lawful-in}
 use borrow.Author.Needs.{needs}

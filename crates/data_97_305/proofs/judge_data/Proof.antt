@@ -2,7 +2,8 @@
 use Prim.Native.Nat.{ℕ}
 use mathlib.Core.Path.{_≡_, sym, ap, _∙_}
 use Rattle.layout.specs.Layout.{segments}
-use Rattle.find.specs.Question.{firstIn, PickedAt, picked, missed}
+use Rattle.find.specs.Question.{firstIn}
+use Rattle.find.specs.Laws.{PickedAt, picked, missed}
 use Rattle.find.specs.declared.Question.the-variants.{Holds}
 use Rattle.table.specs.Table.{tableOf}
 use Rattle.table.specs.Parts.{dataOf}
@@ -48,8 +49,10 @@ too-wide-requires c κs = search needs
 
 returns : tie.Need-returns
 returns c =
-    let p = picked _ _ _ _ _ (sym (c .before .before .before .before .before .before .before .before .before .pick-holding .ensures) ∙ c .before .before .before .before .before .before .before .r .given .1) in
-    ap (concluded _ _) (c .too-wide .ensures) ∙ on-band _ _ _ _ _ _ ∙ judge-wide _ _ _ _ _ (limit (c .before .before .before .before) _ p) (c .before .if1 .taken)
+    let p = picked _ _ _ _ _ (sym (c .before .before .before .before .before .before .before .before .before .pick-holding .ensures)
+    ∙ c .before .before .before .before .before .before .before .r .given .1) in
+    ap (concluded _ _) (c .too-wide .ensures) ∙ on-band _ _ _ _ _ _
+    ∙ judge-wide _ _ _ _ _ (limit (c .before .before .before .before) _ p) (c .before .if1 .taken)
 
 inside-segment-requires : tie.Need-inside-segment-requires
 inside-segment-requires c κs = search needs
@@ -62,7 +65,8 @@ too-wide-requires-2 c κs = search needs
 
 returns-2 : tie.Need-returns-2
 returns-2 c =
-    let none = missed _ _ _ (sym (c .before .before .before .before .before .before .pick-holding .ensures) ∙ c .before .before .before .before .enum-told .given .1) in
+    let none = missed _ _ _ (sym (c .before .before .before .before .before .before .pick-holding .ensures)
+    ∙ c .before .before .before .before .enum-told .given .1) in
     ap (concluded _ _) (c .too-wide2 .ensures) ∙ on-band _ _ _ _ _ _
     ∙ judge-wide _ _ _ _ _ (rw none (general (c .before .before .before .before .before .before .before))) (c .before .if2 .taken)
 
@@ -71,13 +75,16 @@ outside-segments-requires c κs = search needs
 
 returns-3 : tie.Need-returns-3
 returns-3 c =
-    let p = picked _ _ _ _ _ (sym (c .before .before .before .before .before .before .before .before .before .pick-holding .ensures) ∙ c .before .before .before .before .before .before .before .r .given .1) in
+    let p = picked _ _ _ _ _ (sym (c .before .before .before .before .before .before .before .before .before .pick-holding .ensures)
+    ∙ c .before .before .before .before .before .before .before .r .given .1) in
     c .inside-segment .ensures
-    ∙ judge-inside _ _ _ _ _ (p .found) _ (rw (c .before .before .before .before .before .segment-of .ensures) (rw (p .here))) _ (limit (c .before .before .before .before) _ p) (c .before .if1 .left)
+    ∙ judge-inside _ _ _ _ _ (p .found) _ (rw (c .before .before .before .before .before .segment-of .ensures)
+    (rw (p .here))) _ (limit (c .before .before .before .before) _ p) (c .before .if1 .left)
 
 returns-4 : tie.Need-returns-4
 returns-4 c =
-    let none = missed _ _ _ (sym (c .before .before .before .before .before .before .pick-holding .ensures) ∙ c .before .before .before .before .enum-told .given .1) in
+    let none = missed _ _ _ (sym (c .before .before .before .before .before .before .pick-holding .ensures)
+    ∙ c .before .before .before .before .enum-told .given .1) in
     c .outside-segments .ensures
     ∙ judge-outside _ _ _ _ none (c .before .before .before .before .before .before .before .data-of .result)
     (rw none (general (c .before .before .before .before .before .before .before))) (c .before .if2 .left)

@@ -15,8 +15,11 @@ enum-known-i : tie.Need-enum-known-i
 enum-known-i c = search needs
 
 record-of-requires : tie.Need-record-of-requires
-record-of-requires c κs =
-    (c .before .before .before .before .before .before .pre, omega arith, nearest-below _ _ _ _ _ (sym (c .before .before .before .nearest-segment .ensures) ∙ c .before .i .given .1))
+record-of-requires c κs = (
+  c .before .before .before .before .before .before .pre,
+  omega arith,
+  nearest-below _ _ _ _ _ (sym (c .before .before .before .nearest-segment .ensures) ∙ c .before .i .given .1),
+)
 
 segment-of-requires : tie.Need-segment-of-requires
 segment-of-requires c κs = search needs

@@ -38,7 +38,8 @@ returns : tie.Need-returns
 returns c =
     let a = c .before .before .before .before .before .before .before .before .args in
     c .piece-row .ensures
-    ∙ ap (λ x. onShared x (pieceRows (a .q) (a .band) (a .q .«segments_rule»))) (sym (c .before .before .inside .given .1) ∙ asked (c .before .before .before .before))
+    ∙ ap (λ x. onShared x (pieceRows (a .q) (a .band) (a .q .«segments_rule»))) (sym (c .before .before .inside .given .1)
+    ∙ asked (c .before .before .before .before))
 
 returns-2 : tie.Need-returns-2
 returns-2 c =

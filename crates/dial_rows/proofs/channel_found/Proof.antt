@@ -8,9 +8,11 @@ use native.Mathlib.Omega.{arith}
 use borrow.Author.Needs.{needs}
 use Rattle.layout.specs.Layout as layout
 use Rattle.layout.specs.Layout.{recordSize, trailerSize, countOf, startOf}
-use Rattle.layout.specs.Form.{table-within}
-use Rattle.scan.specs.First.{Passed, some, passed-none, passed-step, some-here, some-none}
-use Rattle.table.specs.Table.{tableOf, read-in}
+use Rattle.layout.specs.Laws.{table-within}
+use Rattle.scan.specs.First.{some}
+use Rattle.scan.specs.Laws.{Passed, passed-none, passed-step, some-here, some-none}
+use Rattle.table.specs.Table.{tableOf}
+use Rattle.table.specs.Laws.{read-in}
 use Rattle.dial_rows.specs.Dials.{centreHeld, someCentreAt, channelFound}
 use Rattle.dial_rows.proofs.channel_found.Statement.{statement}
 use Rattle.dial_rows.proofs.channel_found.Tie as tie
@@ -29,7 +31,8 @@ abbrev μ-search : tie.MeasureT-search
 
 within :
     (c : tie.Start Inv-loop μ-loop Inv-search μ-search)
-    → (startOf (c .args .image .now) layout.privileges + recordSize * countOf (c .args .image .now) layout.privileges + trailerSize ≤ length (c .args .image .now))
+    → (startOf (c .args .image .now) layout.privileges
+    + recordSize * countOf (c .args .image .now) layout.privileges + trailerSize ≤ length (c .args .image .now))
     × (startOf (c .args .image .now) layout.channels + recordSize * countOf (c .args .image .now) layout.channels + trailerSize ≤ length (c .args .image .now))
 within c =
     (table-within (c .args .image .now) (c .pre) layout.privileges (omega arith), table-within (c .args .image .now) (c .pre) layout.channels (omega arith))
@@ -37,8 +40,12 @@ within c =
 -- what is asked of privilege i
 asked :
     (c : tie.After-may-use Inv-loop μ-loop Inv-search μ-search)
-    → (c .may-use .result && some (centreHeld (tableOf (c .before .before .before .before .before .before .before .before .before .before .args .image .now)) (c .before .privilege-of .result .range)) (c .before .before .before .before .before .count-of2 .result))
-    ≡ someCentreAt (tableOf (c .before .before .before .before .before .before .before .before .before .before .args .image .now)) (c .before .before .before .before .before .before .before .before .before .before .args .q) (c .before .before .before .before .search .i)
+    → (c .may-use .result
+    && some (centreHeld (tableOf (c .before .before .before .before .before .before .before .before .before .before .args .image .now))
+    (c .before .privilege-of .result .range)) (c .before .before .before .before .before .count-of2 .result))
+    ≡ someCentreAt (tableOf (c .before .before .before .before .before .before .before .before .before .before .args .image .now))
+    (c .before .before .before .before .before .before .before .before .before .before .args .q)
+    (c .before .before .before .before .search .i)
 asked c =
     rw (c .may-use .ensures)
     (rw (c .before .privilege-of .ensures)
@@ -51,12 +58,18 @@ asked c =
 -- and of channel k under it
 asked-channel :
     (c : tie.After-centre-held Inv-loop μ-loop Inv-search μ-search)
-    → c .centre-held .result ≡ centreHeld (tableOf (c .before .before .before .before .before .before .before .before .before .before .before .before .before .before .before .before .args .image .now)) (c .before .before .before .before .before .before .before .privilege-of .result .range) (c .before .before .before .loop .k)
+    → c .centre-held .result ≡ centreHeld (tableOf
+    (c .before .before .before .before .before .before .before .before .before .before .before .before .before .before .before .before .args .image .now))
+    (c .before .before .before .before .before .before .before .privilege-of .result .range) (c .before .before .before .loop .k)
 asked-channel c =
     rw (c .centre-held .ensures)
     (rw
     (read-in _ layout.channels _ _ _ (omega arith)
-    (omega (arith, c .before .before .loop-test .taken, c .before .before .before .before .before .before .before .before .before .before .before .count-of2 .ensures))
+    (omega (
+      arith,
+      c .before .before .loop-test .taken,
+      c .before .before .before .before .before .before .before .before .before .before .before .count-of2 .ensures,
+    ))
     (c .before .before .before .before .before .before .before .before .before .before .before .before .start-of2 .ensures) (c .before .record-at2 .ensures)))
 
 either : {A B C : Type 0} → A ⊎ B → (A → C) → (B → C) → C
@@ -111,13 +124,27 @@ loop-holds : tie.Need-loop-holds Inv-loop μ-loop Inv-search μ-search
 loop-holds c = (c .before .before .before .before .before .before .search .inv .0, passed-none _ _)
 
 mul-record-at-2 : tie.Need-mul-record-at-2 Inv-loop μ-loop Inv-search μ-search
-mul-record-at-2 c = omega (arith, within (c .before .before .before .before .before .before .before .before .before .before .before .before .before .before) .1, c .before .before .before .before .before .before .before .before .before .count-of2 .ensures)
+mul-record-at-2 c = omega (
+  arith,
+  within (c .before .before .before .before .before .before .before .before .before .before .before .before .before .before) .1,
+  c .before .before .before .before .before .before .before .before .before .count-of2 .ensures,
+)
 
 add-record-at-2 : tie.Need-add-record-at-2 Inv-loop μ-loop Inv-search μ-search
-add-record-at-2 c = omega (arith, within (c .before .before .before .before .before .before .before .before .before .before .before .before .before .before) .1, c .before .before .before .before .before .before .before .before .before .count-of2 .ensures, c .before .before .before .before .before .before .before .before .before .before .start-of2 .ensures)
+add-record-at-2 c = omega (
+  arith,
+  within (c .before .before .before .before .before .before .before .before .before .before .before .before .before .before) .1,
+  c .before .before .before .before .before .before .before .before .before .count-of2 .ensures,
+  c .before .before .before .before .before .before .before .before .before .before .start-of2 .ensures,
+)
 
 record-at-requires-2 : tie.Need-record-at-requires-2 Inv-loop μ-loop Inv-search μ-search
-record-at-requires-2 c κs = omega (arith, within (c .before .before .before .before .before .before .before .before .before .before .before .before .before .before) .1, c .before .before .before .before .before .before .before .before .before .count-of2 .ensures, c .before .before .before .before .before .before .before .before .before .before .start-of2 .ensures)
+record-at-requires-2 c κs = omega (
+  arith,
+  within (c .before .before .before .before .before .before .before .before .before .before .before .before .before .before) .1,
+  c .before .before .before .before .before .before .before .before .before .count-of2 .ensures,
+  c .before .before .before .before .before .before .before .before .before .before .start-of2 .ensures,
+)
 
 centre-held-requires : tie.Need-centre-held-requires Inv-loop μ-loop Inv-search μ-search
 centre-held-requires c κs = search needs
@@ -129,7 +156,11 @@ loop-less : tie.Need-loop-less Inv-loop μ-loop Inv-search μ-search
 loop-less c = omega arith
 
 loop-again : tie.Need-loop-again Inv-loop μ-loop Inv-search μ-search
-loop-again c = (c .before .before .before .before .loop .inv .0, passed-step _ _ _ (c .before .before .before .loop-test .taken) (c .before .before .before .before .loop .inv .1) (rw (← asked-channel (c .before)) (c .if2 .left)))
+loop-again c = (
+  c .before .before .before .before .loop .inv .0,
+  passed-step _ _ _ (c .before .before .before .loop-test .taken) (c .before .before .before .before .loop .inv .1)
+      (rw (← asked-channel (c .before)) (c .if2 .left)),
+)
 
 add-i : tie.Need-add-i Inv-loop μ-loop Inv-search μ-search
 add-i c = omega arith
@@ -140,20 +171,33 @@ search-less c = omega arith
 search-again : tie.Need-search-again Inv-loop μ-loop Inv-search μ-search
 search-again c =
     either (c .if1 .came)
-    (λ w. (w .4 ∙ w .2 .inv .0, passed-step _ _ _ (c .before .before .before .before .search-test .taken) (c .before .before .before .before .before .search .inv .1) (rw (← asked (c .before)) (and-none _ _ (w .0 .taken) (sym (some-none _ _ _ (w .3 .left) (w .2 .inv .1)))))))
-    (λ w. (w .1 ∙ c .before .before .before .before .before .search .inv .0, passed-step _ _ _ (c .before .before .before .before .search-test .taken) (c .before .before .before .before .before .search .inv .1) (rw (← asked (c .before)) (and-no _ _ (w .0 .left)))))
+    (λ w. (
+      w .4 ∙ w .2 .inv .0,
+      passed-step _ _ _ (c .before .before .before .before .search-test .taken)
+          (c .before .before .before .before .before .search .inv .1)
+          (rw (← asked (c .before)) (and-none _ _ (w .0 .taken) (sym (some-none _ _ _ (w .3 .left) (w .2 .inv .1))))),
+    ))
+    (λ w. (
+      w .1 ∙ c .before .before .before .before .before .search .inv .0,
+      passed-step _ _ _
+          (c .before .before .before .before .search-test .taken) (c .before .before .before .before .before .search .inv .1)
+          (rw (← asked (c .before)) (and-no _ _ (w .0 .left))),
+    ))
 
 returns : tie.Need-returns Inv-loop μ-loop Inv-search μ-search
 unfolding channelFound
-returns c = c .before .search .inv .0 ∙ rw (← c .before .before .before .before .count-of .ensures) (some-none _ _ _ (c .search-test .left) (c .before .search .inv .1))
+returns c = c .before .search .inv .0
+    ∙ rw (← c .before .before .before .before .count-of .ensures) (some-none _ _ _ (c .search-test .left) (c .before .search .inv .1))
 
 returns-2 : tie.Need-returns-2 Inv-loop μ-loop Inv-search μ-search
 unfolding channelFound
 returns-2 c = rw (← c .before .before .before .before .before .before .before .before .before .before .before .before .before .before .count-of .ensures)
-    (some-here _ _ _ (c .before .before .before .before .before .before .before .before .before .before .search-test .taken) (c .before .before .before .before .before .before .before .before .before .before .before .search .inv .1)
+    (some-here _ _ _ (c .before .before .before .before .before .before .before .before .before .before .search-test .taken)
+    (c .before .before .before .before .before .before .before .before .before .before .before .search .inv .1)
     (rw (← asked (c .before .before .before .before .before .before .before))
     (and-yes _ _ (c .before .before .before .before .before .before .if1 .taken)
-    (sym (some-here _ _ _ (c .before .before .before .loop-test .taken) (c .before .before .before .before .loop .inv .1) (rw (← asked-channel (c .before)) (c .if2 .taken)))))))
+    (sym (some-here _ _ _ (c .before .before .before .loop-test .taken) (c .before .before .before .before .loop .inv .1)
+    (rw (← asked-channel (c .before)) (c .if2 .taken)))))))
 
 pub channel-found-spec : {M : Type 1} → statement M
 channel-found-spec =

@@ -6,7 +6,8 @@ use Rattle.dial_rows.proofs.channel_row.Statement.{statement}
 use Rattle.dial_rows.proofs.channel_row.Tie as tie
 
 -- whether the channel holds the guarded signal
-asked : (c : tie.After-holds) → c .holds .result ≡ channelHolds (c .before .before .before .before .before .before .args .q) (c .before .before .before .before .before .before .args .c) (c .before .before .before .before .before .before .args .center-hz)
+asked : (c : tie.After-holds) → c .holds .result ≡ channelHolds (c .before .before .before .before .before .before .args .q)
+    (c .before .before .before .before .before .before .args .c) (c .before .before .before .before .before .before .args .center-hz)
 asked c =
     rw (c .holds .ensures)
     (rw (c .before .guarded .ensures)

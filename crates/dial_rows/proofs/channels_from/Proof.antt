@@ -6,7 +6,7 @@ use lib.ListN.{length}
 use Rattle.lists.specs.From.{from-row, from-skip, from-end}
 use Rattle.layout.specs.Layout.{channels}
 use Rattle.table.specs.Table.{tableOf}
-use Rattle.dial_rows.specs.Dials.{channelAt}
+use Rattle.dial_rows.specs.Dials.{channelRowsAt}
 use Rattle.dial_rows.specs.Next.{rowsIn, channelsFrom, channel-placed, channel-read}
 use borrow.Author.Needs.{needs}
 use Rattle.dial_rows.proofs.channels_from.Statement.{statement}
@@ -22,12 +22,13 @@ abbrev μ-loop : tie.MeasureT-loop
 asked :
     (c : tie.After-channel-row Inv-loop μ-loop)
     → let a = c .before .before .before .before .before .before .before .before .args in
-    rowsIn (c .channel-row .result) ≡ channelAt (tableOf (a .image .now)) (a .q) (a .c) (c .before .before .before .before .before .before .loop .i)
+    rowsIn (c .channel-row .result) ≡ channelRowsAt (tableOf (a .image .now)) (a .q) (a .c) (c .before .before .before .before .before .before .loop .i)
 asked c =
     rw (c .channel-row .ensures)
     (rw (c .before .centre-of .ensures)
     (rw (c .before .before .record-at .ensures)
-    (rw (channel-read _ _ _ (c .before .before .before .before .before .before .before .before .pre) (c .before .before .before .before .before .before .loop .i) (c .before .before .before .before .if1 .taken)))))
+    (rw (channel-read _ _ _ (c .before .before .before .before .before .before .before .before .pre)
+    (c .before .before .before .before .before .before .loop .i) (c .before .before .before .before .if1 .taken)))))
 
 loop-holds : tie.Need-loop-holds Inv-loop μ-loop
 loop-holds c = refl
@@ -51,24 +52,38 @@ enum-known-x : tie.Need-enum-known-x Inv-loop μ-loop
 enum-known-x c = search needs
 
 add-t14 : tie.Need-add-t14 Inv-loop μ-loop
-add-t14 c = omega (arith, c .before .before .before .before .before .before .before .if1 .taken, c .before .before .before .before .before .before .before .before .before .before .before .pre .channel-most, c .before .before .before .before .before .before .before .before .before .before .before .pre .whole .few channels (omega arith))
+add-t14 c = omega (
+  arith,
+  c .before .before .before .before .before .before .before .if1 .taken,
+  c .before .before .before .before .before .before .before .before .before .before .before .pre .channel-most,
+  c .before .before .before .before .before .before .before .before .before .before .before .pre .whole .few channels (omega arith),
+)
 
 returns : tie.Need-returns Inv-loop μ-loop
 returns c =
-    c .before .before .before .before .before .before .before .before .before .loop .inv ∙ from-row _ _ _ _ (c .before .before .before .before .before .before .before .if1 .taken) (sym (asked (c .before .before .before)) ∙ ap rowsIn (c .before .x .given .1))
+    c .before .before .before .before .before .before .before .before .before .loop .inv
+    ∙ from-row _ _ _ _ (c .before .before .before .before .before .before .before .if1 .taken)
+    (sym (asked (c .before .before .before)) ∙ ap rowsIn (c .before .x .given .1))
 
 enum-told : tie.Need-enum-told Inv-loop μ-loop
 enum-told c = search needs
 
 add-i : tie.Need-add-i Inv-loop μ-loop
-add-i c = omega (arith, c .before .before .before .before .before .before .if1 .taken, c .before .before .before .before .before .before .before .before .before .before .pre .channel-most, c .before .before .before .before .before .before .before .before .before .before .pre .whole .few channels (omega arith))
+add-i c = omega (
+  arith,
+  c .before .before .before .before .before .before .if1 .taken,
+  c .before .before .before .before .before .before .before .before .before .before .pre .channel-most,
+  c .before .before .before .before .before .before .before .before .before .before .pre .whole .few channels (omega arith),
+)
 
 loop-less : tie.Need-loop-less Inv-loop μ-loop
 loop-less c = omega (arith, c .before .before .before .before .before .before .if1 .taken)
 
 loop-again : tie.Need-loop-again Inv-loop μ-loop
 loop-again c =
-    c .before .before .before .before .before .before .before .before .loop .inv ∙ from-skip _ _ _ (c .before .before .before .before .before .before .if1 .taken) (sym (asked (c .before .before)) ∙ ap rowsIn (c .enum-told .given .1))
+    c .before .before .before .before .before .before .before .before .loop .inv
+    ∙ from-skip _ _ _ (c .before .before .before .before .before .before .if1 .taken) (sym (asked (c .before .before))
+    ∙ ap rowsIn (c .enum-told .given .1))
 
 returns-2 : tie.Need-returns-2 Inv-loop μ-loop
 returns-2 c = c .before .before .loop .inv ∙ from-end _ _ _ (c .if1 .left)

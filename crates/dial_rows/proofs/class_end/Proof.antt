@@ -6,7 +6,7 @@ use lib.ListN.{length}
 use native.Mathlib.Omega.{arith}
 use borrow.Author.Tests.{ne-eqb}
 use Rattle.layout.specs.Layout.{recordSize, trailerSize, privileges, countOf, startOf}
-use Rattle.layout.specs.Form.{table-within}
+use Rattle.layout.specs.Laws.{table-within}
 use Rattle.dial_rows.specs.Class.{isOf, of-in, Past, past-none, past-step}
 use Rattle.dial_rows.proofs.class_end.Statement.{statement}
 use Rattle.dial_rows.proofs.class_end.Tie as tie
@@ -17,13 +17,15 @@ Inv-loop image class start k₀ k = Past image class k
 abbrev μ-loop : tie.MeasureT-loop
 μ-loop image class start k₀ k = k
 
-within : (c : tie.Start Inv-loop μ-loop) → startOf (c .args .image .now) privileges + recordSize * countOf (c .args .image .now) privileges + trailerSize ≤ length (c .args .image .now)
+within : (c : tie.Start Inv-loop μ-loop) → startOf (c .args .image .now) privileges
+    + recordSize * countOf (c .args .image .now) privileges + trailerSize ≤ length (c .args .image .now)
 within c = table-within (c .args .image .now) (c .pre) privileges (omega arith)
 
 -- what a turn asked of the privilege before k
 asked :
     (c : tie.Else1 Inv-loop μ-loop)
-    → isOf (c .before .before .before .before .before .before .before .args .image .now) (c .before .before .before .before .before .before .before .args .class) (c .before .before .before .loop .k - 1) ≡ false
+    → isOf (c .before .before .before .before .before .before .before .args .image .now)
+    (c .before .before .before .before .before .before .before .args .class) (c .before .before .before .loop .k - 1) ≡ false
 asked c =
     of-in _ _ _ (omega (arith, c .before .before .loop-test .taken, c .before .before .before .loop .inv .within))
     ∙ (rw (c .before .before .before .before .before .start-of .ensures) at (rw (c .before .class-at .ensures) at (ne-eqb _ _ (c .if1 .left))))

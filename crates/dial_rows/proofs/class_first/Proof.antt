@@ -6,7 +6,7 @@ use lib.ListN.{length}
 use native.Mathlib.Omega.{arith}
 use borrow.Author.Tests.{ne-eqb}
 use Rattle.layout.specs.Layout.{recordSize, trailerSize, privileges, countOf, startOf}
-use Rattle.layout.specs.Form.{table-within}
+use Rattle.layout.specs.Laws.{table-within}
 use Rattle.dial_rows.specs.Class.{isOf, of-in, Ahead, ahead-none, ahead-step}
 use Rattle.dial_rows.proofs.class_first.Statement.{statement}
 use Rattle.dial_rows.proofs.class_first.Tie as tie
@@ -17,13 +17,15 @@ Inv-loop image class start count i₀ i = Ahead image class i
 abbrev μ-loop : tie.MeasureT-loop
 μ-loop image class start count i₀ i = count - i
 
-within : (c : tie.Start Inv-loop μ-loop) → startOf (c .args .image .now) privileges + recordSize * countOf (c .args .image .now) privileges + trailerSize ≤ length (c .args .image .now)
+within : (c : tie.Start Inv-loop μ-loop) → startOf (c .args .image .now) privileges
+    + recordSize * countOf (c .args .image .now) privileges + trailerSize ≤ length (c .args .image .now)
 within c = table-within (c .args .image .now) (c .pre) privileges (omega arith)
 
 -- what a turn asked of privilege i
 asked :
     (c : tie.Else1 Inv-loop μ-loop)
-    → isOf (c .before .before .before .before .before .before .before .args .image .now) (c .before .before .before .before .before .before .before .args .class) (c .before .before .before .loop .i) ≡ false
+    → isOf (c .before .before .before .before .before .before .before .args .image .now)
+    (c .before .before .before .before .before .before .before .args .class) (c .before .before .before .loop .i) ≡ false
 asked c =
     of-in _ _ _ (omega (arith, c .before .before .loop-test .taken, c .before .before .before .before .count-of .ensures))
     ∙ (rw (c .before .before .before .before .before .start-of .ensures) at (rw (c .before .class-at .ensures) at (ne-eqb _ _ (c .if1 .left))))
@@ -59,7 +61,11 @@ loop-less : tie.Need-loop-less Inv-loop μ-loop
 loop-less c = omega arith
 
 loop-again : tie.Need-loop-again Inv-loop μ-loop
-loop-again c = ahead-step _ _ _ (omega (arith, c .before .before .loop-test .taken, c .before .before .before .before .count-of .ensures)) (c .before .before .before .loop .inv) (asked c)
+loop-again c = ahead-step _ _ _ (omega (
+  arith,
+  c .before .before .loop-test .taken,
+  c .before .before .before .before .count-of .ensures,
+)) (c .before .before .before .loop .inv) (asked c)
 
 returns-2 : tie.Need-returns-2 Inv-loop μ-loop
 returns-2 c = c .before .loop .inv

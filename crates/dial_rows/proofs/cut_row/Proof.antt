@@ -18,7 +18,8 @@ automatic-row-requires c κs = cut-placed _ _ _ (c .before .before .before .pre 
 returns : tie.Need-returns
 returns c =
     let a = c .before .before .before .before .args in
-    c .automatic-row .ensures ∙ cut-in _ _ _ (c .before .before .before .before .pre .0) (a .s) (a .piece) (a .k) (c .before .before .before .before .pre .1) (c .before .before .if1 .taken)
+    c .automatic-row .ensures ∙ cut-in _ _ _ (c .before .before .before .before .pre .0)
+    (a .s) (a .piece) (a .k) (c .before .before .before .before .pre .1) (c .before .before .if1 .taken)
 
 piece-row-requires : tie.Need-piece-row-requires
 piece-row-requires c κs = search needs

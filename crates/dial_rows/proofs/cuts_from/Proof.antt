@@ -29,7 +29,9 @@ add-t11 c = omega (arith, c .before .before .before .before .if1 .taken)
 returns : tie.Need-returns Inv-loop μ-loop
 returns c =
     c .before .before .before .before .before .before .loop .inv
-    ∙ cuts-row _ _ _ (c .before .before .before .before .before .before .before .before .pre) _ _ _ _ (c .before .before .before .before .if1 .taken) (sym (c .before .before .before .cut-row .ensures) ∙ ap rowsIn (c .before .x .given .1))
+    ∙ cuts-row _ _ _ (c .before .before .before .before .before .before .before .before .pre) _ _ _ _
+    (c .before .before .before .before .if1 .taken) (sym (c .before .before .before .cut-row .ensures)
+    ∙ ap rowsIn (c .before .x .given .1))
 
 enum-told : tie.Need-enum-told Inv-loop μ-loop
 enum-told c = search needs
@@ -43,7 +45,8 @@ loop-less c = omega (arith, c .before .before .before .if1 .taken)
 loop-again : tie.Need-loop-again Inv-loop μ-loop
 loop-again c =
     c .before .before .before .before .before .loop .inv
-    ∙ cuts-over _ _ _ (c .before .before .before .before .before .before .before .pre) _ _ _ (c .before .before .before .if1 .taken) (sym (c .before .before .cut-row .ensures) ∙ ap rowsIn (c .enum-told .given .1))
+    ∙ cuts-over _ _ _ (c .before .before .before .before .before .before .before .pre) _ _ _
+    (c .before .before .before .if1 .taken) (sym (c .before .before .cut-row .ensures) ∙ ap rowsIn (c .enum-told .given .1))
 
 returns-2 : tie.Need-returns-2 Inv-loop μ-loop
 returns-2 c = c .before .before .loop .inv ∙ cuts-end _ _ _ (c .before .before .before .before .pre) _ _ _ (c .if1 .left)

@@ -28,13 +28,22 @@ add-pair-from : tie.Need-add-pair-from Inv-loop μ-loop
 add-pair-from c = omega (arith, privilege-placed _ _ _ (c .before .before .before .before .before .pre) _ (c .before .if1 .taken))
 
 pair-from-requires : tie.Need-pair-from-requires Inv-loop μ-loop
-pair-from-requires c κs = (privilege-placed _ _ _ (c .before .before .before .before .before .pre) _ (c .before .if1 .taken), c .before .before .before .before .before .pre)
+pair-from-requires c κs = (
+  privilege-placed _ _ _ (c .before .before .before .before .before .pre) _ (c .before .if1 .taken),
+  c .before .before .before .before .before .pre,
+)
 
 enum-known-x : tie.Need-enum-known-x Inv-loop μ-loop
 enum-known-x c = search needs
 
 behind-requires : tie.Need-behind-requires Inv-loop μ-loop
-behind-requires c κs = omega (arith, privilege-below _ _ _ (c .before .before .before .before .before .before .before .before .before .pre) _ (c .before .before .before .before .before .if1 .taken), c .before .before .before .before .before .before .before .before .before .pre .whole .few privileges (omega arith))
+behind-requires c κs =
+    omega (
+      arith,
+      privilege-below _ _ _ (c .before .before .before .before .before .before .before .before .before .pre) _
+          (c .before .before .before .before .before .if1 .taken),
+      c .before .before .before .before .before .before .before .before .before .pre .whole .few privileges (omega arith),
+    )
 
 returns : tie.Need-returns Inv-loop μ-loop
 returns c =
@@ -42,7 +51,9 @@ returns c =
     let t = c .before .before .before .before .before .before .before .before .loop in
     let more = privilegesFrom (tableOf (a .image .now)) (a .q) (segmentOf (a .r)) in
     t .inv
-    ∙ privilege-turn _ _ _ (c .before .before .before .before .before .before .before .before .before .before .pre) _ (c .before .before .before .before .before .before .if1 .taken) (a .r) (t .from) (c .before .before .before .before .pair-from .result) (c .before .before .before .before .pair-from .ensures)
+    ∙ privilege-turn _ _ _ (c .before .before .before .before .before .before .before .before .before .before .pre) _
+    (c .before .before .before .before .before .before .if1 .taken) (a .r) (t .from)
+    (c .before .before .before .before .pair-from .result) (c .before .before .before .before .pair-from .ensures)
     ∙ ap (privilegeTurn (a .w .cuts) (t .i) more) (c .before .before .x .given .1)
     ∙ ap (λ s. c .before .before .x .given .0 .0 ∷ more s) (sym (c .behind .ensures))
 
@@ -50,7 +61,11 @@ enum-told : tie.Need-enum-told Inv-loop μ-loop
 enum-told c = search needs
 
 add-i : tie.Need-add-i Inv-loop μ-loop
-add-i c = omega (arith, privilege-placed _ _ _ (c .before .before .before .before .before .before .before .before .pre) _ (c .before .before .before .before .if1 .taken))
+add-i c = omega (
+  arith,
+  privilege-placed _ _ _ (c .before .before .before .before .before .before .before .before .pre) _
+      (c .before .before .before .before .if1 .taken),
+)
 
 loop-less : tie.Need-loop-less Inv-loop μ-loop
 loop-less c = omega (arith, c .before .before .before .before .if1 .taken)
@@ -60,7 +75,9 @@ loop-again c =
     let a = c .before .before .before .before .before .before .before .before .args in
     let t = c .before .before .before .before .before .before .loop in
     t .inv
-    ∙ privilege-turn _ _ _ (c .before .before .before .before .before .before .before .before .pre) _ (c .before .before .before .before .if1 .taken) (a .r) (t .from) (c .before .before .pair-from .result) (c .before .before .pair-from .ensures)
+    ∙ privilege-turn _ _ _ (c .before .before .before .before .before .before .before .before .pre) _
+    (c .before .before .before .before .if1 .taken)
+    (a .r) (t .from) (c .before .before .pair-from .result) (c .before .before .pair-from .ensures)
     ∙ ap (privilegeTurn (a .w .cuts) (t .i) (privilegesFrom (tableOf (a .image .now)) (a .q) (segmentOf (a .r)))) (c .enum-told .given .1)
 
 returns-2 : tie.Need-returns-2 Inv-loop μ-loop

@@ -24,7 +24,13 @@ data-of-requires c κs = search needs
 
 returns : tie.Need-returns
 returns c =
-    request-made (c .before .before .before .before .before .before .args .g) (c .before .before .before .before .before .before .args .license) (c .before .before .before .before .before .before .args .sideband) (c .before .before .before .before .before .before .args .control) (c .before .before .before .before .before .before .args .direction) (c .before .before .before .before .before .before .args .margin-hz) (c .before .before .before .before .before .before .args .audio) _ _ _ _ _ _
+    request-made (c .before .before .before .before .before .before .args .g)
+    (c .before .before .before .before .before .before .args .license)
+    (c .before .before .before .before .before .before .args .sideband)
+    (c .before .before .before .before .before .before .args .control)
+    (c .before .before .before .before .before .before .args .direction)
+    (c .before .before .before .before .before .before .args .margin-hz)
+    (c .before .before .before .before .before .before .args .audio) _ _ _ _ _ _
     (c .before .before .before .before .class-code .ensures)
     (c .before .before .before .before .before .width .ensures)
     (c .before .before .before .applies .ensures)

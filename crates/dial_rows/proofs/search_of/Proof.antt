@@ -51,7 +51,11 @@ returns c = (
     is-cut = c .before .before .before .before .before .before .before .before .before .is-cut .ensures;
     cut-count = c .before .before .cut-count .ensures;
     channels-from = c .before .start-of4 .ensures;
-    channel-most = count-most (tableOf (c .before .before .before .before .before .before .before .before .before .before .before .args .image .now)) (c .before .before .before .before .before .before .before .before .before .before .before .args .q) (c .before .before .before .before .before .before .before .before .before .before .before .args .band) _ (c .channel-count .ensures);
+    channel-most =
+        count-most (tableOf (c .before .before .before .before .before .before .before .before .before .before .before .args .image .now))
+        (c .before .before .before .before .before .before .before .before .before .before .before .args .q)
+        (c .before .before .before .before .before .before .before .before .before .before .before .args .band) _
+        (c .channel-count .ensures);
   },
   c .channel-count .ensures,
 )

@@ -61,19 +61,30 @@ returns : tie.Need-returns Inv-loop μ-loop
 returns c =
     let a = c .before .before .before .before .before .before .args in
     pouring-done _ _ _ _ _ _ (c .before .before .before .loop .inv .0)
-    (c .before .before .channels-from .ensures ∙ ap (cutNext (channelsFrom (tableOf (a .image .now)) (a .q) (a .c) ((a .w) .«channel_count»))) (c .enum-told .given .1))
+    (c .before .before .channels-from .ensures
+    ∙ ap (cutNext (channelsFrom (tableOf (a .image .now)) (a .q) (a .c) ((a .w) .«channel_count»))) (c .enum-told .given .1))
 
 add-n : tie.Need-add-n Inv-loop μ-loop
 add-n c =
     let a = c .before .before .before .before .before .before .before .before .before .before .before .args in
-    omega (arith, c .before .before .before .before .before .before .before .before .loop .inv .0 .counted, ap length (given (c .before .before .before .before .before)), band-few (a .image .now) (c .before .before .before .before .before .before .before .before .before .before .before .pre .0 .0 .whole) (a .q) (On (a .c)), c .before .before .before .before .before .before .before .before .before .before .before .pre .1)
+    omega (
+      arith,
+      c .before .before .before .before .before .before .before .before .loop .inv .0 .counted,
+      ap length (given (c .before .before .before .before .before)),
+      band-few (a .image .now)
+          (c .before .before .before .before .before .before .before .before .before .before .before .pre .0 .0 .whole) (a .q) (On (a .c)),
+      c .before .before .before .before .before .before .before .before .before .before .before .pre .1,
+    )
 
 loop-less : tie.Need-loop-less Inv-loop μ-loop
 loop-less c = omega (arith, ap length (given (c .before .before .before .before .before)))
 
 loop-again : tie.Need-loop-again Inv-loop μ-loop
-loop-again c =
-    (pouring-step _ _ _ _ _ _ _ _ _ (c .before .before .before .before .before .before .before .before .loop .inv .0) (given (c .before .before .before .before .before)) (c .before .before .offer .ensures), c .before .before .offer .kept .0 ∙ c .before .before .before .before .before .before .before .before .loop .inv .1)
+loop-again c = (
+  pouring-step _ _ _ _ _ _ _ _ _ (c .before .before .before .before .before .before .before .before .loop .inv .0)
+      (given (c .before .before .before .before .before)) (c .before .before .offer .ensures),
+  c .before .before .offer .kept .0 ∙ c .before .before .before .before .before .before .before .before .loop .inv .1,
+)
 
 pub channel-rows-spec : {M : Type 1} → statement M
 channel-rows-spec =

@@ -32,7 +32,8 @@ same-length c = search needs
 returns : tie.Need-returns
 returns c =
     rw (c .before .before .before .before .before .band .given .1)
-    (poured-more _ _ _ _ _ _ _ _ (c .before .before .before .before .before .before .before .before .before .data-rows .ensures) (c .before .before .channel-rows .ensures))
+    (poured-more _ _ _ _ _ _ _ _ (c .before .before .before .before .before .before .before .before .before .data-rows .ensures)
+    (c .before .before .channel-rows .ensures))
 
 same-length-2 : tie.Need-same-length-2
 same-length-2 c = search needs

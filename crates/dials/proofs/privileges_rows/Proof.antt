@@ -15,7 +15,8 @@ use Rattle.dials.proofs.privileges_rows.Tie as tie
 
 abbrev Inv-loop : tie.InvT-loop
 Inv-loop image rows₀ q w r before spot₀ n₀ rows spot n =
-    Pouring rows₀ before (privilegesRows (tableOf image) q (segmentOf r)) rows n (privilegesFrom (tableOf image) q (segmentOf r) spot) × (length rows ≡ length rows₀)
+    Pouring rows₀ before (privilegesRows (tableOf image) q (segmentOf r)) rows n (privilegesFrom (tableOf image) q (segmentOf r) spot)
+    × (length rows ≡ length rows₀)
 
 abbrev μ-loop : tie.MeasureT-loop
 μ-loop image rows₀ q w r before spot₀ n₀ rows spot n = length (privilegesFrom (tableOf image) q (segmentOf r) spot)
@@ -52,19 +53,31 @@ returns : tie.Need-returns Inv-loop μ-loop
 returns c =
     let a = c .before .before .before .before .before .before .args in
     pouring-done _ _ _ _ _ _ (c .before .before .before .loop .inv .0)
-    (c .before .before .privileges-from .ensures ∙ ap (segmentNext (privilegesFrom (tableOf (a .image .now)) (a .q) (segmentOf (a .r)))) (c .enum-told .given .1))
+    (c .before .before .privileges-from .ensures
+    ∙ ap (segmentNext (privilegesFrom (tableOf (a .image .now)) (a .q) (segmentOf (a .r)))) (c .enum-told .given .1))
 
 add-n : tie.Need-add-n Inv-loop μ-loop
 add-n c =
     let a = c .before .before .before .before .before .before .before .before .before .before .before .args in
-    omega (arith, c .before .before .before .before .before .before .before .before .loop .inv .0 .counted, ap length (given (c .before .before .before .before .before)), privileges-few (a .image .now) (c .before .before .before .before .before .before .before .before .before .before .before .pre .0 .whole) (a .q) (segmentOf (a .r)), c .before .before .before .before .before .before .before .before .before .before .before .pre .1)
+    omega (
+      arith,
+      c .before .before .before .before .before .before .before .before .loop .inv .0 .counted,
+      ap length (given (c .before .before .before .before .before)),
+      privileges-few (a .image .now)
+          (c .before .before .before .before .before .before .before .before .before .before .before .pre .0 .whole) (a .q)
+          (segmentOf (a .r)),
+      c .before .before .before .before .before .before .before .before .before .before .before .pre .1,
+    )
 
 loop-less : tie.Need-loop-less Inv-loop μ-loop
 loop-less c = omega (arith, ap length (given (c .before .before .before .before .before)))
 
 loop-again : tie.Need-loop-again Inv-loop μ-loop
-loop-again c =
-    (pouring-step _ _ _ _ _ _ _ _ _ (c .before .before .before .before .before .before .before .before .loop .inv .0) (given (c .before .before .before .before .before)) (c .before .before .offer .ensures), c .before .before .offer .kept .0 ∙ c .before .before .before .before .before .before .before .before .loop .inv .1)
+loop-again c = (
+  pouring-step _ _ _ _ _ _ _ _ _ (c .before .before .before .before .before .before .before .before .loop .inv .0)
+      (given (c .before .before .before .before .before)) (c .before .before .offer .ensures),
+  c .before .before .offer .kept .0 ∙ c .before .before .before .before .before .before .before .before .loop .inv .1,
+)
 
 pub privileges-rows-spec : {M : Type 1} → statement M
 privileges-rows-spec =

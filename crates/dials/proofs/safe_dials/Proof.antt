@@ -6,7 +6,8 @@ use borrow.Author.Needs.{needs}
 use borrow.Author.Tests.{eq-eqb, ne-eqb}
 use Rattle.codes.specs.Read.{directionValid, directionOf}
 use Rattle.station.specs.Station.{situationOf}
-use Rattle.entry.specs.Entry.{entryOf, entry-whole, edgesRead}
+use Rattle.entry.specs.Entry.{entryOf, edgesRead}
+use Rattle.entry.specs.Laws.{entry-whole}
 use Rattle.table.specs.Table.{tableOf}
 use Rattle.dials.specs.List.{situationRows, listRows, Filled}
 use Rattle.dials.specs.Answer.{filled-none, safe-refused, safe-edges, safe-filled, rows-free, rows-rules}
@@ -59,7 +60,9 @@ direction-of-requires c κs = search needs
 situation-list-requires : tie.Need-situation-list-requires
 situation-list-requires c κs =
     let a = c .before .before .before .before .before .before .before .before .before .before .before .before .before .before .args in
-    entry-whole (a .r) (directionValid (a .direction)) (a .image .now) (sym (said (c .before .before .before .before .before .before .before .before .before .before)) ∙ c .before .before .before .before .before .before .before .before .enum-told .given .1)
+    entry-whole (a .r) (directionValid (a .direction))
+    (a .image .now) (sym (said (c .before .before .before .before .before .before .before .before .before .before))
+    ∙ c .before .before .before .before .before .before .before .before .enum-told .given .1)
     (eq-eqb _ _ (c .before .before .before .before .if2 .taken))
 
 same-length : tie.Need-same-length
@@ -69,10 +72,13 @@ returns : tie.Need-returns
 returns c =
     let a = c .before .before .before .before .before .before .before .before .before .before .before .before .before .before .before .before .before .args in
     safe-filled (a .r) (a .direction) (a .e) (a .image .now) (a .rows .now) (listRows (a .r) (a .direction) (a .e) (a .image .now)) _ _
-    (sym (c .before .before .before .before .before .before .before .before .before .before .before .enum-told .given .1) ∙ said (c .before .before .before .before .before .before .before .before .before .before .before .before .before))
-    (sym (c .before .before .before .before .before .before .before .before .before .before .edges-valid .ensures) ∙ c .before .before .before .before .before .before .before .before .before .if1 .taken)
+    (sym (c .before .before .before .before .before .before .before .before .before .before .before .enum-told .given .1)
+    ∙ said (c .before .before .before .before .before .before .before .before .before .before .before .before .before))
+    (sym (c .before .before .before .before .before .before .before .before .before .before .edges-valid .ensures)
+    ∙ c .before .before .before .before .before .before .before .before .before .if1 .taken)
     refl
-    (rw (rows-rules (a .r) (a .direction) (a .e) (a .image .now) (a .rows .now) (eq-eqb _ _ (c .before .before .before .before .before .before .before .if2 .taken))) (asked (c .before .before)))
+    (rw (rows-rules (a .r) (a .direction) (a .e) (a .image .now) (a .rows .now)
+    (eq-eqb _ _ (c .before .before .before .before .before .before .before .if2 .taken))) (asked (c .before .before)))
 
 returns-2 : tie.Need-returns-2
 returns-2 c =

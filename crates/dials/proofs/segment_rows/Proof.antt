@@ -24,7 +24,8 @@ same-length c = search needs
 returns-2 : tie.Need-returns-2
 returns-2 c =
     let a = c .before .before .before .before .before .before .before .before .args in
-    rw (segment-open (a .image .now) (a .q) (segmentOf (a .r)) (sym (c .before .before .before .before .before .closed .ensures) ∙ c .before .before .before .before .if1 .left))
+    rw (segment-open (a .image .now) (a .q) (segmentOf (a .r))
+    (sym (c .before .before .before .before .before .closed .ensures) ∙ c .before .before .before .before .if1 .left))
     (c .before .before .privileges-rows .ensures)
 
 pub segment-rows-spec : {M : Type 1} → statement M

@@ -18,13 +18,16 @@ same-length : tie.Need-same-length
 same-length c = search needs
 
 returns : tie.Need-returns
-returns c = c .before .before .copy .ensures ∙ copied _ _ _ _ (c .before .before .before .before .before .before .before .before .pre .1) (c .before .before .before .before .before .before .before .before .pre .2) (c .before .before .before .before .if1 .taken)
+returns c = c .before .before .copy .ensures
+    ∙ copied _ _ _ _ (c .before .before .before .before .before .before .before .before .pre .1)
+    (c .before .before .before .before .before .before .before .before .pre .2) (c .before .before .before .before .if1 .taken)
 
 slice-relend-prefix-gather : tie.Need-slice-relend-prefix-gather
 slice-relend-prefix-gather c = search needs
 
 slice-aggregate-gather : tie.Need-slice-aggregate-gather
-slice-aggregate-gather c = sym (length-take-le (c .before .before .before .before .before .args .count * 36) (c .before .before .before .before .before .args .rows .now) (c .before .before .before .before .before .pre .3))
+slice-aggregate-gather c = sym (length-take-le (c .before .before .before .before .before .args .count * 36)
+    (c .before .before .before .before .before .args .rows .now) (c .before .before .before .before .before .pre .3))
 
 gather-requires : tie.Need-gather-requires
 gather-requires c κs = search needs
@@ -34,7 +37,11 @@ same-length-2 c = search needs
 
 returns-2 : tie.Need-returns-2
 returns-2 c =
-    poured-whole _ _ _ _ (gathered-low (c .before .before .before .before .before .before .before .before .args .image .now) (c .before .before .before .before .before .before .before .before .args .q) (c .before .before .before .before .before .before .before .before .args .band)) (c .before .before .before .before .before .before .before .before .pre .2) (c .before .before .before .before .before .before .before .before .pre .3) (c .before .before .gather .ensures .written)
+    poured-whole _ _ _ _ (gathered-low (c .before .before .before .before .before .before .before .before .args .image .now)
+    (c .before .before .before .before .before .before .before .before .args .q)
+    (c .before .before .before .before .before .before .before .before .args .band))
+    (c .before .before .before .before .before .before .before .before .pre .2)
+    (c .before .before .before .before .before .before .before .before .pre .3) (c .before .before .gather .ensures .written)
 
 pub settle-spec : {M : Type 1} → statement M
 settle-spec =

@@ -2,7 +2,8 @@
 use Prim.Native.Nat.{_-_, _≤_}
 use mathlib.Core.Path.{_≡_, refl}
 use native.Mathlib.Omega.{arith}
-use Rattle.distance.specs.Distance.{leastUpTo, least-more}
+use Rattle.distance.specs.Distance.{leastUpTo}
+use Rattle.distance.specs.Laws.{least-more}
 use Rattle.distance.proofs.least.Statement.{statement}
 use Rattle.distance.proofs.least.Tie as tie
 

@@ -1,7 +1,7 @@
 -- `entry::admit` meets its contract: on each way to a return, the tests and what the calls ensure say which case of the definition holds.
 use mathlib.Core.Path.{sym, _∙_}
 use borrow.Author.Tests.{eq-eqb, ne-eqb}
-use Rattle.entry.specs.Entry.{entry-stays, entry-check, entry-free}
+use Rattle.entry.specs.Laws.{entry-stays, entry-check, entry-free}
 use borrow.Author.Needs.{needs}
 use Rattle.entry.proofs.admit.Statement.{statement}
 use Rattle.entry.proofs.admit.Tie as tie

@@ -6,9 +6,10 @@ use lib.ListN.{length}
 use borrow.Author.Needs.{needs}
 use native.Mathlib.Omega.{arith}
 use Rattle.layout.specs.Layout.{recordSize, trailerSize, segments, countOf, startOf}
-use Rattle.layout.specs.Form.{table-within}
-use Rattle.scan.specs.First.{Passed, passed-none, passed-step, found-here, found-none}
-use Rattle.table.specs.Table.{tableOf, read-in}
+use Rattle.layout.specs.Laws.{table-within}
+use Rattle.scan.specs.Laws.{Passed, passed-none, passed-step, found-here, found-none}
+use Rattle.table.specs.Table.{tableOf}
+use Rattle.table.specs.Laws.{read-in}
 use Rattle.find.specs.Question.{homelessAt}
 use Rattle.fault.proofs.find_homeless.Statement.{statement}
 use Rattle.fault.proofs.find_homeless.Tie as tie

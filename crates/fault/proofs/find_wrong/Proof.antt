@@ -4,7 +4,8 @@ use borrow.Author.Needs.{needs}
 use borrow.Author.Tests.{not-true, not-false}
 use native.Mathlib.Omega.{arith}
 use Rattle.layout.specs.declared.General.{General}
-use Rattle.table.specs.Table.{tableOf, count-in}
+use Rattle.table.specs.Table.{tableOf}
+use Rattle.table.specs.Laws.{count-in}
 use Rattle.fault.specs.Fault.{absentPart}
 use Rattle.fault.specs.Laws.{present-first, absent-first, empty-first}
 use Rattle.fault.proofs.find_wrong.Statement.{statement}

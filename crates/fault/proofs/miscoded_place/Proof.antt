@@ -3,7 +3,7 @@ use mathlib.Core.Path.{sym, ap, _∙_}
 use borrow.Author.Needs.{needs}
 use Rattle.layout.specs.declared.General.{General}
 use Rattle.coded.specs.Coded.{codedGeneral}
-use Rattle.scan.specs.First.{cond-yes, cond-not}
+use Rattle.scan.specs.Laws.{cond-yes, cond-not}
 use Rattle.fault.specs.Fault.{miscodedPlace}
 use Rattle.fault.proofs.miscoded_place.Statement.{statement}
 use Rattle.fault.proofs.miscoded_place.Tie as tie

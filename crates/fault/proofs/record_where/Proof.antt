@@ -4,7 +4,8 @@ use mathlib.Core.Path.{sym, ap, _∙_}
 use borrow.Author.Needs.{needs}
 use native.Mathlib.Omega.{arith}
 use Rattle.layout.specs.Layout.{tables}
-use Rattle.scan.specs.First.{Passed, isAt, passed-none, passed-step}
+use Rattle.scan.specs.First.{isAt}
+use Rattle.scan.specs.Laws.{Passed, passed-none, passed-step}
 use Rattle.table.specs.Table.{tableOf}
 use Rattle.fault.specs.Fault.{hasOne, wrongAt}
 use Rattle.fault.specs.Laws.{where-here, where-none}

@@ -3,7 +3,7 @@ use mathlib.Core.Path.{sym, ap, _∙_}
 use borrow.Author.Needs.{needs}
 use Rattle.layout.specs.declared.General.{General}
 use Rattle.image.specs.Check.{soundBlock}
-use Rattle.scan.specs.First.{cond-yes, cond-not}
+use Rattle.scan.specs.Laws.{cond-yes, cond-not}
 use Rattle.fault.specs.Fault.{unsoundPlace}
 use Rattle.fault.proofs.unsound_place.Statement.{statement}
 use Rattle.fault.proofs.unsound_place.Tie as tie

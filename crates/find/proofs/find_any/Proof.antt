@@ -1,7 +1,7 @@
 -- `find::find_any` meets its contract: on each way to a return, the tests and what the calls ensure say which case of the definition holds.
 use Prim.Native.Nat.{_-_}
 use borrow.Author.Needs.{needs}
-use Rattle.scan.specs.First.{Passed, passed-none, passed-step, found-here, found-none}
+use Rattle.scan.specs.Laws.{Passed, passed-none, passed-step, found-here, found-none}
 use Rattle.find.specs.Question.{asksAt}
 use native.Mathlib.Omega.{arith}
 use Rattle.find.proofs.find_any.Statement.{statement}

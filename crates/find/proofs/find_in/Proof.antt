@@ -1,6 +1,6 @@
 -- `find::find_in` meets its contract: on each way to a return, the tests and what the calls ensure say which case of the definition holds.
-use Rattle.layout.specs.Form.{table-within}
-use Rattle.find.specs.Question.{found-in}
+use Rattle.layout.specs.Laws.{table-within}
+use Rattle.find.specs.Laws.{found-in}
 use native.Mathlib.Omega.{arith}
 use borrow.Author.Needs.{needs}
 use Rattle.find.proofs.find_in.Statement.{statement}

@@ -5,9 +5,10 @@ use mathlib.Core.Bool.{not}
 use lib.ListN.{length}
 use borrow.Author.Needs.{needs}
 use Rattle.layout.specs.Layout.{recordSize, trailerSize, segments, countOf, startOf}
-use Rattle.layout.specs.Form.{table-within}
-use Rattle.scan.specs.First.{Passed, passed-none, passed-step, some-here, some-none}
-use Rattle.table.specs.Table.{recordIn, tableOf, read-in}
+use Rattle.layout.specs.Laws.{table-within}
+use Rattle.scan.specs.Laws.{Passed, passed-none, passed-step, some-here, some-none}
+use Rattle.table.specs.Table.{recordIn, tableOf}
+use Rattle.table.specs.Laws.{read-in}
 use Rattle.find.specs.Question.{homelessAt}
 use native.Mathlib.Omega.{arith}
 use Rattle.find.proofs.homeless.Statement.{statement}

@@ -2,9 +2,9 @@
 use mathlib.Core.Path.{sym, _∙_}
 use native.Mathlib.Omega.{arith}
 use borrow.Author.Needs.{needs}
-use Rattle.layout.specs.Form.{table-within}
-use Rattle.scan.specs.First.{first-at}
-use Rattle.find.specs.Question.{pick-in}
+use Rattle.layout.specs.Laws.{table-within}
+use Rattle.scan.specs.Laws.{first-at}
+use Rattle.find.specs.Laws.{pick-in}
 use Rattle.find.specs.declared.Question.the-variants.{Holds}
 use Rattle.find.proofs.pick_holding.Statement.{statement}
 use Rattle.find.proofs.pick_holding.Tie as tie

@@ -1,6 +1,7 @@
 -- `find::pick_in` meets its contract: on each way to a return, the tests and what the calls ensure say which case of the definition holds.
 use mathlib.Core.Path.{sym, _∙_}
-use Rattle.find.specs.Question.{pickIn, found-below}
+use Rattle.find.specs.Question.{pickIn}
+use Rattle.find.specs.Laws.{found-below}
 use borrow.Author.Needs.{needs}
 use Rattle.find.proofs.pick_in.Statement.{statement}
 use Rattle.find.proofs.pick_in.Tie as tie

@@ -1,7 +1,8 @@
 -- `image::check` meets its contract: on each way to a return, the tests and what the calls ensure say which case of the definition holds.
 use mathlib.Core.Path.{sym, _∙_}
-use Rattle.codes.specs.Refusal.{refusal-next, refusal-stays}
-use Rattle.layout.specs.Form.{formTests, whole-of}
+use Rattle.codes.specs.Laws.{refusal-next, refusal-stays}
+use Rattle.layout.specs.Form.{formTests}
+use Rattle.layout.specs.Laws.{whole-of}
 use Rattle.table.specs.Table.{tableOf}
 use Rattle.image.specs.Check.{contentTests, checkOf}
 use borrow.Author.Needs.{needs}

@@ -1,6 +1,6 @@
 -- `judge::closed_by` meets its contract: on each way to a return, the tests and what the calls ensure say which case of the definition holds.
 use mathlib.Core.Path.{sym, _∙_}
-use Rattle.find.specs.Question.{picked, missed}
+use Rattle.find.specs.Laws.{picked, missed}
 use Rattle.judge.specs.Way.{closedBy}
 use borrow.Author.Needs.{needs}
 use Rattle.judge.proofs.closed_by.Statement.{statement}

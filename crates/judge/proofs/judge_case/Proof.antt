@@ -1,6 +1,6 @@
 -- `judge::judge_case` meets its contract: on each way to a return, the tests and what the calls ensure say which case of the definition holds.
 use mathlib.Core.Path.{sym, _∙_}
-use Rattle.find.specs.Question.{picked, missed}
+use Rattle.find.specs.Laws.{picked, missed}
 use Rattle.part97.specs.Part97.{judge}
 use Rattle.part97.specs.Finding.{on-band}
 use borrow.Author.Needs.{needs}

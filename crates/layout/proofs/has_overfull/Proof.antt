@@ -2,7 +2,7 @@
 use Prim.Native.Nat.{_-_}
 use native.Mathlib.Omega.{arith}
 use borrow.Author.Tests.{lt-ltb, le-ltb}
-use Rattle.scan.specs.First.{Passed, passed-none, passed-step, some-here, some-none}
+use Rattle.scan.specs.Laws.{Passed, passed-none, passed-step, some-here, some-none}
 use Rattle.layout.specs.Layout.{tables}
 use Rattle.layout.specs.Form.{overfullAt}
 use Rattle.layout.proofs.has_overfull.Statement.{statement}

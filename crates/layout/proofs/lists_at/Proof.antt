@@ -1,6 +1,6 @@
 -- `layout::lists_at` meets its contract: the bytes as one number.
 use mathlib.Core.Path.{_∙_}
-use Rattle.layout.specs.Layout.{lists-read}
+use Rattle.layout.specs.Laws.{lists-read}
 use borrow.Author.Needs.{needs}
 use Rattle.layout.proofs.lists_at.Statement.{statement}
 use Rattle.layout.proofs.lists_at.Tie as tie

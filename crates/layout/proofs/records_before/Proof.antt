@@ -1,7 +1,8 @@
 -- `layout::records_before` meets its contract: on each way to a return, the tests and what the calls ensure say which case of the definition holds.
 use Prim.Native.Nat.{_*_, _-_, _≤_}
 use mathlib.Core.Path.{_≡_, refl}
-use Rattle.layout.specs.Layout.{recordsBefore, records-more}
+use Rattle.layout.specs.Layout.{recordsBefore}
+use Rattle.layout.specs.Laws.{records-more}
 use native.Mathlib.Omega.{arith}
 use Rattle.layout.proofs.records_before.Statement.{statement}
 use Rattle.layout.proofs.records_before.Tie as tie

@@ -1,6 +1,6 @@
 -- `layout::rules_at` meets its contract: the bytes as one number.
 use mathlib.Core.Path.{_∙_}
-use Rattle.layout.specs.Layout.{rules-read}
+use Rattle.layout.specs.Laws.{rules-read}
 use borrow.Author.Needs.{needs}
 use Rattle.layout.proofs.rules_at.Statement.{statement}
 use Rattle.layout.proofs.rules_at.Tie as tie

@@ -4,8 +4,9 @@ use mathlib.Core.Path.{_≡_, refl}
 use lib.ListN.{length}
 use borrow.Author.Needs.{needs}
 use Rattle.layout.specs.Layout.{recordSize, trailerSize, segments, countOf, startOf}
-use Rattle.layout.specs.Form.{table-within}
-use Rattle.table.specs.Table.{tableOf, read-in}
+use Rattle.layout.specs.Laws.{table-within}
+use Rattle.table.specs.Table.{tableOf}
+use Rattle.table.specs.Laws.{read-in}
 use Rattle.part97.specs.Part97.{nearestUpTo}
 use Rattle.part97.specs.Laws.{nearest-more}
 use native.Mathlib.Omega.{arith}
@@ -18,7 +19,8 @@ Inv-loop s c start count best₀ i₀ best i = (i ≤ count) × (best ≡ neares
 abbrev μ-loop : tie.MeasureT-loop
 μ-loop s c start count best₀ i₀ best i = count - i
 
-within : (c : tie.Start Inv-loop μ-loop) → startOf (c .args .s .now) segments + recordSize * countOf (c .args .s .now) segments + trailerSize ≤ length (c .args .s .now)
+within : (c : tie.Start Inv-loop μ-loop)
+    → startOf (c .args .s .now) segments + recordSize * countOf (c .args .s .now) segments + trailerSize ≤ length (c .args .s .now)
 within c = table-within (c .args .s .now) (c .pre) segments (omega arith)
 
 start-of-requires : tie.Need-start-of-requires Inv-loop μ-loop
@@ -70,7 +72,8 @@ loop-again c = (
 
 returns : tie.Need-returns Inv-loop μ-loop
 returns c =
-    let e : c .before .loop .i ≡ countOf (c .before .before .before .before .before .args .s .now) segments = omega (arith, c .before .before .count-of .ensures) in
+    let e : c .before .loop .i ≡ countOf (c .before .before .before .before .before .args .s .now) segments =
+    omega (arith, c .before .before .count-of .ensures) in
     rw (← e) (c .before .loop .inv .1)
 
 pub nearest-segment-spec : {M : Type 1} → statement M

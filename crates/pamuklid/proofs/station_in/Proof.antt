@@ -1,11 +1,11 @@
 -- Field by field.
 use mathlib.Core.Path.{refl}
-use Rattle.pamuklid.specs.Flat.{recordOf}
+use Rattle.pamuklid.specs.Flat.{stationRecordOf}
 use Rattle.pamuklid.proofs.station_in.Statement.{statement}
 use Rattle.pamuklid.proofs.station_in.Tie as tie
 
 returns : tie.Need-returns
-unfolding recordOf
+unfolding stationRecordOf
 returns c = refl
 
 pub station-in-spec : {M : Type 1} → statement M

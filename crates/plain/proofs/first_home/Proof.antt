@@ -2,7 +2,7 @@
 use Prim.Native.Nat.{_-_}
 use mathlib.Core.Path.{sym, _∙_}
 use native.Mathlib.Omega.{arith}
-use Rattle.scan.specs.First.{Passed, passed-none, passed-step, found-here, found-none}
+use Rattle.scan.specs.Laws.{Passed, passed-none, passed-step, found-here, found-none}
 use Rattle.plain.specs.Home.{heldBits}
 use Rattle.plain.proofs.first_home.Statement.{statement}
 use Rattle.plain.proofs.first_home.Tie as tie

@@ -5,7 +5,7 @@ use borrow.Author.Tests.{lt-leb, le-leb}
 use lib.ListN.{length}
 use borrow.Author.Needs.{needs}
 use Rattle.layout.specs.Layout.{recordsBefore, recordSize, trailerSize, bands, startOf, countOf}
-use Rattle.layout.specs.Form.{table-within}
+use Rattle.layout.specs.Laws.{table-within}
 use Rattle.plain.specs.Home.{heldBits}
 use Rattle.plain.proofs.held_by.Statement.{statement}
 use Rattle.plain.proofs.held_by.Tie as tie

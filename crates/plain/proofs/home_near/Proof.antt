@@ -2,7 +2,8 @@
 use mathlib.Core.Path.{sym, ap, _∙_}
 use native.Mathlib.Omega.{arith}
 use borrow.Author.Needs.{needs}
-use Rattle.scan.specs.First.{isAt, some-true}
+use Rattle.scan.specs.First.{isAt}
+use Rattle.scan.specs.Laws.{some-true}
 use Rattle.plain.proofs.home_near.Statement.{statement}
 use Rattle.plain.proofs.home_near.Tie as tie
 

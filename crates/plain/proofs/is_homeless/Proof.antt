@@ -6,8 +6,9 @@ use lib.ListN.{length}
 use native.Mathlib.Omega.{arith}
 use borrow.Author.Needs.{needs}
 use Rattle.layout.specs.Layout.{recordSize, trailerSize, segments, countOf, startOf}
-use Rattle.layout.specs.Form.{table-within}
-use Rattle.scan.specs.First.{isAt, Passed, passed-none, passed-step, some-here, some-none}
+use Rattle.layout.specs.Laws.{table-within}
+use Rattle.scan.specs.First.{isAt}
+use Rattle.scan.specs.Laws.{Passed, passed-none, passed-step, some-here, some-none}
 use Rattle.table.specs.Table.{tableOf}
 use Rattle.find.specs.Question.{homelessAt}
 use Rattle.plain.specs.Home.{held-some}

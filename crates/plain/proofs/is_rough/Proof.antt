@@ -4,9 +4,9 @@ use mathlib.Core.Path.{_≡_, sym, _∙_}
 use lib.ListN.{length}
 use native.Mathlib.Omega.{arith}
 use borrow.Author.Needs.{needs}
-use Rattle.layout.specs.Layout.{recordSize, trailerSize, tables, countOf, startOf, recordsBefore, records-more}
-use Rattle.layout.specs.Form.{table-within}
-use Rattle.scan.specs.First.{Passed, passed-none, passed-step, some-here, some-none}
+use Rattle.layout.specs.Layout.{recordSize, trailerSize, tables, countOf, startOf, recordsBefore}
+use Rattle.layout.specs.Laws.{records-more, table-within}
+use Rattle.scan.specs.Laws.{Passed, passed-none, passed-step, some-here, some-none}
 use Rattle.plain.specs.Plain.{roughIn, isRough}
 use Rattle.plain.proofs.is_rough.Statement.{statement}
 use Rattle.plain.proofs.is_rough.Tie as tie

@@ -5,7 +5,7 @@ use mathlib.Core.Bool.{not}
 use borrow.Author.Needs.{needs}
 use borrow.Author.Tests.{not-false}
 use native.Mathlib.Omega.{arith}
-use Rattle.scan.specs.First.{some-true, some-all}
+use Rattle.scan.specs.Laws.{some-true, some-all}
 use Rattle.plain.specs.Plain.{plainOf, roughFrom}
 use Rattle.plain.specs.Quick.{Stretch, stretch-more, stretch-on}
 use Rattle.plain.proofs.rough_from.Statement.{statement}

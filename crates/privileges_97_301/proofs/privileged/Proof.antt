@@ -2,7 +2,7 @@
 use mathlib.Core.Path.{_≡_, sym, _∙_}
 use Rattle.profile.specs.Limit.{allowsOf}
 use Rattle.table.specs.Parts.{privilegeOf}
-use Rattle.find.specs.Question.{picked, missed}
+use Rattle.find.specs.Laws.{picked, missed}
 use Rattle.part97.specs.Part97.{privilegedOf}
 use borrow.Author.Needs.{needs}
 use Rattle.privileges_97_301.proofs.privileged.Statement.{statement}
@@ -27,7 +27,9 @@ enum-told : tie.Need-enum-told
 enum-told c = search needs
 
 -- what the privilege's list said
-asked : (c : tie.After-allows) → c .allows .result ≡ allowsOf (privilegeOf (c .before .before .before .i .given .0 .1 .0) .emissions) (c .before .before .before .before .before .before .before .before .before .args .kind)
+asked : (c : tie.After-allows)
+    → c .allows .result ≡ allowsOf (privilegeOf (c .before .before .before .i .given .0 .1 .0) .emissions)
+    (c .before .before .before .before .before .before .before .before .before .args .kind)
 asked c = rw (c .allows .ensures) (rw (c .before .privilege-of .ensures))
 
 returns : tie.Need-returns

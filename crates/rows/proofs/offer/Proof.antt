@@ -23,7 +23,8 @@ returns : tie.Need-returns
 unfolding offerAt
 returns c =
     rw (lt-ltb _ _ (c .before .before .before .before .before .before .before .if1 .taken))
-    (c .before .before .put-row .ensures ∙ insert-behind _ _ _ (sym (c .before .before .before .before .before .follows .ensures) ∙ c .before .before .before .before .if2 .taken))
+    (c .before .before .put-row .ensures ∙ insert-behind _ _ _ (sym (c .before .before .before .before .before .follows .ensures)
+    ∙ c .before .before .before .before .if2 .taken))
 
 insert-requires : tie.Need-insert-requires
 insert-requires c κs = search needs

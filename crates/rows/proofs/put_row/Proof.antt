@@ -41,7 +41,9 @@ returns : tie.Need-returns
 returns c =
     rw (c .before .before .put .ensures)
     (rw (c .before .before .before .before .before .before .before .put-figures .ensures)
-    (row-set (c .before .before .before .before .before .before .before .before .before .before .args .row) (c .before .before .before .before .before .before .before .before .before .before .args .rows .now) (c .before .before .before .before .before .before .before .before .before .before .args .at)))
+    (row-set (c .before .before .before .before .before .before .before .before .before .before .args .row)
+    (c .before .before .before .before .before .before .before .before .before .before .args .rows .now)
+    (c .before .before .before .before .before .before .before .before .before .before .args .at)))
 
 pub put-row-spec : {M : Type 1} → statement M
 put-row-spec =

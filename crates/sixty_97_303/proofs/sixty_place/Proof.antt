@@ -1,7 +1,7 @@
 -- `sixty_97_303::sixty_place` meets its contract: a channel, else the segment, else off channel.
 use mathlib.Core.Path.{sym, _∙_}
 use Rattle.table.specs.Table.{tableOf}
-use Rattle.find.specs.Question.{picked, missed}
+use Rattle.find.specs.Laws.{picked, missed}
 use Rattle.part97.specs.Finding.{on-band}
 use Rattle.part97.specs.Part97.{sixtyPlace}
 use borrow.Author.Needs.{needs}
@@ -57,7 +57,8 @@ returns-2 c =
     let p = picked _ _ _ _ _ (sym (c .before .before .before .before .before .pick-in2 .ensures) ∙ c .before .before .before .k .given .1) in
     rw (c .sixty-segment .ensures (tableOf (a .args .s .now)) (a .pre .1))
     (rw (c .before .segment-of .ensures)
-    (rw (missed _ _ _ (sym (c .before .before .before .before .before .before .before .before .pick-in .ensures) ∙ c .before .before .before .before .before .before .enum-told .given .1))
+    (rw (missed _ _ _ (sym (c .before .before .before .before .before .before .before .before .pick-in .ensures)
+    ∙ c .before .before .before .before .before .before .enum-told .given .1))
     (rw (p .found)
     (rw (← p .here)))))
 

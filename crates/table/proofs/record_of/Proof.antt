@@ -2,9 +2,9 @@
 use Prim.Native.Nat.{_+_, _*_, _≤_}
 use lib.ListN.{length}
 use Rattle.layout.specs.Layout.{recordSize, trailerSize, countOf, startOf}
-use Rattle.layout.specs.Form.{table-within}
+use Rattle.layout.specs.Laws.{table-within}
 use native.Mathlib.Omega.{arith}
-use Rattle.table.specs.Table.{read-in}
+use Rattle.table.specs.Laws.{read-in}
 use borrow.Author.Needs.{needs}
 use Rattle.table.proofs.record_of.Statement.{statement}
 use Rattle.table.proofs.record_of.Tie as tie

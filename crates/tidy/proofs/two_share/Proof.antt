@@ -4,9 +4,11 @@ use mathlib.Core.Path.{_≡_, ap}
 use lib.ListN.{length}
 use borrow.Author.Needs.{needs}
 use Rattle.layout.specs.Layout.{recordSize, trailerSize, countOf, startOf}
-use Rattle.layout.specs.Form.{table-within}
-use Rattle.scan.specs.First.{Passed, isAt, passed-none, passed-step, some-here, some-none}
-use Rattle.table.specs.Table.{tableOf, count-in}
+use Rattle.layout.specs.Laws.{table-within}
+use Rattle.scan.specs.First.{isAt}
+use Rattle.scan.specs.Laws.{Passed, passed-none, passed-step, some-here, some-none}
+use Rattle.table.specs.Table.{tableOf}
+use Rattle.table.specs.Laws.{count-in}
 use Rattle.tidy.specs.Tidy.{twoShare, sharesEarlier}
 use Rattle.tidy.specs.Laws.{earlier-in}
 use native.Mathlib.Omega.{arith}

@@ -30,7 +30,10 @@ range-requires : tie.Need-range-requires
 range-requires c κs = search needs
 
 under-rules-requires : tie.Need-under-rules-requires
-under-rules-requires c κs = (c .before .before .before .before .before .before .pre (c .before .before .before .enum-told3 .given .1), c .before .before .general-of .ensures)
+under-rules-requires c κs = (
+  c .before .before .before .before .before .before .pre (c .before .before .before .enum-told3 .given .1),
+  c .before .before .general-of .ensures,
+)
 
 enum-told-4 : tie.Need-enum-told-4
 enum-told-4 c = search needs
@@ -48,7 +51,9 @@ returns-2 c = rw (c .before .enum-told2 .given .1) (c .unruled2 .ensures)
 
 returns-3 : tie.Need-returns-3
 unfolding decideOf
-returns-3 c = rw (c .before .before .before .before .enum-told3 .given .1) (rw (c .under-rules .ensures) (rw (c .before .range .ensures) (rw (c .before .before .reading-of .ensures) (rw (c .before .before .before .general-of .ensures)))))
+returns-3 c = rw (c .before .before .before .before .enum-told3 .given .1)
+    (rw (c .under-rules .ensures) (rw (c .before .range .ensures)
+    (rw (c .before .before .reading-of .ensures) (rw (c .before .before .before .general-of .ensures)))))
 
 returns-4 : tie.Need-returns-4
 unfolding decideOf

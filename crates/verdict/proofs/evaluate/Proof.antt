@@ -50,7 +50,8 @@ returns-2 c =
     (rw (c .before .before .before .before .before .enum-told .given .1)
     (rw (c .decide .ensures)
     (rw (c .before .edges-read .ensures)
-    (rw (c .before .before .direction-of .ensures) (rw (c .before .before .before .kind-of .ensures) (rw (c .before .before .before .before .situation-of .ensures)))))))
+    (rw (c .before .before .direction-of .ensures) (rw (c .before .before .before .kind-of .ensures)
+    (rw (c .before .before .before .before .situation-of .ensures)))))))
 
 pub evaluate-spec : {M : Type 1} → statement M
 evaluate-spec =

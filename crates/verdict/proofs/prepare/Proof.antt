@@ -26,7 +26,8 @@ enum-told-2 : tie.Need-enum-told-2
 enum-told-2 c = search needs
 
 returns-3 : tie.Need-returns-3
-returns-3 c = ready-license _ _ _ _ _ _ (eq-eqb _ _ (c .before .before .before .before .before .if1 .left)) _ (c .before .before .before .control-set .given .1) (c .enum-told2 .given .1)
+returns-3 c = ready-license _ _ _ _ _ _ (eq-eqb _ _ (c .before .before .before .before .before .if1 .left)) _
+    (c .before .before .before .control-set .given .1) (c .enum-told2 .given .1)
 
 enum-known-sideband-set : tie.Need-enum-known-sideband-set
 enum-known-sideband-set c = search needs
@@ -36,7 +37,8 @@ enum-told-3 c = search needs
 
 returns-4 : tie.Need-returns-4
 returns-4 c =
-    ready-sideband _ _ _ _ _ _ (eq-eqb _ _ (c .before .before .before .before .before .before .before .before .if1 .left)) _ (c .before .before .before .before .before .before .control-set .given .1) _
+    ready-sideband _ _ _ _ _ _ (eq-eqb _ _ (c .before .before .before .before .before .before .before .before .if1 .left)) _
+    (c .before .before .before .before .before .before .control-set .given .1) _
     (c .before .before .before .license-set .given .1) (c .enum-told3 .given .1)
 
 enum-known-dial : tie.Need-enum-known-dial
@@ -47,7 +49,9 @@ enum-told-4 c = search needs
 
 returns-5 : tie.Need-returns-5
 returns-5 c =
-    ready-dial _ _ _ _ _ _ (eq-eqb _ _ (c .before .before .before .before .before .before .before .before .before .before .before .if1 .left)) _ (c .before .before .before .before .before .before .before .before .before .control-set .given .1) _
+    ready-dial _ _ _ _ _ _ (eq-eqb _ _
+    (c .before .before .before .before .before .before .before .before .before .before .before .if1 .left)) _
+    (c .before .before .before .before .before .before .before .before .before .control-set .given .1) _
     (c .before .before .before .before .before .before .license-set .given .1) _ (c .before .before .before .sideband-set .given .1) (c .enum-told4 .given .1)
 
 case-of-requires : tie.Need-case-of-requires
@@ -56,8 +60,11 @@ case-of-requires c κs = search needs
 returns-6 : tie.Need-returns-6
 returns-6 c =
     ap Met (c .case-of .ensures)
-    ∙ ready-met _ _ _ _ _ _ (eq-eqb _ _ (c .before .before .before .before .before .before .before .before .before .before .before .before .before .if1 .left)) _ (c .before .before .before .before .before .before .before .before .before .before .before .control-set .given .1) _
-    (c .before .before .before .before .before .before .before .before .license-set .given .1) _ (c .before .before .before .before .before .sideband-set .given .1) _
+    ∙ ready-met _ _ _ _ _ _ (eq-eqb _ _
+    (c .before .before .before .before .before .before .before .before .before .before .before .before .before .if1 .left)) _
+    (c .before .before .before .before .before .before .before .before .before .before .before .control-set .given .1) _
+    (c .before .before .before .before .before .before .before .before .license-set .given .1) _
+    (c .before .before .before .before .before .sideband-set .given .1) _
     (c .before .before .dial .given .1)
 
 pub prepare-spec : {M : Type 1} → statement M
