@@ -27,13 +27,13 @@ use Rattle.demand_3.specs.Words.{tableInEighths, dialInEighths, tuned, audioOf,
 use Rattle.demand_3.specs.Words.{signalMet, verdictAt, sent, allows, distanceAt, nought, answers, NoneOutside}
 use Rattle.demand_3.specs.Grounds.{tidy-met}
 use Rattle.demand_3.specs.Theorem.{demand-3}
-use Rattle.pamuklid.specs.Flat.{stationRecordOf, edgesOf, flatOf, tidinessFlat, FlatDialed, distanceFlat}
+use Rattle.flat.specs.Flat.{stationRecordOf, edgesOf, flatOf, tidinessFlat, FlatDialed, distanceFlat}
 use Rattle.pamuklid.specs.Safe.{verdict-not-refused, list-not-refused}
-use Rattle.pamuklid.specs.declared.FlatStation.{FlatStation}
-use Rattle.pamuklid.specs.declared.FlatEdges.{FlatEdges}
-use Rattle.pamuklid.specs.declared.FlatDecision.{FlatDecision}
-use Rattle.pamuklid.specs.declared.FlatDials.{FlatDials}
-use Rattle.pamuklid.specs.declared.FlatDistance.{FlatDistance}
+use Rattle.flat.specs.declared.FlatStation.{FlatStation}
+use Rattle.flat.specs.declared.FlatEdges.{FlatEdges}
+use Rattle.flat.specs.declared.FlatDecision.{FlatDecision}
+use Rattle.flat.specs.declared.FlatDials.{FlatDials}
+use Rattle.flat.specs.declared.FlatDistance.{FlatDistance}
 
 -- the station at the dial asked
 unfoldable pub tunedFlat : FlatStation → Float → FlatStation

@@ -54,12 +54,9 @@ use Rattle.ceiling.specs.Ceiling.{rungNumber, judgeBy, burstOf, climbed, anyUnm
 use Rattle.ceiling.specs.Run.{rungBelow, ceiling-run}
 use Rattle.ceiling.specs.declared.Rung.{Rung}
 use Rattle.ceiling.specs.declared.Rung.the-variants.{Fastest, NoRung}
+use Rattle.flat.specs.Fits.{mostRows, Counted, RungFits, FaultFits}
 
 -- ---- the rows of a list
-
--- the most rows that a list can have
-abbrev pub mostRows : ℕ
-mostRows = 16777472
 
 rows-few : (l : List ℕ) → Whole l → (q : Request) → length (rowsOf (tableOf l) q) ≤ mostRows
 unfolding rowsOf
@@ -99,10 +96,6 @@ list-few r direction e l h = go (underRules r) (λ u. entry-whole r (directionVa
     go true w = situation-few l (w refl) (situationOf r) (directionOf direction) (edgesRead e)
     go false w = omega arith
 
--- what the boundary asks of a list's answer
-abbrev pub Counted : DialList → Type 0
-Counted a = (n : ℕ) → a ≡ Rows n → n ≤ mostRows
-
 answer-counted : (c : Checked) (xs : List SafeDial) → (c ≡ Accepted → length xs ≤ mostRows) → Counted (answerOf c xs)
 answer-counted Accepted xs h n e =
     let m = length xs in
@@ -120,15 +113,6 @@ list-counted r direction e l lent =
     (refusal-both (entryTests r (directionValid direction) l) (test 15 (not (edgesValid e)) ∷ lentTests (listRows r direction e l) lent) h .0))
 
 -- ---- the rung of a ceiling
-
--- what the boundary asks of a rung
-abbrev pub RungFits : Rung → Type 0
-RungFits k = (i : ℕ) → k ≡ Fastest i → i < 256
-
--- its number, -1 included, fits in 32 bits with a sign
-pub rung-signed : (k : Rung) → RungFits k → SFits w32 (rungNumber k)
-rung-signed (Fastest i) h = record { sfits = omega (arith, h i refl) }
-rung-signed NoRung h = record { sfits = omega arith }
 
 -- Accepted, a call has at most 256 rungs.
 few-rungs : (rungs : List Float) (floors : List ℕ) → badRungs rungs floors ≡ false → length rungs / 4 ≤ 256
@@ -178,10 +162,6 @@ module _ (r : StationRecord) (direction : ℕ) (ordinary floor : Edges) (l : Lis
           subst RungFits (sym (run .1 .fastest)) (below-fits j (omega arith))
 
 -- ---- the place of a refusal
-
--- what the boundary asks of a place
-abbrev pub FaultFits : Fault → Type 0
-FaultFits f = (t i : ℕ) → f ≡ InRecord t i → (t < 9) × (i < 256)
 
 pub fault-fits : (l : List ℕ) → FaultFits (faultOf l .fault)
 fault-fits l t i e =

@@ -85,11 +85,8 @@ use Rattle.verdict.specs.declared.Ready.the-variants.{Met, Missing}
 use Rattle.ceiling.specs.Ceiling.{judgeBy, climbed, rungTests, ceilingTests, ceilingUnlessRefused, ceilingOf}
 use Rattle.ceiling.specs.Run.{Run, judging, bursts, ceiling-run}
 use Rattle.ceiling.specs.declared.CeilingAnswer.{CeilingAnswer}
-use Rattle.pamuklid.specs.Flat.{guidanceIndex}
-
--- an answer whose guidance has an index below 256, or none
-abbrev pub Indexed : Decision → Type 0
-Indexed d = guidanceIndex (d .advice .guidance) < 256
+use Rattle.flat.specs.Flat.{guidanceIndex}
+use Rattle.flat.specs.Fits.{Indexed}
 
 -- an answer that judging makes
 record Settled (d : Decision) : Type 0 where

@@ -1,4 +1,3 @@
-pub mod Flat
 pub mod Guided
 pub mod Fits
 pub mod Safe

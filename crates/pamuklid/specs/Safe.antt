@@ -33,8 +33,8 @@ use Rattle.dials.specs.declared.DialList.the-variants.{Rows}
 use Rattle.distance.specs.declared.Distance.{Distance}
 use Rattle.distance.specs.declared.Distance.the-variants.{Hertz, NoneListed, Refused as NoAnswer}
 use Rattle.numbers.specs.Refusal.{refusalNumber}
-use Rattle.pamuklid.specs.declared.FlatDials.{FlatDials}
-use Rattle.pamuklid.specs.Flat.{flatOf, ceilingFlat, dialsFlat, FlatDialed, infinityHz, distanceFlat}
+use Rattle.flat.specs.declared.FlatDials.{FlatDials}
+use Rattle.flat.specs.Flat.{flatOf, ceilingFlat, dialsFlat, FlatDialed, infinityHz, distanceFlat}
 use Rattle.pamuklid.specs.Guided.{decision, evaluate-refusal}
 
 -- ---- a refusal's number is at least 1

@@ -1,528 +1,27 @@
-// The boundary to C: the public calls, exported, with flat structs of numbers. It uses codes, profile, occupancy, station,
-// image, fault, tidy, decision, numbers, verdict, ceiling, dials and distance.
-use ceiling::CeilingAnswer;
-use ceiling::Rung;
-use codes::Checked;
-use decision::BandNumber;
-use decision::Decision;
-use decision::Guidance;
-use decision::JudgedSegment;
-use decision::MaybeRange;
-use decision::Overshoot;
-use dials::DialList;
-use distance::Distance;
-use fault::Fault;
-use fault::FaultAnswer;
-use occupancy::Edges;
-use profile::Range;
-use profile::RuleName;
-use station::Figure;
-use station::StationRecord;
-use tidy::Tidiness;
+// The boundary to C: the public calls, exported, with flat structs of numbers. It uses station, image, fault, tidy, numbers, verdict,
+// ceiling, dials, distance and flat.
+use flat::FlatCeiling;
+use flat::FlatDecision;
+use flat::FlatDials;
+use flat::FlatDistance;
+use flat::FlatEdges;
+use flat::FlatFault;
+use flat::FlatStation;
+use flat::FlatTidiness;
 ghost use mathlib.Core.Path.{_≡_};
-ghost use mathlib.Core.Bool.{cond};
-ghost use Prim.Native.Nat.{_<_};
 ghost use Rattle.image.specs.Check.{checkOf};
 ghost use Rattle.fault.specs.Fault.{faultOf};
 ghost use Rattle.tidy.specs.Tidy.{tidyOf};
 ghost use Rattle.station.specs.Station.{freshOf};
 ghost use Rattle.verdict.specs.Verdict.{evaluateOf, unmeasuredOf};
-ghost use Rattle.ceiling.specs.Ceiling.{ceilingOf, rungNumber};
+ghost use Rattle.ceiling.specs.Ceiling.{ceilingOf};
 ghost use Rattle.distance.specs.Distance.{distanceOf};
 ghost use Rattle.numbers.specs.Refusal.{refusalNumber};
-ghost use Rattle.pamuklid.specs.Fits.{FaultFits, RungFits, Counted};
-ghost use Rattle.pamuklid.specs.Flat.{stationRecordOf, stationOf, edgesOf, rangeFlat, segmentFlat, overshootFlat};
-ghost use Rattle.pamuklid.specs.Flat.{guidanceIndex, guidanceFlat, ruleFlat, bandFlat, widthFlat};
-ghost use Rattle.pamuklid.specs.Flat.{faultFlat, tidinessFlat, flatOf, ceilingFlat, dialsFlat, FlatDialed, infinityHz, distanceFlat, versionNumber};
-ghost use Rattle.pamuklid.specs.Guided.{Indexed};
+ghost use Rattle.flat.specs.Flat.{stationRecordOf, stationOf, edgesOf, faultFlat, tidinessFlat, flatOf};
+ghost use Rattle.flat.specs.Flat.{ceilingFlat, FlatDialed, distanceFlat, versionNumber};
 
 // The version of this boundary: 0.2.0.
 pub const VERSION: u32 = 200;
-
-// The station record: codes and presence bytes as document 01 numbers them, figures whatever they are.
-#[repr(C)]
-pub struct FlatStation {
-    pub margin_hz: f64,
-    pub dial_hz: f64,
-    pub power_w: f64,
-    pub policy: u8,
-    pub control: u8,
-    pub license: u8,
-    pub sideband: u8,
-    pub itu_region: u8,
-    pub band_plan: u8,
-    pub dial_known: u8,
-    pub power_known: u8,
-}
-
-// The edges of a signal under both readings, hertz.
-#[repr(C)]
-pub struct FlatEdges {
-    pub power_low: f64,
-    pub power_high: f64,
-    pub spectral_low: f64,
-    pub spectral_high: f64,
-}
-
-// An answer. Absent parts are zero; a refusal has its number, verdict 2 and all else zero.
-#[repr(C)]
-pub struct FlatDecision {
-    pub segment_low: f64,
-    pub segment_high: f64,
-    pub automatic_low: f64,
-    pub automatic_high: f64,
-    pub audio_low: f64,
-    pub audio_high: f64,
-    pub width: f64,
-    pub air_low: f64,
-    pub air_high: f64,
-    pub beyond_hz: f64,
-    pub rule: u16,
-    pub segment_rule: u16,
-    pub guidance_index: u16,
-    pub refusal: u8,
-    pub verdict: u8,
-    pub code: u8,
-    pub rule_known: u8,
-    pub band_known: u8,
-    pub band: u8,
-    pub segment_known: u8,
-    pub automatic_known: u8,
-    pub audio_known: u8,
-    pub air_known: u8,
-    pub overshoot: u8,
-    pub edge: u8,
-    pub guidance: u8,
-    pub note_channel_power: u8,
-    pub note_shared: u8,
-    pub note_segment_power: u8,
-    pub notes: [u8; 256],
-}
-
-// A ceiling. The limit's verdict is 2 in every one: where limit_known is 0 all else of it is zero, but for the number of a refusal.
-// rung is -1 where there is none.
-#[repr(C)]
-pub struct FlatCeiling {
-    pub limit: FlatDecision,
-    pub rung: i32,
-    pub limit_known: u8,
-    pub refusal: u8,
-}
-
-// Where a table is wrong: place is 0 nowhere, 1 the general block, 2 a record. Where there is no record, table is 255 and record 65,535.
-#[repr(C)]
-pub struct FlatFault {
-    pub record: u16,
-    pub table: u8,
-    pub place: u8,
-    pub refusal: u8,
-}
-
-// The tidy question's answer: tidy is 1 only of an accepted image.
-#[repr(C)]
-pub struct FlatTidiness {
-    pub tidy: u8,
-    pub refusal: u8,
-}
-
-// A dial list: the count of its rows, or the refusal's number and count 0.
-#[repr(C)]
-pub struct FlatDials {
-    pub count: u32,
-    pub refusal: u8,
-}
-
-// The distance of a dial; where no row counts and on a refusal listed is 0 and the distance infinite.
-#[repr(C)]
-pub struct FlatDistance {
-    pub distance_hz: f64,
-    pub listed: u8,
-    pub refusal: u8,
-}
-
-// The parts of an answer, each flat.
-pub struct FlatRange {
-    pub low: f64,
-    pub high: f64,
-    pub known: u8,
-}
-
-pub struct FlatSegment {
-    pub low: f64,
-    pub high: f64,
-    pub rule: u16,
-    pub known: u8,
-}
-
-pub struct FlatOvershoot {
-    pub beyond_hz: f64,
-    pub edge: u8,
-    pub number: u8,
-}
-
-pub struct FlatGuidance {
-    pub index: u16,
-    pub number: u8,
-}
-
-pub struct FlatRule {
-    pub rule: u16,
-    pub known: u8,
-}
-
-pub struct FlatBand {
-    pub band: u8,
-    pub known: u8,
-}
-
-fn station_in(s: FlatStation) -> StationRecord
-    ensures { λ r. ⌜ r ≡ stationRecordOf s ⌝ }
-{
-    StationRecord {
-        policy: s.policy,
-        control: s.control,
-        license: s.license,
-        sideband: s.sideband,
-        itu_region: s.itu_region,
-        band_plan: s.band_plan,
-        dial_known: s.dial_known,
-        power_known: s.power_known,
-        margin_hz: s.margin_hz,
-        dial_hz: s.dial_hz,
-        power_w: s.power_w,
-    }
-}
-
-fn station_out(s: StationRecord) -> FlatStation
-    ensures { λ r. ⌜ r ≡ stationOf s ⌝ }
-{
-    FlatStation {
-        margin_hz: s.margin_hz,
-        dial_hz: s.dial_hz,
-        power_w: s.power_w,
-        policy: s.policy,
-        control: s.control,
-        license: s.license,
-        sideband: s.sideband,
-        itu_region: s.itu_region,
-        band_plan: s.band_plan,
-        dial_known: s.dial_known,
-        power_known: s.power_known,
-    }
-}
-
-fn edges_in(e: FlatEdges) -> Edges
-    ensures { λ r. ⌜ r ≡ edgesOf e ⌝ }
-{
-    let power = Range {
-        low_hz: e.power_low,
-        high_hz: e.power_high,
-    };
-    let spectral = Range {
-        low_hz: e.spectral_low,
-        high_hz: e.spectral_high,
-    };
-    Edges { power, spectral }
-}
-
-fn range_flat(m: MaybeRange) -> FlatRange
-    ensures { λ r. ⌜ r ≡ rangeFlat m ⌝ }
-{
-    match m {
-        MaybeRange::Is(a) => FlatRange {
-            low: a.low_hz,
-            high: a.high_hz,
-            known: 1,
-        },
-        MaybeRange::NoRange => FlatRange {
-            low: 0.0,
-            high: 0.0,
-            known: 0,
-        },
-    }
-}
-
-fn segment_flat(s: JudgedSegment) -> FlatSegment
-    ensures { λ r. ⌜ r ≡ segmentFlat s ⌝ }
-{
-    match s {
-        JudgedSegment::Segment(a, rule) => FlatSegment {
-            low: a.low_hz,
-            high: a.high_hz,
-            rule,
-            known: 1,
-        },
-        JudgedSegment::NoSegment => FlatSegment {
-            low: 0.0,
-            high: 0.0,
-            rule: 0,
-            known: 0,
-        },
-    }
-}
-
-fn overshoot_flat(o: Overshoot) -> FlatOvershoot
-    ensures { λ r. ⌜ r ≡ overshootFlat o ⌝ }
-{
-    let number = numbers::overshoot_number(o);
-    match o {
-        Overshoot::Beyond(by, edge) => FlatOvershoot {
-            beyond_hz: by,
-            edge: numbers::edge_number(edge),
-            number,
-        },
-        Overshoot::TooClose(edge) => FlatOvershoot {
-            beyond_hz: 0.0,
-            edge: numbers::edge_number(edge),
-            number,
-        },
-        Overshoot::NoOvershoot => FlatOvershoot {
-            beyond_hz: 0.0,
-            edge: 0,
-            number,
-        },
-    }
-}
-
-fn guidance_flat(g: Guidance) -> FlatGuidance
-    requires { ⌜ guidanceIndex g < 256 ⌝ }
-    ensures { λ r. ⌜ r ≡ guidanceFlat g ⌝ }
-{
-    let number = numbers::guidance_number(g);
-    match g {
-        Guidance::Avoid(i) => FlatGuidance {
-            index: i as u16,
-            number,
-        },
-        Guidance::Inside(i) => FlatGuidance {
-            index: i as u16,
-            number,
-        },
-        Guidance::Outside => FlatGuidance { index: 0, number },
-        Guidance::NoGuidance => FlatGuidance { index: 0, number },
-    }
-}
-
-fn rule_flat(n: RuleName) -> FlatRule
-    ensures { λ r. ⌜ r ≡ ruleFlat n ⌝ }
-{
-    match n {
-        RuleName::Named(rule) => FlatRule { rule, known: 1 },
-        RuleName::Unnamed => FlatRule { rule: 0, known: 0 },
-    }
-}
-
-fn band_flat(b: BandNumber) -> FlatBand
-    ensures { λ r. ⌜ r ≡ bandFlat b ⌝ }
-{
-    match b {
-        BandNumber::Band(band) => FlatBand { band, known: 1 },
-        BandNumber::NoBand => FlatBand { band: 0, known: 0 },
-    }
-}
-
-fn width_flat(w: Figure) -> f64
-    ensures { λ r. ⌜ r ≡ widthFlat w ⌝ }
-{
-    match w {
-        Figure::Known(x) => x,
-        Figure::Absent => 0.0,
-    }
-}
-
-fn mark(b: bool) -> u8
-    ensures { λ r. ⌜ r ≡ cond b 1 0 ⌝ }
-{
-    if b { 1 } else { 0 }
-}
-
-// The place of a refusal, flat.
-fn fault_flat(a: FaultAnswer) -> FlatFault
-    requires { ⌜ FaultFits (a .fault) ⌝ }
-    ensures { λ r. ⌜ r ≡ faultFlat a ⌝ }
-{
-    let checked = a.refusal;
-    let f = a.fault;
-    let refusal = numbers::refusal_number(checked);
-    let place = fault::fault_number(f);
-    match f {
-        Fault::InRecord(t, i) => FlatFault {
-            record: i as u16,
-            table: t as u8,
-            place,
-            refusal,
-        },
-        Fault::InGeneral => FlatFault {
-            record: 65535,
-            table: 255,
-            place,
-            refusal,
-        },
-        Fault::Nowhere => FlatFault {
-            record: 65535,
-            table: 255,
-            place,
-            refusal,
-        },
-    }
-}
-
-// The tidy question's answer, flat.
-fn tidiness_flat(t: Tidiness) -> FlatTidiness
-    ensures { λ r. ⌜ r ≡ tidinessFlat t ⌝ }
-{
-    match t {
-        Tidiness::Untidy => FlatTidiness {
-            tidy: 0,
-            refusal: 0,
-        },
-        Tidiness::Tidy => FlatTidiness {
-            tidy: 1,
-            refusal: 0,
-        },
-        Tidiness::NotJudged(n) => FlatTidiness {
-            tidy: 0,
-            refusal: n,
-        },
-    }
-}
-
-// An answer, flat.
-fn flat(d: Decision) -> FlatDecision
-    requires { ⌜ Indexed d ⌝ }
-    ensures { λ r. ⌜ r ≡ flatOf d ⌝ }
-{
-    let refusal = d.refusal;
-    let verdict = d.verdict;
-    let code = d.code;
-    let rule = d.rule;
-    let band = d.band;
-    let judged = d.segment;
-    let automatic_segment = d.automatic_segment;
-    let audio_range = d.audio;
-    let width = d.width;
-    let air_range = d.air;
-    let over = d.overshoot;
-    let advice = d.advice;
-    let guided = advice.guidance;
-    let notes = advice.notes;
-    let sixty = advice.sixty;
-    let named = rule_flat(rule);
-    let numbered = band_flat(band);
-    let segment = segment_flat(judged);
-    let automatic = range_flat(automatic_segment);
-    let audio = range_flat(audio_range);
-    let air = range_flat(air_range);
-    let overshoot = overshoot_flat(over);
-    let guidance = guidance_flat(guided);
-    FlatDecision {
-        segment_low: segment.low,
-        segment_high: segment.high,
-        automatic_low: automatic.low,
-        automatic_high: automatic.high,
-        audio_low: audio.low,
-        audio_high: audio.high,
-        width: width_flat(width),
-        air_low: air.low,
-        air_high: air.high,
-        beyond_hz: overshoot.beyond_hz,
-        rule: named.rule,
-        segment_rule: segment.rule,
-        guidance_index: guidance.index,
-        refusal: numbers::refusal_number(refusal),
-        verdict: numbers::verdict_number(verdict),
-        code: numbers::code_number(code),
-        rule_known: named.known,
-        band_known: numbered.known,
-        band: numbered.band,
-        segment_known: segment.known,
-        automatic_known: automatic.known,
-        audio_known: audio.known,
-        air_known: air.known,
-        overshoot: overshoot.number,
-        edge: overshoot.edge,
-        guidance: guidance.number,
-        note_channel_power: mark(sixty.channel_power),
-        note_shared: mark(sixty.shared),
-        note_segment_power: mark(sixty.segment_power),
-        notes,
-    }
-}
-
-fn rung_number(k: Rung) -> i32
-    requires { ⌜ RungFits k ⌝ }
-    ensures { λ r. ⌜ r ≡ rungNumber k ⌝ }
-{
-    match k {
-        Rung::Fastest(i) => i as i32,
-        Rung::NoRung => -1,
-    }
-}
-
-// A ceiling, flat.
-fn ceiling_flat(a: CeilingAnswer) -> FlatCeiling
-    requires { ⌜ (RungFits (a .rung)) × (Indexed (a .limit)) ⌝ }
-    ensures { λ r. ⌜ r ≡ ceilingFlat a ⌝ }
-{
-    let refusal = a.refusal;
-    let fastest = a.rung;
-    let limit = a.limit;
-    let rung = rung_number(fastest);
-    FlatCeiling {
-        limit: flat(limit),
-        rung,
-        limit_known: mark(a.limited),
-        refusal: numbers::refusal_number(refusal),
-    }
-}
-
-// A dial list's answer, flat.
-fn dials_flat(a: DialList) -> FlatDials
-    requires { ⌜ Counted a ⌝ }
-    ensures { λ r. ⌜ r ≡ dialsFlat a ⌝ }
-{
-    match a {
-        DialList::Rows(n) => FlatDials {
-            count: n as u32,
-            refusal: 0,
-        },
-        DialList::Refused(n) => FlatDials {
-            count: 0,
-            refusal: n,
-        },
-    }
-}
-
-// No distance: nothing to be near to.
-fn infinity() -> f64
-    ensures { λ r. ⌜ r ≡ infinityHz ⌝ }
-{
-    f64::from_bits(0x7ff0_0000_0000_0000)
-}
-
-// A distance, flat.
-fn distance_flat(d: Distance) -> FlatDistance
-    ensures { λ r. ⌜ r ≡ distanceFlat d ⌝ }
-{
-    let none = infinity();
-    match d {
-        Distance::Hertz(x) => FlatDistance {
-            distance_hz: x,
-            listed: 1,
-            refusal: 0,
-        },
-        Distance::NoneListed => FlatDistance {
-            distance_hz: none,
-            listed: 0,
-            refusal: 0,
-        },
-        Distance::Refused(n) => FlatDistance {
-            distance_hz: none,
-            listed: 0,
-            refusal: n,
-        },
-    }
-}
 
 // The version of this boundary, that of the header: 10,000 times the first number, 100 times the second, and the third.
 #[no_mangle]
@@ -545,7 +44,7 @@ pub extern "C" fn pamuklid_check(image: &[u8]) -> u8
 pub extern "C" fn pamuklid_fault_of(image: &[u8]) -> FlatFault
     ensures { λ r. ⌜ r ≡ faultFlat (faultOf (now (image .entry))) ⌝ }
 {
-    fault_flat(fault::fault_of(image))
+    flat::fault_flat(fault::fault_of(image))
 }
 
 // Whether an image's table is tidy, or the image's refusal.
@@ -553,7 +52,7 @@ pub extern "C" fn pamuklid_fault_of(image: &[u8]) -> FlatFault
 pub extern "C" fn pamuklid_tidy(image: &[u8]) -> FlatTidiness
     ensures { λ r. ⌜ r ≡ tidinessFlat (tidyOf (now (image .entry))) ⌝ }
 {
-    tidiness_flat(tidy::is_tidy(image))
+    flat::tidiness_flat(tidy::is_tidy(image))
 }
 
 // A fresh station record.
@@ -561,7 +60,7 @@ pub extern "C" fn pamuklid_tidy(image: &[u8]) -> FlatTidiness
 pub extern "C" fn pamuklid_fresh() -> FlatStation
     ensures { λ r. ⌜ r ≡ stationOf freshOf ⌝ }
 {
-    station_out(station::fresh())
+    flat::station_out(station::fresh())
 }
 
 // Judge a transmission.
@@ -575,9 +74,9 @@ pub extern "C" fn pamuklid_evaluate(
 ) -> FlatDecision
     ensures { λ r. ⌜ r ≡ flatOf (evaluateOf (stationRecordOf s) kind direction (edgesOf e) (now (image .entry))) ⌝ }
 {
-    let record = station_in(s);
-    let edges = edges_in(e);
-    flat(verdict::evaluate(record, kind, direction, edges, image))
+    let record = flat::station_in(s);
+    let edges = flat::edges_in(e);
+    flat::flat(verdict::evaluate(record, kind, direction, edges, image))
 }
 
 // The refusal of a transmission whose spectrum is not known.
@@ -585,8 +84,8 @@ pub extern "C" fn pamuklid_evaluate(
 pub extern "C" fn pamuklid_unmeasured(s: FlatStation, image: &[u8]) -> FlatDecision
     ensures { λ r. ⌜ r ≡ flatOf (unmeasuredOf (stationRecordOf s) (now (image .entry))) ⌝ }
 {
-    let record = station_in(s);
-    flat(verdict::unmeasured(record, image))
+    let record = flat::station_in(s);
+    flat::flat(verdict::unmeasured(record, image))
 }
 
 // The fastest rung that may be sent, and the answer on the first that may not.
@@ -603,9 +102,9 @@ pub extern "C" fn pamuklid_ceiling_of(
     ensures { λ r. ⌜ r ≡ ceilingFlat (ceilingOf (stationRecordOf s) direction
         (edgesOf ordinary) (edgesOf floor) (now (image .entry)) (now (rungs .entry)) (now (floors .entry))) ⌝ }
 {
-    let record = station_in(s);
-    let ordinary_edges = edges_in(ordinary);
-    let floor_edges = edges_in(floor);
+    let record = flat::station_in(s);
+    let ordinary_edges = flat::edges_in(ordinary);
+    let floor_edges = flat::edges_in(floor);
     let answer = ceiling::ceiling(
         record,
         direction,
@@ -615,7 +114,7 @@ pub extern "C" fn pamuklid_ceiling_of(
         rungs,
         floors,
     );
-    ceiling_flat(answer)
+    flat::ceiling_flat(answer)
 }
 
 // The dials that keep a signal of these edges inside the rules, as rows of 36 bytes.
@@ -629,10 +128,10 @@ pub extern "C" fn pamuklid_safe_dials(
 ) -> FlatDials
     ensures { λ r. ⌜ FlatDialed (stationRecordOf s) direction (edgesOf e) (now (image .entry)) (now (rows .entry)) (now (rows .exit)) r ⌝ }
 {
-    let record = station_in(s);
-    let edges = edges_in(e);
+    let record = flat::station_in(s);
+    let edges = flat::edges_in(e);
     let answer = dials::safe_dials(record, direction, edges, image, rows);
-    dials_flat(answer)
+    flat::dials_flat(answer)
 }
 
 // How far a dial stands from the nearest of the first count rows of a list, those of the channel band left out. flags and channel_band
@@ -647,5 +146,5 @@ pub extern "C" fn pamuklid_distance_of(
 ) -> FlatDistance
     ensures { λ r. ⌜ r ≡ distanceFlat (distanceOf «dial_hz» flags «channel_band» count (now (rows .entry))) ⌝ }
 {
-    distance_flat(distance::distance_of(dial_hz, flags, channel_band, count as usize, rows))
+    flat::distance_flat(distance::distance_of(dial_hz, flags, channel_band, count as usize, rows))
 }

@@ -4,11 +4,11 @@
 // refusals, distances and the parts that the Rust has only as words as document 01 gives them. compare/src/replay.rs says what the
 // bytes mean, and makes sure that every code and every refusal of each call is there. It uses figures, layout and
 // pamuklid.
-use pamuklid::FlatCeiling;
-use pamuklid::FlatDecision;
-use pamuklid::FlatDistance;
-use pamuklid::FlatEdges;
-use pamuklid::FlatStation;
+use flat::FlatCeiling;
+use flat::FlatDecision;
+use flat::FlatDistance;
+use flat::FlatEdges;
+use flat::FlatStation;
 
 // The largest image with its cases.
 const LARGEST: usize = 163840;

@@ -1,5 +1,5 @@
 //! The declarations agree: the C header (include/pamuklid.h), this crate (src/raw.rs) and the library's
-//! own source (crates/pamuklid/src). Structs field by field, calls argument by argument, and the
+//! own source (crates/flat/src, crates/pamuklid/src). Structs field by field, calls argument by argument, and the
 //! header's numbers by their names.
 
 use std::collections::{BTreeMap, BTreeSet};
@@ -336,15 +336,9 @@ fn of_rust(source: &str) -> (Structs, Calls) {
 
 /// The library's own source.
 fn library() -> String {
-    let folder = Path::new(env!("CARGO_MANIFEST_DIR")).join("../../crates/pamuklid/src");
-    let mut out = String::new();
-    for entry in fs::read_dir(&folder).expect("the library's source") {
-        let path = entry.unwrap().path();
-        if path.extension().is_some_and(|e| e == "rt") {
-            out += &fs::read_to_string(path).unwrap();
-        }
-    }
-    out
+    let crates = Path::new(env!("CARGO_MANIFEST_DIR")).join("../../crates");
+    let source = |name| fs::read_to_string(crates.join(name).join("src/lib.rt"));
+    ["flat", "pamuklid"].map(|name| source(name).expect("the library's source")).concat()
 }
 
 #[test]
