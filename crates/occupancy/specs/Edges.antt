@@ -7,12 +7,6 @@ use Rattle.occupancy.specs.declared.Edges.{Edges}
 use Rattle.occupancy.specs.declared.Reading.{Reading}
 use Rattle.occupancy.specs.declared.Reading.the-variants.{Power, Spectral, Wider}
 
--- "41 reading (0 power, 1 spectral, 2 wider)"
-abbrev pub readingCode : Reading → ℕ
-readingCode Power = 0
-readingCode Spectral = 1
-readingCode Wider = 2
-
 -- the least range that takes in two: the lower low and the higher high
 abbrev pub hullOf : Range → Range → Range
 hullOf a b = range (minOf (a .«low_hz») (b .«low_hz»)) (maxOf (a .«high_hz») (b .«high_hz»))
