@@ -28,8 +28,8 @@
 extern "C" {
 #endif
 
-/* The version of this header, 0.2.0: major * 10000 + minor * 100 + patch. */
-#define PAMUKLID_VERSION 200
+/* The version of this header, 0.3.0: major * 10000 + minor * 100 + patch. */
+#define PAMUKLID_VERSION 300
 
 /* Refusals, by number. A call that is refused has answered nothing: send nothing. */
 #define PAMUKLID_ACCEPTED 0                 /* none: the image is accepted, the call was answered */
@@ -338,7 +338,7 @@ pamuklid_fault pamuklid_fault_of(const uint8_t *image, size_t n);
  * the same; list and verdict may then differ. Reads image[0] to image[n - 1]. */
 pamuklid_tidiness pamuklid_tidy(const uint8_t *image, size_t n);
 
-/* A fresh station: PAMUKLID_POLICY_UNSET, region 0, margin 0, plan off, all else absent. It permits nothing. A
+/* A fresh station: PAMUKLID_POLICY_UNSET, region 2, margin 50, plan off, all else absent. It permits nothing. A
  * station of zero bytes is not fresh: control, license and sideband 0 are local, Novice and upper. */
 pamuklid_station pamuklid_fresh(void);
 

@@ -285,17 +285,17 @@ pub fn rows_refused(count: usize, rows_lent_bytes: usize) -> bool {
     count > rows_lent_bytes / 36
 }
 
-/// "A fresh station record follows `Situation`'s `Default`: region 0, margin 0, plan off, the rest
-/// absent."
+/// "A fresh station record now has region 2 and margin 50": document 02. Else it follows
+/// `Situation`'s `Default`, which keeps region 0 and margin 0: "plan off, the rest absent".
 pub const FRESH: Station = Station {
-    margin_hz: 0.0,
+    margin_hz: 50.0,
     dial_hz: 0.0,
     power_w: 0.0,
     policy: 0,
     control: 255,
     license: 255,
     sideband: 255,
-    itu_region: 0,
+    itu_region: 2,
     band_plan: 0,
     dial_known: 0,
     power_known: 0,

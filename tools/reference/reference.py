@@ -478,10 +478,11 @@ ABSENT = 255
 
 
 def fresh_station():
-    """"A fresh station record follows `Situation`'s `Default`: region 0, margin 0, plan off, the
-    rest absent." DECISION: the policy is part of the record; the fresh one is "0 unset"."""
-    return {"policy": 0, "control": ABSENT, "license": ABSENT, "sideband": ABSENT, "region": 0,
-            "plan": 0, "dial_here": 0, "power_here": 0, "margin": 0, "dial": 0, "power": 0}
+    """"A fresh station record now has region 2 and margin 50" (document 02). Else it follows
+    `Situation`'s `Default`: "plan off, the rest absent". DECISION: the policy is part of the
+    record; the fresh one is "0 unset"."""
+    return {"policy": 0, "control": ABSENT, "license": ABSENT, "sideband": ABSENT, "region": 2,
+            "plan": 0, "dial_here": 0, "power_here": 0, "margin": 50, "dial": 0, "power": 0}
 
 
 def station_codes_right(station, direction, kind):

@@ -236,6 +236,6 @@ distanceFlat (Hertz x) = record { «distance_hz» = x; listed = 1; refusal = 0 }
 distanceFlat NoneListed = record { «distance_hz» = infinityHz; listed = 0; refusal = 0 }
 distanceFlat (NoAnswer n) = record { «distance_hz» = infinityHz; listed = 0; refusal = n }
 
--- the boundary's version, 0.2.0: 10,000 times the first number, 100 times the second, and the third
+-- the boundary's version, 0.3.0: 10,000 times the first number, 100 times the second, and the third
 abbrev pub versionNumber : ℕ
-versionNumber = 200
+versionNumber = 300

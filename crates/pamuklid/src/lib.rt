@@ -20,8 +20,8 @@ ghost use Rattle.numbers.specs.Refusal.{refusalNumber};
 ghost use Rattle.flat.specs.Flat.{stationRecordOf, stationOf, edgesOf, faultFlat, tidinessFlat, flatOf};
 ghost use Rattle.flat.specs.Flat.{ceilingFlat, FlatDialed, distanceFlat, versionNumber};
 
-// The version of this boundary: 0.2.0.
-pub const VERSION: u32 = 200;
+// The version of this boundary: 0.3.0.
+pub const VERSION: u32 = 300;
 
 // The version of this boundary, that of the header: 10,000 times the first number, 100 times the second, and the third.
 #[no_mangle]
@@ -55,7 +55,7 @@ pub extern "C" fn pamuklid_tidy(image: &[u8]) -> FlatTidiness
     flat::tidiness_flat(tidy::is_tidy(image))
 }
 
-// A fresh station record.
+// A fresh station record: region 2, margin 50, and nothing else known.
 #[no_mangle]
 pub extern "C" fn pamuklid_fresh() -> FlatStation
     ensures { λ r. ⌜ r ≡ stationOf freshOf ⌝ }

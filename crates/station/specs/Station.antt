@@ -4,7 +4,7 @@ use mathlib.Core.Bool.{Bool, true, false, not, cond, _&&_, _||_}
 use mathlib.Core.List.{List, [], _∷_}
 use lib.Dec.{leb, eqb}
 use lib.ListN.{length}
-use lib.Ieee.{Float}
+use lib.Ieee.{Float, binary64, ofBits}
 use Rattle.figures.specs.Figure.{zeroHz, limit40, inSize, readHz}
 use Rattle.codes.specs.Code.{policyCode}
 use Rattle.codes.specs.Read.{policyValid, controlValid, licenseValid, sidebandValid, policyOf, controlOf, licenseOf, sidebandOf}
@@ -61,7 +61,12 @@ abbrev pub stationTests : StationRecord → Bool → List ℕ → List Test
 stationTests r beside l =
     test 20 (not (codesValid r) || not beside) ∷ test 21 (not (figuresValid r)) ∷ test 22 (underRules r && eqb (length l) 0) ∷ []
 
--- "A fresh station record follows `Situation`'s `Default`: region 0, margin 0, plan off, the rest absent." The policy is unset.
+-- 50
+abbrev pub freshMargin : Float
+freshMargin = ofBits binary64 0x4049_0000_0000_0000
+
+-- "A fresh station record now has region 2 and margin 50." Else it follows `Situation`'s `Default`: "plan off, the rest absent". The
+-- policy is unset.
 abbrev pub freshOf : StationRecord
 freshOf =
     record {
@@ -69,11 +74,11 @@ freshOf =
       control = 255;
       license = 255;
       sideband = 255;
-      «itu_region» = 0;
+      «itu_region» = 2;
       «band_plan» = 0;
       «dial_known» = 0;
       «power_known» = 0;
-      «margin_hz» = zeroHz;
+      «margin_hz» = freshMargin;
       «dial_hz» = zeroHz;
       «power_w» = zeroHz;
     }

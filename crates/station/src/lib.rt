@@ -134,7 +134,7 @@ pub fn refusals(r: StationRecord, beside: bool, image: &[u8]) -> Checked
     Checked::Accepted
 }
 
-// A fresh record.
+// A fresh record: region 2, margin 50, and nothing else known. Its policy is unset, so it permits nothing.
 pub fn fresh() -> StationRecord
     ensures { λ r. ⌜ r ≡ freshOf ⌝ }
 {
@@ -143,11 +143,11 @@ pub fn fresh() -> StationRecord
         control: 255,
         license: 255,
         sideband: 255,
-        itu_region: 0,
+        itu_region: 2,
         band_plan: 0,
         dial_known: 0,
         power_known: 0,
-        margin_hz: 0.0,
+        margin_hz: 50.0,
         dial_hz: 0.0,
         power_w: 0.0,
     }

@@ -44,7 +44,7 @@ fn figures() {
     reads(range(14_000_000.0, 14_150_000.0), "14,000,000 to 14,150,000 Hz");
     let segment = Segment { range: range(20.0, 80.5), rule: Rule::Table(13) };
     reads(segment, "20 to 80.5 Hz (rule 13 of the table)");
-    reads(Version { major: 0, minor: 2, patch: 0 }, "0.2.0");
+    reads(Version { major: 0, minor: 3, patch: 0 }, "0.3.0");
     reads(Version::from_number(123_456), "12.34.56");
 }
 
