@@ -1340,10 +1340,10 @@ def station_cases():
             ["policy 2 control 0 license 2 sideband 0 region 2 plan 0 dial 416ae4c400000000 "
              "power 4059000000000000 margin 4049000000000000 direction 0 kind 0 "])
     station("the fresh record",
-            ["policy 0 control 255 license 255 sideband 255 region 0 plan 0 dial absent "
-             "power absent margin 0000000000000000 direction 0 kind 0 "],
-            policy=0, control=255, license=255, sideband=255, region=0, plan=0, dial_here=0,
-            power_here=0, margin=0, dial=0, power=0, image=0)
+            ["policy 0 control 255 license 255 sideband 255 region 2 plan 0 dial absent "
+             "power absent margin 4049000000000000 direction 0 kind 0 "],
+            policy=0, control=255, license=255, sideband=255, region=2, plan=0, dial_here=0,
+            power_here=0, margin=0x4049000000000000, dial=0, power=0, image=0)
     station("a record of zero bytes isn't fresh",
             ["policy 0 control 0 license 0 sideband 0 region 0 plan 0 dial absent power absent "],
             policy=0, control=0, license=0, sideband=0, region=0, plan=0, dial_here=0,
@@ -1461,6 +1461,11 @@ def station_cases():
             changes[figure] = figures[dice.below(len(figures))]
         changes["image"] = int(dice.below(4) > 0)
         station("random station %d" % k, None, **changes)
+    station("the fresh record with region 0 and margin 0 passed",
+            ["policy 0 control 255 license 255 sideband 255 region 0 plan 0 dial absent "
+             "power absent margin 0000000000000000 direction 0 kind 0 "],
+            policy=0, control=255, license=255, sideband=255, region=0, plan=0, dial_here=0,
+            power_here=0, margin=0, dial=0, power=0, image=0)
 
 
 # ---------------------------------------------------------------------------------------------

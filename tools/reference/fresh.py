@@ -50,7 +50,7 @@ def rows_of(image, margin):
         low, high = centre - width / 2.0, centre + width / 2.0
         dial = centre - offset
         if low <= dial + LOW - margin and dial + HIGH + margin <= high:
-            rows.append((low, high, dial, dial, general[43], struct.unpack("<H", general[50:52])[0]))
+            rows.append((low, high, dial, dial, general[43], struct.unpack("<H", general[52:54])[0]))
     return sorted(rows, key=lambda row: row[2])
 
 

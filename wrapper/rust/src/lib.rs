@@ -10,7 +10,7 @@
 //! | [`check`] | whether an image is accepted |
 //! | [`fault_of`] | where a table is wrong |
 //! | [`tidy`] | whether an image's table is tidy |
-//! | [`Station::fresh`] | a station of which nothing is known: it permits nothing |
+//! | [`Station::fresh`] | a fresh station, in region 2 with a margin of 50 Hz: it permits nothing |
 //! | [`evaluate`] | the verdict on a transmission |
 //! | [`unmeasured`] | the answer for a signal whose spectrum is not known |
 //! | [`ceiling`] | the fastest rung that may be sent |

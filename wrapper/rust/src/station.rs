@@ -35,7 +35,8 @@ pub struct Station {
 }
 
 impl Station {
-    /// A station of which nothing is known. It permits nothing.
+    /// A fresh station: region 2, a margin of 50 Hz, the plan off, and nothing else known. Its policy is
+    /// unset, so it permits nothing.
     pub fn fresh() -> Self {
         version::checked();
         Self::of(&raw::fresh())
