@@ -90,11 +90,15 @@ fn judged(name: &[u8], s: StationRecord, image: &[u8]) {
     number(b": code", numbers::code_number(c) as u64);
 }
 
+fn wide(b: u8) -> u64 {
+    b as u64
+}
+
 // The bytes that a list leaves.
 fn shown(rows: &[u8]) {
     let mut i: usize = 0;
     while i < rows.len() {
-        io::print_decimal(1, rows[i] as u64);
+        io::print_decimal(1, wide(rows[i]));
         i += 1;
         if i % 36 == 0 {
             io::write_all(1, b"\n");
