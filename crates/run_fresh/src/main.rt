@@ -130,11 +130,7 @@ fn main() {
     record(fresh);
     let old = with(0, 0.0);
     judged(b"fresh", fresh, image);
-    judged(
-        b"fresh under Rules",
-        set_up(fresh, 255, 255, 255),
-        image,
-    );
+    judged(b"fresh under Rules", set_up(fresh, 255, 255, 255), image);
     judged(
         b"region 0 and margin 0 under Rules",
         set_up(old, 255, 255, 255),
