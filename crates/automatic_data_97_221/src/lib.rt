@@ -1,5 +1,5 @@
-// Data from an automatically controlled station (97.221). It uses layout, table, find, decision, part97, findings
-// and automatic_97_221.
+// Data from an automatically controlled station (97.221). It uses codes, profile, layout, table, find, decision,
+// part97, findings and automatic_97_221.
 use codes::Direction;
 use decision::Code;
 use decision::MaybeRange;

@@ -1,5 +1,5 @@
 // The dial list: the dials that keep a signal inside the rules, as rows in lent bytes. A public call. It uses codes, occupancy, station,
-// layout, table, entry, rows and dial_rows.
+// layout, table, entry, bytes, rows and dial_rows; its laws use lists.
 use codes::Checked;
 use codes::Control;
 use codes::Direction;

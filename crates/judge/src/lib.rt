@@ -1,5 +1,5 @@
 // The judgement of a case under an accepted table: the band (97.301), bands closed to automatic control, 60 m, and the kind
-// of emission; and the decision from what was found. It uses layout, table, find, decision, part97, findings, advice_97_313,
+// of emission; and the decision from what was found. It uses codes, layout, table, find, decision, part97, findings, advice_97_313,
 // data_97_305, other_97_305 and sixty_97_303.
 use codes::EmissionKind;
 use decision::Advice;

@@ -1,5 +1,5 @@
 // CW, test emissions and keying with no audio, off 60 m: wherever the operator's privileges allow that emission (97.305(a),
-// (b)). It uses layout, decision, part97, findings and privileges_97_301.
+// (b)). It uses codes, profile, layout, decision, part97, findings and privileges_97_301.
 use codes::EmissionKind;
 use decision::BandNumber;
 use decision::Code;

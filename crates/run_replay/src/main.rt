@@ -2,8 +2,8 @@
 // calls answer otherwise, then how many there were. The input, the file `stdin` beside src/, was written by
 // `compare/run --replay crates/run_replay/stdin --seed 1`: verdicts, ceilings and dial lists as the Rust answers them,
 // refusals, distances and the parts that the Rust has only as words as document 01 gives them. compare/src/replay.rs says what the
-// bytes mean, and makes sure that every code and every refusal of each call is there. It uses figures, layout and
-// pamuklid.
+// bytes mean, and makes sure that every code and every refusal of each call is there. It uses figures, layout,
+// flat and pamuklid.
 use flat::FlatCeiling;
 use flat::FlatDecision;
 use flat::FlatDistance;
