@@ -7,8 +7,8 @@
  * its own: equal arguments give equal answers, and calls may run at once on several threads.
  *
  * An image, rungs and floor bytes are lent as a pointer and a count of elements. They are only read,
- * during the call, and no byte of them changes. Dial rows are lent to be written: see
- * pamuklid_safe_dials. With a count of 0 a pointer is not followed, but pass one that is not null.
+ * during the call, and no byte of them changes. Dial rows and texts are lent to be written: see
+ * pamuklid_safe_dials and pamuklid_text_at. With a count of 0 a pointer is not followed, but pass one that is not null.
  * Lent rows may not overlap what else is lent to the same call.
  *
  * Structs go by value. Their sizes and offsets are checked below when this header is compiled (C11 or
@@ -28,8 +28,8 @@
 extern "C" {
 #endif
 
-/* The version of this header, 0.3.0: major * 10000 + minor * 100 + patch. */
-#define PAMUKLID_VERSION 300
+/* The version of this header, 0.4.0: major * 10000 + minor * 100 + patch. */
+#define PAMUKLID_VERSION 400
 
 /* Refusals, by number. A call that is refused has answered nothing: send nothing. */
 #define PAMUKLID_ACCEPTED 0                 /* none: the image is accepted, the call was answered */
@@ -55,10 +55,12 @@ extern "C" {
 #define PAMUKLID_REFUSAL_STATION_CODE 20    /* a station code, a presence byte, the plan mark, the kind or
                                                the direction outside its values */
 #define PAMUKLID_REFUSAL_STATION_FIGURE 21  /* a station figure, or a dial asked, not finite or above 2^40
-                                               in size (only where it is known) */
+                                               in size (only where it is known); a figure to be written,
+                                               not finite or above 2^43 in size */
 #define PAMUKLID_REFUSAL_NO_IMAGE 22        /* PAMUKLID_POLICY_RULES and an image of no bytes */
 #define PAMUKLID_REFUSAL_ROWS 23            /* a dial list longer than the whole rows lent */
-/* They are looked for in the order 20, 21, 22, 1 to 14, 15, 16, 23, each over the whole input before the
+#define PAMUKLID_REFUSAL_TEXT 24            /* a text longer than the bytes lent */
+/* They are looked for in the order 20, 21, 22, 1 to 14, 15, 16, 23, 24, each over the whole input before the
  * next; 22 and 1 to 14 with PAMUKLID_POLICY_RULES only, except by the calls that are about the image
  * alone (pamuklid_check, pamuklid_tidy, pamuklid_fault_of), which have 1 to 14 always. */
 
@@ -278,6 +280,15 @@ typedef struct {
     uint8_t refusal;      /* PAMUKLID_ACCEPTED; else the image's refusal, 1 to 14 */
 } pamuklid_tidiness;
 
+/* The bytes of the longest text, "-8796093022.208". */
+#define PAMUKLID_MOST_TEXT 15
+
+/* A text's answer. */
+typedef struct {
+    uint32_t length;         /* the bytes that were written, 1 to PAMUKLID_MOST_TEXT; 0 on a refusal */
+    uint8_t refusal;         /* PAMUKLID_ACCEPTED; PAMUKLID_REFUSAL_STATION_FIGURE or PAMUKLID_REFUSAL_TEXT */
+} pamuklid_text;
+
 /* An image: its least and its most bytes, those of its general block, of each record and of its trailer, the
  * most records of a table, and the offsets of the two bytes that pamuklid_distance_of asks for. */
 #define PAMUKLID_IMAGE_LEAST 92
@@ -391,6 +402,21 @@ pamuklid_dials pamuklid_safe_dials(pamuklid_station s, uint8_t direction, pamukl
 pamuklid_distance pamuklid_distance_of(double dial_hz, uint8_t flags, uint8_t channel_band, uint32_t count,
                                        const uint8_t *rows, size_t rows_len);
 
+/* The text of a frequency in kilohertz with three decimals, for a panel or a log: 14097700 is "14097.700".
+ * The digits are those of hz / 1000, a double, by its exact value, to the nearest thousandth, a half to the
+ * even one; a sign "-" is written wherever hz has one, of a zero too.
+ * text[0] to text[length - 1] are written, ASCII, with no unit and no byte 0 after them; bytes past them stay as
+ * lent, and on a refusal all do. PAMUKLID_MOST_TEXT bytes have room for every text. Refusals: 21 (hz not finite
+ * or above 2^43, 8796093022208, in size), 24 (room too small). */
+pamuklid_text pamuklid_text_at(double hz, uint8_t *text, size_t room);
+
+/* The same with as many decimals as it needs: none where hz / 1000 is within a millionth of a whole number, one
+ * where ten times it is, else three. 14100000 is "14100", 14097700 "14097.7", 14097750 "14097.750". */
+pamuklid_text pamuklid_text_khz(double hz, uint8_t *text, size_t room);
+
+/* The text of a figure in whole hertz: 2300.5 is "2300", -0.5 "-0". Bytes and refusals as pamuklid_text_at. */
+pamuklid_text pamuklid_text_hertz(double hz, uint8_t *text, size_t room);
+
 #ifdef __cplusplus
 }
 #endif
@@ -475,6 +501,10 @@ PAMUKLID_SIZE(pamuklid_distance, 16);
 PAMUKLID_AT(pamuklid_distance, distance_hz, 0);
 PAMUKLID_AT(pamuklid_distance, listed, 8);
 PAMUKLID_AT(pamuklid_distance, refusal, 9);
+
+PAMUKLID_SIZE(pamuklid_text, 8);
+PAMUKLID_AT(pamuklid_text, length, 0);
+PAMUKLID_AT(pamuklid_text, refusal, 4);
 
 PAMUKLID_SIZE(pamuklid_tidiness, 2);
 PAMUKLID_AT(pamuklid_tidiness, tidy, 0);

@@ -4,12 +4,12 @@
 //! [`version`] is [`VERSION`].
 //!
 //! The only file with unsafe code: each call lends slices as pointer and count, and the library
-//! promises to follow them no further, to keep none, and to write the dial rows alone.
+//! promises to follow them no further, to keep none, and to write the dial rows and the texts alone.
 
 use std::mem::size_of;
 
 /// The version of the library that this crate was written for: major * 10000 + minor * 100 + patch.
-pub const VERSION: u32 = 300;
+pub const VERSION: u32 = 400;
 /// A control, license or sideband that is not known.
 pub const ABSENT: u8 = 255;
 /// The rung of a ceiling that has none.
@@ -28,6 +28,8 @@ pub const RUNG_FIGURES: usize = 4;
 pub const ROW: usize = 36;
 /// The most rows that a dial list can have.
 pub const MOST_ROWS: usize = 16_777_472;
+/// The bytes of the longest text.
+pub const MOST_TEXT: usize = 15;
 /// The least bytes of an image.
 pub const IMAGE_LEAST: usize = 92;
 /// The most bytes of an image.
@@ -229,6 +231,16 @@ pub struct Distance {
     pub refusal: u8,
 }
 
+/// A text's answer.
+#[repr(C)]
+#[derive(Clone, Copy, Debug)]
+pub struct Text {
+    /// The bytes that were written, 1 to [`MOST_TEXT`]; 0 on a refusal.
+    pub length: u32,
+    /// 0; or 21, 24.
+    pub refusal: u8,
+}
+
 /// Whether a table is tidy.
 #[repr(C)]
 #[derive(Clone, Copy, Debug)]
@@ -260,6 +272,7 @@ const _: () = {
     assert!(size_of::<Ceiling>() == 368);
     assert!(size_of::<Dials>() == 8);
     assert!(size_of::<Distance>() == 16);
+    assert!(size_of::<Text>() == 8);
     assert!(size_of::<Tidiness>() == 2);
     assert!(size_of::<Fault>() == 6);
 };
@@ -308,6 +321,9 @@ extern "C" {
         rows: *const u8,
         rows_len: usize,
     ) -> Distance;
+    fn pamuklid_text_at(hz: f64, text: *mut u8, room: usize) -> Text;
+    fn pamuklid_text_khz(hz: f64, text: *mut u8, room: usize) -> Text;
+    fn pamuklid_text_hertz(hz: f64, text: *mut u8, room: usize) -> Text;
 }
 
 /// `pamuklid_version`: the version of the library that is linked.
@@ -391,6 +407,24 @@ pub fn safe_dials(s: Station, direction: u8, e: Edges, image: &[u8], rows: &mut 
 pub fn distance(dial_hz: f64, flags: u8, channel_band: u8, count: u32, rows: &[u8]) -> Distance {
     let (at, len) = (rows.as_ptr(), rows.len());
     unsafe { pamuklid_distance_of(dial_hz, flags, channel_band, count, at, len) }
+}
+
+/// `pamuklid_text_at`: kilohertz, three decimals.
+#[inline]
+pub fn text_at(hz: f64, text: &mut [u8]) -> Text {
+    unsafe { pamuklid_text_at(hz, text.as_mut_ptr(), text.len()) }
+}
+
+/// `pamuklid_text_khz`: kilohertz, as many decimals as it needs.
+#[inline]
+pub fn text_khz(hz: f64, text: &mut [u8]) -> Text {
+    unsafe { pamuklid_text_khz(hz, text.as_mut_ptr(), text.len()) }
+}
+
+/// `pamuklid_text_hertz`: whole hertz.
+#[inline]
+pub fn text_hertz(hz: f64, text: &mut [u8]) -> Text {
+    unsafe { pamuklid_text_hertz(hz, text.as_mut_ptr(), text.len()) }
 }
 
 /// The figures of rungs, one rung after the other: edges are four figures in the order of a rung.
