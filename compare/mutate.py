@@ -3,8 +3,8 @@
 builds the driver against that copy and sees whether a run notices a difference.
 
     python3 compare/mutate.py [--rust] [--stub] [--only TEXT] [--from N] [--work DIR] [--seed S]
-                              [--verdicts N] [--ceilings N] [--dials N] [--check] [-v]
-                              [--report FILE]
+                              [--verdicts N] [--ceilings N] [--dials N] [--texts N] [--check]
+                              [-v] [--report FILE]
 
 Without --stub the library is linked (PAMUKLID_LIB_DIR); with --stub its place is taken by a second,
 unchanged copy of the Rust, which measures how sharp the cases are without the library. --rust plants
@@ -43,6 +43,7 @@ def main():
     args.add_argument("--verdicts", type=int, default=400000)
     args.add_argument("--ceilings", type=int, default=40000)
     args.add_argument("--dials", type=int, default=40000)
+    args.add_argument("--texts", type=int, default=200000)
     args.add_argument("--check", action="store_true")
     args.add_argument("--report")
     args.add_argument("-v", action="store_true", dest="verbose")
@@ -103,7 +104,7 @@ def plant_all(args, rust, work):
         build += ["--features", "stub"]
     program = os.path.join(work, "target/mutant/pamuklid-compare")
     run = [program, "--brief", "--seed", str(args.seed), "--verdicts", str(args.verdicts),
-           "--ceilings", str(args.ceilings), "--dials", str(args.dials)]
+           "--ceilings", str(args.ceilings), "--dials", str(args.dials), "--texts", str(args.texts)]
 
     def attempt():
         """(built, exit status, first line that says what)"""
@@ -174,14 +175,15 @@ def report(args, lines, summary):
            "One mistake at a time was planted in a copy of the Rust, or of the driver's own part; the "
            "driver was built with it and run beside %s, and had to notice a difference. Made by "
            "`python3 compare/mutate.py --report FILE` on %s: seed %d, the fixed cases and up to %d "
-           "verdicts, %d ceilings and %d dial lists for each mistake, to the first difference." % (
+           "verdicts, %d ceilings, %d dial lists and the texts of %d figures for each mistake, to the "
+           "first difference." % (
                against, time.strftime("%Y-%m-%d", time.gmtime()), args.seed, args.verdicts,
-               args.ceilings, args.dials),
+               args.ceilings, args.dials, args.texts),
            "", summary + ".", "",
            "`mod.rs`, `profile.rs` and `occupancy.rs` are the Rust: mistakes at the comparisons, the "
            "`find` and `any`, the sums and the early returns of `check`, `evaluate` and what it calls, "
-           "`ceiling` and `safe_dials`. The other files are the driver's own part, from "
-           "document 01. Long texts are cut here; `compare/mutations.py` has them whole.", "",
+           "`ceiling`, `safe_dials` and `khz`. The other files are the driver's own part, from "
+           "documents 01 and 02. Long texts are cut here; `compare/mutations.py` has them whole.", "",
            "## Survivors, and why they change nothing", ""]
     table = ["| | old | new | result |", "|---|---|---|---|"]
     out += table + [line for _, state, line in lines if not state.startswith("noticed")]

@@ -3,9 +3,9 @@ file), new text. `same` says why a mistake changes no answer inside document 01'
 must survive, every other must be noticed.
 
 Files: profile.rs, occupancy.rs and mod.rs are the Rust; expect.rs, adapter.rs and distance.rs are the
-driver's own part, written from document 01 (refusals 1 to 6, 15, 16, 20 to 23 and their order, where a
-table is wrong, tidy, the distance of a dial, and what the Rust says only in words); stub.rs, with --stub,
-stands for a wrong library.
+driver's own part, written from documents 01 and 02 (refusals 1 to 6, 15, 16, 20 to 24 and their order,
+where a table is wrong, tidy, the distance of a dial, and what the Rust says only in words); stub.rs, with
+--stub, stands for a wrong library.
 """
 
 MUTATIONS = []
@@ -92,10 +92,9 @@ at(P, "self.bands.iter().find(|b| b.range.holds(low, high))", "self.bands.iter()
 at(P, "self.bands.iter().find(|b| b.range.holds(low, high))", "self.bands.iter().find(|b| b.range.overlaps(low, high))")
 at(P, "self.bands.iter().find(|b| b.range.overlaps(low, high))", "self.bands.iter().rev().find(|b| b.range.overlaps(low, high))")
 at(P, "self.bands.iter().find(|b| b.range.overlaps(low, high))", "self.bands.iter().find(|b| b.range.holds(low, high))")
-WORDS = "kilohertz in a sentence: the words stay behind, and the driver takes them from the Rust"
-at(P, "(k - k.round()).abs() < 1e-6", "(k - k.round()).abs() > 1e-6", WORDS)
-at(P, "(k * 10.0 - (k * 10.0).round()).abs() < 1e-6", "(k * 10.0 - (k * 10.0).round()).abs() > 1e-6", WORDS)
-at(P, "let k = hz / 1000.0;", "let k = hz / 1001.0;", WORDS)
+at(P, "(k - k.round()).abs() < 1e-6", "(k - k.round()).abs() > 1e-6")
+at(P, "(k * 10.0 - (k * 10.0).round()).abs() < 1e-6", "(k * 10.0 - (k * 10.0).round()).abs() > 1e-6")
+at(P, "let k = hz / 1000.0;", "let k = hz / 1001.0;")
 
 # ----------------------------------------------------------------------------- occupancy.rs
 O = "occupancy.rs"
@@ -953,3 +952,64 @@ at(E, "r.flags & 1 != 0 && r.figure <= 0.0", "r.figure <= 0.0")
 at(E, "return Fault { record: record as u16, table: table as u8, place: 2, refusal };", "return Fault { record: (at / 32 - 2) as u16, table: table as u8, place: 2, refusal };")
 at(E, "return Fault { record: record as u16, table: table as u8, place: 2, refusal };", "return Fault { record: record as u16 + 1, table: table as u8, place: 2, refusal };")
 at(E, "            at += 32;\n", "            at += if record == 0 { 0 } else { 32 };\n")
+
+# ---------------------------------------------------------------------------- number texts
+FIRST = "(k - k.round()).abs() < 1e-6"
+at(P, FIRST, "(k - k.round()).abs() <= 1e-6")
+at(P, FIRST, "(k - k.round()).abs() < 1.000001e-6")
+at(P, FIRST, "(k - k.round()).abs() < 0.999999e-6")
+at(P, FIRST, "k - k.round() < 1e-6")
+at(P, FIRST, "(k - k.floor()).abs() < 1e-6")
+at(P, FIRST, "(k - k.round_ties_even()).abs() < 1e-6", "a half is as far either way")
+SECOND = "(k * 10.0 - (k * 10.0).round()).abs() < 1e-6"
+at(P, SECOND, "(k * 10.0 - (k * 10.0).round()).abs() <= 1e-6", "ten times a figure is never a millionth, to the bit, from a whole number but nought")
+at(P, SECOND, "(k * 10.0 - (k * 10.0).round()).abs() < 1.000001e-6")
+at(P, SECOND, "(k * 10.0 - (k * 10.0).round()).abs() < 0.999999e-6")
+at(P, SECOND, "k * 10.0 - (k * 10.0).round() < 1e-6")
+at(P, SECOND, "(k * 10.0 - (k * 10.0).ceil()).abs() < 1e-6")
+at(P, SECOND, "(hz / 100.0 - (hz / 100.0).round()).abs() < 1e-6")
+at(P, SECOND, "k.mul_add(10.0, -(k * 10.0).round()).abs() < 1e-6")
+at(P, "let k = hz / 1000.0;", "let k = hz * 0.001;")
+at(P, "let k = hz / 1000.0;", "let k = hz.round() / 1000.0;")
+at(P, "let k = hz / 1000.0;", "let k = hz / 1000.0 + 0.0;")
+at(P, 'format!("{k:.0}")', 'format!("{:.0}", k.round() + 0.0)')
+at(P, 'format!("{k:.0}")', 'format!("{k}")')
+at(P, 'format!("{k:.1}")', 'format!("{k}")')
+at(P, 'format!("{k:.1}")', 'format!("{:.1}", k * 1.0000000001)')
+at(P, 'format!("{k:.3}")', 'format!("{:.3}", (hz + 0.0) / 1000.0)', "a zero has no decimals, and other figures stay as they are")
+at(P, 'format!("{k:.3}")', 'format!("{:.3}", (k * 1000.0).round() / 1000.0)')
+at(P, 'format!("{k:.3}")', 'format!("{:.3}", hz.round() / 1000.0)')
+
+NUMBER = '"{:.3}", hz / 1000.0)'
+at(A, NUMBER, '"{:.2}", hz / 1000.0)')
+at(A, NUMBER, '"{:.4}", hz / 1000.0)')
+at(A, NUMBER, '"{:.3}", hz * 0.001)')
+at(A, NUMBER, '"{:.3}", hz.round() / 1000.0)')
+at(A, NUMBER, '"{:.3}", hz.round_ties_even() / 1000.0)')
+at(A, NUMBER, '"{:.3}", (hz / 1000.0).abs())')
+at(A, NUMBER, '"{:.3}", hz / 1000.0 + 0.0)')
+WHOLE = '"{hz:.0}")'
+at(A, WHOLE, '"{:.0}", hz.round())')
+at(A, WHOLE, '"{:.0}", hz.round_ties_even())', "halves to even either way, and the sign of a zero stays")
+at(A, WHOLE, '"{:.0}", hz.trunc())')
+at(A, WHOLE, '"{:.0}", hz + 0.0)')
+at(A, WHOLE, '"{:.0}", hz.round_ties_even() + 0.0)')
+at(A, WHOLE, '"{hz:.1}")')
+
+SIZE = "!hz.is_finite() || hz.abs() > 8_796_093_022_208.0"
+at(E, SIZE, "!hz.is_finite() || hz.abs() >= 8_796_093_022_208.0")
+at(E, SIZE, "!hz.is_finite() || hz > 8_796_093_022_208.0")
+at(E, SIZE, "hz.abs() > 8_796_093_022_208.0")
+at(E, SIZE, "!hz.is_finite() || hz.abs() > 8_796_093_022_207.998")
+at(E, SIZE, "!hz.is_finite() || hz.abs() > 8_796_093_022_208.002")
+at(E, "room < length", "room <= length")
+at(E, "room < length", "room + 1 < length")
+at(E, "room < length", "room < 15")
+
+at(S, "        return Text { length: 0, refusal: 21 };\n", "        return Text { length: 0, refusal: if room == 0 { 24 } else { 21 } };\n")
+at(S, "        return Text { length: 0, refusal: 24 };\n", "        return Text { length: bytes.len() as u32, refusal: 24 };\n")
+COPY = "    lent[..bytes.len()].copy_from_slice(bytes);\n"
+at(S, COPY, COPY + "    if room > bytes.len() { lent[bytes.len()] = 0; }\n")
+at(S, COPY, COPY + "    if room > 17 { lent[17] ^= 1; }\n")
+at(S, "    if expect::text_refused(bytes.len(), room) {\n", "    if expect::text_refused(bytes.len(), room) {\n        if room > 0 { unsafe { *text = bytes[0] } }\n")
+at(S, "Text { length: bytes.len() as u32, refusal: 0 }", "Text { length: room as u32, refusal: 0 }")

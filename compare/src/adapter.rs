@@ -3,6 +3,7 @@
 //! Rust (`crate::oracle`) and, with the feature `stub`, once for the stub's (`crate::original`):
 //! `super::regulatory` is the copy, `super::expect` what document 01 says beside it.
 
+use std::fmt;
 use std::sync::Arc;
 
 use super::expect::{self, Guidance};
@@ -645,4 +646,14 @@ pub fn safe_dials(
         rows.extend(rule_number(&row.rule)?.to_le_bytes());
     }
     Ok((0, rows))
+}
+
+/// A figure's text: 0 the number of `at`, whose text is `format!("{:.3} kHz", hz / 1000.0)`; 1 `khz`; 2 whole
+/// hertz as `{:.0}` gives them.
+pub fn text(call: usize, hz: f64, out: &mut impl fmt::Write) -> fmt::Result {
+    match call {
+        0 => write!(out, "{:.3}", hz / 1000.0),
+        1 => out.write_str(&khz(hz)),
+        _ => write!(out, "{hz:.0}"),
+    }
 }

@@ -1,7 +1,7 @@
-//! What document 01 says and the Rust doesn't: refusals 1 to 6, 15, 16 and 20 to 23, where a table is
-//! wrong, the tidy question, the fresh record, and the parts of an answer that the Rust has only as
-//! text. Written from document 01 (quoted) and docs/DECISIONS.md, not from the Rust and not from the
-//! Rattle code.
+//! What documents 01 and 02 say and the Rust doesn't: refusals 1 to 6, 15, 16 and 20 to 24, where a table
+//! is wrong, the tidy question, the fresh record, and the parts of an answer that the Rust has only as
+//! text. Written from the two documents (quoted) and docs/DECISIONS.md, not from the Rust and not from
+//! the Rattle code.
 
 use crate::ffi::{Edges, Fault, Figures, Station};
 use crate::image::{
@@ -401,4 +401,16 @@ pub fn above_channel_watts(watts: Option<f64>) -> bool {
 
 pub fn above_segment_watts(watts: Option<f64>) -> bool {
     watts.is_some_and(|w| w > 9.15)
+}
+
+// ------------------------------------------------------------------------------ number texts
+
+/// "A figure not finite or above 2^43 in size meets 21."
+pub fn no_text_of(hz: f64) -> bool {
+    !hz.is_finite() || hz.abs() > 8_796_093_022_208.0
+}
+
+/// "It refuses (24, after 23) when the lent bytes are too few".
+pub fn text_refused(length: usize, room: usize) -> bool {
+    room < length
 }

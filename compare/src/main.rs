@@ -1,6 +1,7 @@
 //! Runs the Rust, unchanged, beside the proved library, and compares every part of every answer.
 //!
-//!     pamuklid-compare [--verdicts N] [--ceilings N] [--dials N] [--seed S] [--few] [--brief]
+//!     pamuklid-compare [--verdicts N] [--ceilings N] [--dials N] [--texts N] [--seed S] [--few]
+//!                      [--brief]
 //!     pamuklid-compare --replay FILE [--seed S]
 //!
 //! Exit 0: no difference, and everything that can be reached was; 1: a difference, printed with all
@@ -26,6 +27,7 @@ mod replay;
 #[cfg(feature = "stub")]
 mod stub;
 mod tables;
+mod texts;
 
 use std::process::exit;
 
@@ -52,6 +54,7 @@ pub struct Run {
     pub demand_3: (u64, u64),
     pub images: u64,
     pub refused: u64,
+    pub texts: texts::Met,
     brief: bool,
 }
 
@@ -70,6 +73,7 @@ impl Run {
             demand_3: (0, 0),
             images: 0,
             refused: 0,
+            texts: texts::Met::default(),
             brief,
         }
     }
@@ -392,6 +396,7 @@ struct Wanted {
     verdicts: u64,
     ceilings: u64,
     dials: u64,
+    texts: u64,
 }
 
 fn run_all(run: &mut Run, wanted: &Wanted) {
@@ -408,6 +413,8 @@ fn run_all(run: &mut Run, wanted: &Wanted) {
         exit(1);
     }
     fixed::run(run);
+    texts::fixed(run);
+    texts::run(run, wanted.texts);
     let none = run.image(&[]);
     // verdicts, ceilings and lists of one world, in the proportion asked for
     let worlds = (wanted.verdicts / 40).max(wanted.ceilings / 4).max(wanted.dials / 4).max(1);
@@ -499,15 +506,16 @@ fn every_bit(run: &mut Run) {
 
 fn usage() -> ! {
     eprintln!(
-        "usage: pamuklid-compare [--verdicts N] [--ceilings N] [--dials N] [--seed S] [--few] \
-         [--brief]\n\
+        "usage: pamuklid-compare [--verdicts N] [--ceilings N] [--dials N] [--texts N] [--seed S] \
+         [--few] [--brief]\n\
          \x20      pamuklid-compare --replay FILE [--seed S]"
     );
     exit(2)
 }
 
 fn main() {
-    let mut wanted = Wanted { verdicts: 1_000_000, ceilings: 100_000, dials: 100_000 };
+    let mut wanted =
+        Wanted { verdicts: 1_000_000, ceilings: 100_000, dials: 100_000, texts: 10_000_000 };
     let (mut seed, mut few, mut brief, mut replay) = (1, false, false, None);
     let mut args = std::env::args().skip(1);
     while let Some(arg) = args.next() {
@@ -516,6 +524,7 @@ fn main() {
             "--verdicts" => wanted.verdicts = number(),
             "--ceilings" => wanted.ceilings = number(),
             "--dials" => wanted.dials = number(),
+            "--texts" => wanted.texts = number(),
             "--seed" => seed = number(),
             "--few" => few = true,
             "--brief" => brief = true,
@@ -546,6 +555,11 @@ fn main() {
         "distance: {} compared; demand 3: {met} dials with its premises met, {nought} of them nought",
         run.distances
     );
+    println!(
+        "texts: {} figures compared, each in three texts; {} calls refused",
+        run.texts.figures, run.texts.refused
+    );
+    run.texts.count(&mut run.reach);
     let missing = run.reach.missing();
     if !brief && !few {
         run.reach.print();

@@ -3,6 +3,7 @@
 use std::collections::BTreeMap;
 
 use crate::ffi::Decision;
+use crate::texts;
 
 pub type Key = (&'static str, u16, u16);
 
@@ -130,7 +131,14 @@ const FAULTS: [(u16, bool, &[u16]); 8] = [
 
 impl Reach {
     pub fn count(&mut self, what: &'static str, a: u16, b: u16) {
-        *self.counts.entry((what, a, b)).or_default() += 1;
+        self.add((what, a, b), 1);
+    }
+
+    /// So many at once; none leaves it not reached.
+    pub fn add(&mut self, key: Key, n: u64) {
+        if n > 0 {
+            *self.counts.entry(key).or_default() += n;
+        }
     }
 
     pub fn decision(&mut self, d: &Decision, kind: u8) {
@@ -176,6 +184,7 @@ impl Reach {
             out.extend(verdicts.iter().map(|&v| ("code, verdict", code, v)));
         }
         out.extend(LIMITS.map(|code| ("ceiling limit", code, 0)));
+        out.extend(texts::required());
         out.extend([0, 1, 2, 3, 4, 11, 14].map(|number| ("fault without a place", number, 0)));
         for (number, general, tables) in FAULTS {
             if general {

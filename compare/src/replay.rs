@@ -1,7 +1,7 @@
 //! Writes the replay list: some thousand cases with their answers, for a program of the gate that
 //! needs no Rust (crates/run_replay). Verdicts, ceilings and dial lists are the Rust's own; refusals,
-//! and the parts that the Rust has only as text, are worked out from document 01 (expect.rs). Every
-//! answer was compared with the linked library's on the way.
+//! and the parts that the Rust has only as text, are worked out from document 01 (expect.rs); texts are
+//! the Rust's own. Every answer was compared with the linked library's on the way.
 //!
 //! All numbers are little-endian; f64 means its 64 bits. No padding. The list is u32 number of
 //! pages, then those:
@@ -23,6 +23,8 @@
 //!           refusal, u8 listed, f64 distance (infinite if none is listed)
 //!         6 where the table is wrong, if the linked library has the call: u8 refusal, u8 place, u8
 //!           table, u16 record
+//!         7 text, on a last page without an image: u8 which (0 at, 1 khz, 2 hertz), f64 figure, u8 bytes
+//!           lent; u8 refusal, u8 length, the text's bytes
 //!     STATION   f64 margin, dial, power; u8 policy, control, license, sideband, itu_region,
 //!               band_plan, dial_known, power_known (32 bytes)
 //!     EDGES     f64 power low, power high, spectral low, spectral high (32 bytes)
@@ -45,14 +47,14 @@ use crate::expect;
 use crate::ffi::{Decision, Edges, Figures, Parts, Station, StationParts};
 use crate::oracle::adapter::{self, Prepared};
 use crate::tables::{self, World};
-use crate::{Run, fixed};
+use crate::{Run, fixed, texts};
 
 #[derive(Default)]
 struct List {
     bytes: Vec<u8>,
     images: u32,
     /// How many cases of each call.
-    calls: [u32; 7],
+    calls: [u32; 8],
     /// The refusal and the code that each call is there with.
     seen: BTreeSet<(u8, u8, u8)>,
     /// How often each thing worth having is there.
@@ -292,6 +294,16 @@ impl<'a> Page<'a> {
             self.add(list, (5, flat.refusal, 0), &out);
         }
     }
+
+    fn texts(&mut self, run: &mut Run, list: &mut List) {
+        for (call, hz, room, refusal, text) in texts::sample(run) {
+            let mut out = vec![call as u8];
+            out.extend(hz.to_bits().to_le_bytes());
+            out.extend([room as u8, refusal, text.len() as u8]);
+            out.extend(&text);
+            self.add(list, (7, refusal, call as u8), &out);
+        }
+    }
 }
 
 pub fn write(run: &mut Run, file: &str) {
@@ -321,6 +333,9 @@ pub fn write(run: &mut Run, file: &str) {
             }
         }
     }
+    let mut last = Page::new(&[], &none);
+    last.texts(run, &mut list);
+    last.end(&mut list);
     let missing: Vec<_> = wanted().into_iter().filter(|k| !list.seen.contains(k)).collect();
     assert!(missing.is_empty(), "every code and every refusal: {missing:?}");
     let mut out = list.images.to_le_bytes().to_vec();
@@ -329,10 +344,11 @@ pub fn write(run: &mut Run, file: &str) {
         eprintln!("{file}: {e}");
         std::process::exit(2);
     }
-    let [checks, verdicts, unmeasured, ceilings, dials, distances, faults] = list.calls;
+    let [checks, verdicts, unmeasured, ceilings, dials, distances, faults, texts] = list.calls;
     println!(
         "{} bytes; {} images, {checks} image cases, {verdicts} verdicts, {unmeasured} unmeasured, \
-         {ceilings} ceilings, {dials} dial lists, {distances} distances, {faults} faults; seed {}",
+         {ceilings} ceilings, {dials} dial lists, {distances} distances, {faults} faults, {texts} texts; \
+         seed {}",
         out.len(),
         list.images,
         run.seed
@@ -354,6 +370,9 @@ fn wanted() -> Vec<(u8, u8, u8)> {
     out.extend([(5, 0, 0), (5, 21, 0), (5, 23, 0)]);
     if cfg!(fault) {
         out.extend((0..=14).map(|refusal| (6, refusal, 0)));
+    }
+    for call in 0..3 {
+        out.extend([0, 21, 24].map(|refusal| (7, refusal, call)));
     }
     out
 }

@@ -4,9 +4,12 @@
 use std::cell::RefCell;
 use std::rc::Rc;
 
-use crate::ffi::{Ceiling, Decision, Dials, Distance, Edges, Fault, Station, Tidiness, VERSION};
+use crate::ffi::{
+    Ceiling, Decision, Dials, Distance, Edges, Fault, Station, Text, Tidiness, VERSION,
+};
 use crate::original::adapter::{self, Prepared};
 use crate::original::{distance, expect};
+use crate::texts::Line;
 
 thread_local! {
     static LAST: RefCell<Option<(Vec<u8>, Rc<Prepared>)>> = const { RefCell::new(None) };
@@ -133,4 +136,34 @@ extern "C" fn pamuklid_distance_of(
 ) -> Distance {
     let asked = distance::Asked { dial, flags, channel_band, count };
     distance::flat(asked.answer(unsafe { slice(rows, rows_len) }))
+}
+
+fn written(call: usize, hz: f64, text: *mut u8, room: usize) -> Text {
+    if expect::no_text_of(hz) {
+        return Text { length: 0, refusal: 21 };
+    }
+    let mut line = Line::EMPTY;
+    adapter::text(call, hz, &mut line).expect("a text of at most 24 bytes");
+    let bytes = line.text();
+    if expect::text_refused(bytes.len(), room) {
+        return Text { length: 0, refusal: 24 };
+    }
+    let lent = unsafe { std::slice::from_raw_parts_mut(text, room) };
+    lent[..bytes.len()].copy_from_slice(bytes);
+    Text { length: bytes.len() as u32, refusal: 0 }
+}
+
+#[unsafe(no_mangle)]
+extern "C" fn pamuklid_text_at(hz: f64, text: *mut u8, room: usize) -> Text {
+    written(0, hz, text, room)
+}
+
+#[unsafe(no_mangle)]
+extern "C" fn pamuklid_text_khz(hz: f64, text: *mut u8, room: usize) -> Text {
+    written(1, hz, text, room)
+}
+
+#[unsafe(no_mangle)]
+extern "C" fn pamuklid_text_hertz(hz: f64, text: *mut u8, room: usize) -> Text {
+    written(2, hz, text, room)
 }
