@@ -1,6 +1,9 @@
 //! The library's boundary: the wrapper crate's structs and calls (`pamuklid::raw`).
 
-pub use pamuklid::raw::{Edges, Station, check, evaluate, fault_of, safe_dials};
+pub use pamuklid::raw::{
+    Edges, MOST_TEXT, Station, Text, check, evaluate, fault_of, safe_dials, text_at, text_hertz,
+    text_khz,
+};
 
 /// A climb with one control frame for all its rungs.
 #[inline]

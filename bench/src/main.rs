@@ -12,6 +12,7 @@ mod rust {
 }
 mod stack;
 mod table;
+mod texts;
 
 use std::hint::black_box;
 use std::process::exit;
@@ -501,6 +502,8 @@ fn main() {
     faults(&largest, rounds);
     growth(show, rounds);
     long_lists(show, rounds);
+    texts::timed(show, rounds);
     stacks(&hf);
     stacks(&largest);
+    texts::stacks();
 }
