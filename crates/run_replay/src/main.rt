@@ -1,6 +1,6 @@
 // A program of the gate: it replays the cases of its input, each with its answer, and writes a line for each that the
 // calls answer otherwise, then how many there were. The input, the file `stdin` beside src/, was written by
-// `compare/run --replay crates/run_replay/stdin --seed 1`: verdicts, ceilings and dial lists as the Rust answers them,
+// `compare/run --replay crates/run_replay/stdin --seed 1`: verdicts, ceilings, dial lists and texts as the Rust answers them,
 // refusals, distances and the parts that the Rust has only as words as document 01 gives them. compare/src/replay.rs says what the
 // bytes mean, and makes sure that every code and every refusal of each call is there. It uses figures, layout,
 // flat and pamuklid.
@@ -9,6 +9,7 @@ use flat::FlatDecision;
 use flat::FlatDistance;
 use flat::FlatEdges;
 use flat::FlatStation;
+use flat::FlatText;
 
 // The largest image with its cases.
 const LARGEST: usize = 163840;
@@ -20,6 +21,9 @@ const FIGURES: usize = 1280;
 const LENT: usize = 4096;
 
 const FILL: u8 = 0xa5;
+
+// The most bytes lent for a text.
+const ROOM: usize = 24;
 
 // What a case says: whether it agrees, and where the input goes on; or that it is malformed.
 enum Told {
@@ -464,6 +468,52 @@ fn fault_case(s: &[u8], at: usize, image: &[u8]) -> Told {
     )
 }
 
+// One of the three texts of a figure.
+fn text_of(which: u8, hz: f64, text: &mut [u8]) -> FlatText {
+    match which {
+        0 => pamuklid::pamuklid_text_at(hz, text),
+        1 => pamuklid::pamuklid_text_khz(hz, text),
+        _ => pamuklid::pamuklid_text_hertz(hz, text),
+    }
+}
+
+// A text against the one at a place, in bytes that are lent.
+fn text_told(head: &[u8], s: &[u8], at: usize, text: &mut [u8]) -> Told {
+    if s.len() < 2 {
+        return Told::Malformed;
+    }
+    if s.len() - 2 < at {
+        return Told::Malformed;
+    }
+    let start = at + 2;
+    let b = &s[at..start];
+    let size = byte(b, 1) as usize;
+    if s.len() - start < size {
+        return Told::Malformed;
+    }
+    let end = start + size;
+    let answer = text_of(byte(head, 0), figure(head, 1), text);
+    let written = answer.refusal == byte(b, 0) && answer.length == byte(b, 1) as u32;
+    ended(written && rows_same(text, &s[start..end]), end)
+}
+
+fn text_case(s: &[u8], at: usize) -> Told {
+    if s.len() < 10 {
+        return Told::Malformed;
+    }
+    if s.len() - 10 < at {
+        return Told::Malformed;
+    }
+    let end = at + 10;
+    let b = &s[at..end];
+    let lent = byte(b, 9) as usize;
+    if ROOM < lent {
+        return Told::Malformed;
+    }
+    let mut text = [FILL; ROOM];
+    text_told(b, s, end, &mut text[0..lent])
+}
+
 fn case(s: &[u8], at: usize, image: &[u8]) -> Told {
     if s.len() <= at {
         return Told::Malformed;
@@ -478,6 +528,7 @@ fn case(s: &[u8], at: usize, image: &[u8]) -> Told {
         4 => dials_case(s, from, image),
         5 => distance_case(s, from),
         6 => fault_case(s, from, image),
+        7 => text_case(s, from),
         _ => Told::Malformed,
     }
 }
