@@ -261,6 +261,31 @@ static void distances(const char *title, uint8_t sideband, const double *dials, 
     }
 }
 
+typedef pamuklid_text (*text_call)(double hz, uint8_t *text, size_t room);
+
+/* A figure as a panel shows it. A text has no unit, and no byte 0 ends it. */
+static void panel(const char *title, double hz, text_call call, size_t room, const char *unit)
+{
+    uint8_t text[PAMUKLID_MOST_TEXT];
+    pamuklid_text t = call(hz, text, room);
+    printf("panel, %s %.14g in %zu bytes: ", title, hz, room);
+    if (t.refusal != PAMUKLID_ACCEPTED) {
+        printf("refusal %d\n", t.refusal);
+        return;
+    }
+    fwrite(text, 1, t.length, stdout);
+    printf(" %s\n", unit);
+}
+
+static void panels(void)
+{
+    panel("dial", 14097700, pamuklid_text_at, PAMUKLID_MOST_TEXT, "kHz");
+    panel("dial", 14097700, pamuklid_text_at, 8, "kHz");
+    panel("dial", 1e13, pamuklid_text_at, PAMUKLID_MOST_TEXT, "kHz");
+    panel("end of a segment", 14099500, pamuklid_text_khz, PAMUKLID_MOST_TEXT, "kHz");
+    panel("width", 500, pamuklid_text_hertz, PAMUKLID_MOST_TEXT, "Hz");
+}
+
 int main(int argc, char **argv)
 {
     if (pamuklid_version() != PAMUKLID_VERSION) {
@@ -283,6 +308,7 @@ int main(int argc, char **argv)
     static const double dials[] = {14097700, 14098000, 14093799, 2e12};
     distances("automatic, originating", PAMUKLID_SIDEBAND_UPPER, dials, 4);
     distances("sideband absent", PAMUKLID_ABSENT, dials, 1);
+    panels();
     pamuklid_decision d = pamuklid_unmeasured(station_at(14100000, LOCAL, POWER_UNKNOWN), image,
                                               image_len);
     printf("spectrum not known: ");

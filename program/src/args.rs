@@ -8,7 +8,7 @@ use pamuklid::{Control, Direction, Edges, Kind, License, Policy, Sideband, Stati
 
 use crate::answer::Failure;
 use crate::table::Table;
-use crate::text::figure;
+use crate::text::{figure, typed, Typed};
 
 /// A part of the station that may be absent.
 #[derive(Clone, Copy, Debug)]
@@ -44,37 +44,37 @@ fn kind() -> impl TypedValueParser<Value = Kind> {
     PossibleValuesParser::new(Kind::NAMES.iter().copied()).map(|word| Kind::from_name(&word).unwrap_or(Kind::Data))
 }
 
-fn region(typed: &str) -> Result<u8, String> {
-    match typed {
-        "0" | "1" | "2" | "3" => Ok(typed.as_bytes()[0] - b'0'),
+fn region(text: &str) -> Result<u8, String> {
+    match text {
+        "0" | "1" | "2" | "3" => Ok(text.as_bytes()[0] - b'0'),
         _ => {
             Err("the ITU regions are 1 (Europe, Africa), 2 (the Americas) and 3 (Asia, Oceania); 0 is none".to_owned())
         }
     }
 }
 
-fn not_below_nought(typed: &str, what: &str) -> Result<f64, String> {
-    match figure(typed)? {
+fn not_below_nought(text: &str, what: &str) -> Result<f64, String> {
+    match figure(text)? {
         x if x < 0.0 => Err(format!("{what} is not below 0")),
         x => Ok(x),
     }
 }
 
-fn margin(typed: &str) -> Result<f64, String> {
-    not_below_nought(typed, "a margin")
+fn margin(text: &str) -> Result<f64, String> {
+    not_below_nought(text, "a margin")
 }
 
-fn power(typed: &str) -> Result<Maybe<f64>, String> {
-    match typed {
+fn power(text: &str) -> Result<Maybe<f64>, String> {
+    match text {
         ABSENT => Ok(Maybe(None)),
-        _ => not_below_nought(typed, "a power").map(|watts| Maybe(Some(watts))),
+        _ => not_below_nought(text, "a power").map(|watts| Maybe(Some(watts))),
     }
 }
 
-fn maybe_figure(typed: &str) -> Result<Maybe<f64>, String> {
-    match typed {
+fn dial(text: &str) -> Result<Maybe<Typed>, String> {
+    match text {
         ABSENT => Ok(Maybe(None)),
-        _ => figure(typed).map(|x| Maybe(Some(x))),
+        _ => typed(text).map(|dial| Maybe(Some(dial))),
     }
 }
 
@@ -114,8 +114,8 @@ pub struct StationArgs {
 #[command(next_help_heading = "The station")]
 pub struct VerdictArgs {
     /// The radio's dial in hertz, or absent [default: absent]
-    #[arg(long, value_name = "HZ", value_parser = maybe_figure, allow_negative_numbers = true)]
-    pub dial: Option<Maybe<f64>>,
+    #[arg(long, value_name = "HZ", value_parser = dial, allow_negative_numbers = true)]
+    pub dial: Option<Maybe<Typed>>,
 
     /// The transmit power in watts, or absent [default: absent]
     #[arg(long, value_name = "W", value_parser = power, allow_negative_numbers = true)]
@@ -142,22 +142,22 @@ pub struct SignalArgs {
         long,
         num_args = 2,
         value_names = ["LOW", "HIGH"],
-        value_parser = figure,
+        value_parser = typed,
         allow_negative_numbers = true,
         action = ArgAction::Set,
     )]
-    pub edges: Option<Vec<f64>>,
+    pub edges: Option<Vec<Typed>>,
 
     /// The edges by power, where they are others
     #[arg(
         long,
         num_args = 2,
         value_names = ["LOW", "HIGH"],
-        value_parser = figure,
+        value_parser = typed,
         allow_negative_numbers = true,
         action = ArgAction::Set,
     )]
-    pub power_edges: Option<Vec<f64>>,
+    pub power_edges: Option<Vec<Typed>>,
 
     /// The edges by spectrum, where they are others
     #[arg(
@@ -165,11 +165,11 @@ pub struct SignalArgs {
         visible_alias = "spectral-edges",
         num_args = 2,
         value_names = ["LOW", "HIGH"],
-        value_parser = figure,
+        value_parser = typed,
         allow_negative_numbers = true,
         action = ArgAction::Set,
     )]
-    pub spectral: Option<Vec<f64>>,
+    pub spectral: Option<Vec<Typed>>,
 }
 
 /// The kind, which the verdict alone asks for.
@@ -199,6 +199,8 @@ pub const PRACTICE_EDGES: [f64; 2] = [1_250.0, 1_750.0];
 pub struct Asked {
     pub table: Table,
     pub station: Station,
+    /// The dial as it was typed.
+    pub dial: Option<String>,
     pub kind: Kind,
     pub direction: Direction,
     pub edges: Edges,
@@ -236,9 +238,10 @@ impl Asked {
             Some(margin) => of.margin_hz = margin,
             None => assumed.push(("--margin", "50")),
         }
+        let dial = verdict.and_then(|verdict| verdict.dial.as_ref()).and_then(|dial| dial.0.as_ref());
+        of.dial_hz = dial.map(|dial| dial.figure);
         if let Some(verdict) = verdict {
             of.policy = verdict.policy.unwrap_or(Policy::Rules);
-            of.dial_hz = verdict.dial.and_then(|dial| dial.0);
             of.power_w = verdict.power.and_then(|power| power.0);
             of.band_plan = verdict.plan;
         }
@@ -258,14 +261,22 @@ impl Asked {
         };
         let edges = signal.edges(&mut assumed)?;
         let table = Table::load(table.table.as_deref(), of.policy == Policy::Rules)?;
-        Ok(Self { table, station: of, kind: sent, direction, edges, assumed })
+        let dial = dial.map(|dial| dial.text.clone());
+        Ok(Self { table, station: of, dial, kind: sent, direction, edges, assumed })
+    }
+
+    /// With a dial that is no option.
+    pub fn at(mut self, dial: &Typed) -> Self {
+        self.station.dial_hz = Some(dial.figure);
+        self.dial = Some(dial.text.clone());
+        self
     }
 }
 
 impl SignalArgs {
     /// Both pairs: `--edges` gives both, the other two give theirs, in whatever order they stand.
     fn edges(&self, assumed: &mut Vec<(&'static str, &'static str)>) -> Result<Edges, Failure> {
-        let given = |name: &str, pair: &Option<Vec<f64>>| match pair {
+        let given = |name: &str, pair: &Option<Vec<Typed>>| match pair {
             Some(pair) => in_order(name, pair).map(Some),
             None => Ok(None),
         };
@@ -297,10 +308,10 @@ impl SignalArgs {
 }
 
 /// A low and a high edge that were given.
-pub fn in_order(name: &str, pair: &[f64]) -> Result<[f64; 2], Failure> {
-    match *pair {
-        [low, high] if low <= high => Ok([low, high]),
-        [low, high] => Err(Failure::arguments(
+pub fn in_order(name: &str, pair: &[Typed]) -> Result<[f64; 2], Failure> {
+    match pair {
+        [low, high] if low.figure <= high.figure => Ok([low.figure, high.figure]),
+        [Typed { text: low, .. }, Typed { text: high, .. }] => Err(Failure::arguments(
             format!("{name} {low} {high}: the low edge is above the high one"),
             format!("give the lower edge first: {name} {high} {low}"),
         )),

@@ -186,10 +186,10 @@ fn figure_words(x: f64, unit: Holds) -> String {
     if x == 0.0 && x.is_sign_negative() {
         return "negative zero".to_owned();
     }
-    let hertz = if x != 0.0 && x.abs() < 1e-6 || x.abs() >= 1e16 { format!("{x:e} Hz") } else { Hertz(x).to_string() };
     match unit {
-        Holds::Watts => hertz.replace(" Hz", " W"),
-        _ => hertz,
+        Holds::Watts if x != 0.0 && x.abs() < 1e-6 || x.abs() >= 1e16 => format!("{x:e} W"),
+        Holds::Watts => format!("{x} W"),
+        _ => Hertz(x).to_string(),
     }
 }
 
@@ -268,7 +268,7 @@ fn unsound(image: &[u8], start: usize, forms: &[Form]) -> Vec<Field> {
             let x = f64_at(image, start + form.at);
             let wrong = match x {
                 _ if !x.is_finite() => "is not a finite number",
-                _ if x.abs() > (1u64 << 40) as f64 => "is above 2^40 (1,099,511,627,776) in size",
+                _ if x.abs() > (1u64 << 40) as f64 => "is above 2^40 (1099511627776) in size",
                 _ if x == 0.0 && x.is_sign_negative() => "must be written as eight bytes of zero",
                 _ => return None,
             };

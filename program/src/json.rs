@@ -317,6 +317,11 @@ impl RefusalJson {
         }
     }
 
+    /// In a command's own words.
+    pub fn said(refusal: Refusal, reason: &'static str, what_to_do: &'static str) -> Self {
+        Self { reason, what_to_do, ..Self::of(refusal) }
+    }
+
     pub fn at(refusal: Refusal, image: &[u8], fault: Option<&(Fault, Vec<Field>)>) -> Self {
         let mut out = Self::of(refusal);
         let Some((fault, fields)) = fault else { return out };

@@ -1,7 +1,8 @@
 //! The dial list of a question, and what is to be remarked on it.
 
 use pamuklid::{
-    evaluate, safe_dials, tidy, Code, Decision, DialList, DialRow, Hertz, Kind, Policy, Refusal, Station, Table, ROW,
+    evaluate, safe_dials, text_at, text_hertz, text_khz, tidy, Code, Decision, DialList, DialRow, Hertz, Kind, Policy,
+    Refusal, Station, Table, MOST_TEXT, ROW,
 };
 
 use crate::answer::Style;
@@ -57,8 +58,17 @@ fn ends(asked: &Asked, row: &DialRow) -> [Option<u8>; 2] {
     })
 }
 
-fn figure(hz: f64) -> String {
-    Hertz(hz).to_string().trim_end_matches(" Hz").to_owned()
+/// Before a figure of the list that is not whole hertz, and what it says.
+const ROUNDED: char = '~';
+const ROUNDED_SAYS: &str = "~ is before a figure that is rounded to a whole hertz; --json has the exact one.\n";
+
+/// A figure of the list, in kilohertz by one of the library's texts.
+fn cell(hz: f64, text: fn(f64, &mut [u8]) -> Result<&str, Refusal>) -> String {
+    match text(hz, &mut [0; MOST_TEXT]) {
+        Ok(digits) if hz.fract() == 0.0 => digits.to_owned(),
+        Ok(digits) => format!("{ROUNDED}{digits}"),
+        Err(_) => Hertz(hz).to_string(),
+    }
 }
 
 impl Listing {
@@ -85,10 +95,10 @@ impl Listing {
         let blocked = rows.iter().any(|row| row.ends != [None, None]);
         let cells = |r: &Row| {
             let mut cells = vec![
-                figure(r.row.dial.low_hz),
-                figure(r.row.dial.high_hz),
-                figure(r.row.segment.low_hz),
-                figure(r.row.segment.high_hz),
+                cell(r.row.dial.low_hz, text_at),
+                cell(r.row.dial.high_hz, text_at),
+                cell(r.row.segment.low_hz, text_khz),
+                cell(r.row.segment.high_hz, text_khz),
                 r.row.band.to_string(),
                 r.row.rule.to_string(),
             ];
@@ -103,11 +113,15 @@ impl Listing {
             }
             cells
         };
-        let mut head = vec!["dial from, Hz", "dial to, Hz", "segment from", "segment to", "band", "rule"];
+        let mut head = vec!["dial from, kHz", "dial to, kHz", "segment from", "segment to", "band", "rule"];
         if blocked {
             head.push("verdict");
         }
-        out.push_str(&words::columns(&head, &rows.iter().map(cells).collect::<Vec<_>>(), 5));
+        let rows: Vec<Vec<String>> = rows.iter().map(cells).collect();
+        out.push_str(&words::columns(&head, &rows, 5));
+        if rows.iter().flatten().any(|cell| cell.starts_with(ROUNDED)) {
+            out.push_str(ROUNDED_SAYS);
+        }
         out
     }
 
@@ -126,19 +140,24 @@ fn in_band(image: &[u8], hz: f64) -> bool {
 
 /// A dial that looks like kilohertz or megahertz.
 fn unit(asked: &Asked) -> Option<String> {
-    let dial = asked.station.dial_hz?;
+    let (dial, typed) = (asked.station.dial_hz?, asked.dial.as_ref()?);
     let image = &asked.table.image;
     if in_band(image, dial) {
         return None;
     }
     let read_as = |(unit, factor): (&str, f64)| {
         let hertz = (dial * factor * 1000.0).round() / 1000.0;
-        in_band(image, hertz)
-            .then(|| format!("The dial is in hertz. {dial} looks like {unit}: if it is, give --dial {hertz}."))
+        in_band(image, hertz).then(|| {
+            let give = match text_hertz(hertz, &mut [0; MOST_TEXT]) {
+                Ok(digits) if hertz.fract() == 0.0 => format!("give --dial {digits}"),
+                _ => "give it in hertz".to_owned(),
+            };
+            format!("The dial is in hertz. {typed} looks like {unit}: if it is, {give}.")
+        })
     };
     [("kilohertz", 1e3), ("megahertz", 1e6)].into_iter().find_map(read_as).or_else(|| {
         (dial.abs() < 100_000.0).then(|| {
-            format!("The dial is in hertz, and {dial} is below every amateur band: was it meant in kilohertz?")
+            format!("The dial is in hertz, and {typed} is below every amateur band: was it meant in kilohertz?")
         })
     })
 }

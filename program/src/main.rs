@@ -1,5 +1,5 @@
-//! The transmit gate for people: it judges a transmission by a table of 47 CFR Part 97, checks a table, and lists
-//! dials, in words and in JSON. Every answer comes from the proved library, through the crate `pamuklid`.
+//! The transmit gate for people: it judges a transmission by a table of 47 CFR Part 97, checks a table, lists dials,
+//! and writes a figure as a panel shows it, in words and in JSON. Every answer comes from the proved library, through the crate `pamuklid`.
 //!
 //! A command is a module of `commands`, with its arguments and a function that answers; `words` has the texts,
 //! `json` the objects.
@@ -44,7 +44,7 @@ pub struct Cli {
 }
 
 const AFTER: &str = "Exit status: 0 may be sent (or accepted, or listed), 1 blocked (or refused, or not listed), \
-2 not answered: a refusal, a bad argument, a read or a write that failed. Frequencies are in hertz, power in watts.";
+2 not answered: a refusal, a bad argument, a read or a write that failed. Frequencies are given in hertz, power in watts.";
 
 /// The program's version, and the library's.
 fn versions() -> (&'static str, String) {

@@ -3,8 +3,18 @@
 use std::ffi::OsStr;
 use std::os::unix::ffi::OsStrExt;
 
-/// A figure that was typed: 14097700, 14,097,700.125 or -50. Commas may stand between groups of three digits, as
-/// the answers have them.
+/// A figure with the text that it was typed as, to be shown back.
+#[derive(Clone, Debug)]
+pub struct Typed {
+    pub figure: f64,
+    pub text: String,
+}
+
+pub fn typed(text: &str) -> Result<Typed, String> {
+    Ok(Typed { figure: figure(text)?, text: text.to_owned() })
+}
+
+/// A figure that was typed: 14097700, 14,097,700.125 or -50. Commas may stand between groups of three digits.
 pub fn figure(typed: &str) -> Result<f64, String> {
     const HOW: &str = "write a number as 14097700, 14,097,700 or 14097700.125, without a unit";
     let bare = typed.strip_prefix(['-', '+']).unwrap_or(typed);

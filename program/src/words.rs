@@ -1,8 +1,8 @@
 //! The answers in words, where the crate `pamuklid` does not have them already.
 
 use pamuklid::{
-    Ceiling, Code, Decision, Direction, Edges, Fault, Guidance, Hertz, Kind, Overshoot, Place, Range, Refusal, Rule,
-    Station, Verdict,
+    Ceiling, Code, Decision, Direction, Edges, Fault, Guidance, Hertz, Kilohertz, Kind, Overshoot, Place, Range,
+    Refusal, Rule, Station, Verdict,
 };
 
 use crate::answer::{Failure, Style};
@@ -46,7 +46,7 @@ fn station(s: &Station, with_dial: bool) -> String {
         or_unknown("sideband", s.sideband),
     ];
     if with_dial {
-        parts.push(s.dial_hz.map_or_else(|| "dial not known".to_owned(), |dial| format!("dial {}", Hertz(dial))));
+        parts.push(s.dial_hz.map_or_else(|| "dial not known".to_owned(), |dial| format!("dial {}", Kilohertz(dial))));
     }
     parts.push(format!("margin {}", Hertz(s.margin_hz)));
     if with_dial {
@@ -56,8 +56,9 @@ fn station(s: &Station, with_dial: bool) -> String {
     parts.join(", ")
 }
 
-fn pair(low_hz: f64, high_hz: f64) -> Range {
-    Range { low_hz, high_hz }
+/// Audio edges.
+fn pair(low_hz: f64, high_hz: f64) -> Hertz<Range> {
+    Hertz(Range { low_hz, high_hz })
 }
 
 pub fn audio(edges: &Edges) -> String {
@@ -189,10 +190,10 @@ pub fn decision(d: &Decision, margin_hz: f64, style: Style) -> String {
     if let Some(automatic) = d.automatic_segment {
         out.push_str(&fact("automatic", automatic));
     }
-    out.push_str(&fact("audio", d.audio));
+    out.push_str(&fact("audio", Hertz(d.audio)));
     out.push_str(&fact("width", Hertz(d.width_hz)));
     if let Some(air) = d.air {
-        out.push_str(&fact("on the air", air));
+        out.push_str(&fact("on the air", Kilohertz(air)));
     }
     out
 }
@@ -241,6 +242,7 @@ pub fn refusal(
 /// Why, by the program's own measure where it is that.
 pub fn refusal_reason(refusal: Refusal) -> &'static str {
     match refusal {
+        Refusal::StationFigure => "the dial, the margin or the power is above 2^40 (1099511627776) in size",
         Refusal::Rungs => "there are more than 256 rungs",
         Refusal::Rows => "the dial list has more than the 10,000 rows that there is room for",
         _ => refusal.reason(),
@@ -295,7 +297,7 @@ pub fn ceiling(c: &Ceiling, rungs: &[[f64; 2]], control: [f64; 2], style: Style)
     }
     if let Some(limit) = &c.limit {
         let with = if allowed == 0 { "its control frame" } else { "its control frame and the slower rungs" };
-        out.push_str(&format!("Rung {allowed} was judged with {with}, {}.\n", limit.audio));
+        out.push_str(&format!("Rung {allowed} was judged with {with}, {}.\n", Hertz(limit.audio)));
     }
     out
 }

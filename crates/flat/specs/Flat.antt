@@ -43,6 +43,9 @@ use Rattle.dials.specs.declared.DialList.{DialList}
 use Rattle.dials.specs.declared.DialList.the-variants.{Rows, Refused}
 use Rattle.distance.specs.declared.Distance.{Distance}
 use Rattle.distance.specs.declared.Distance.the-variants.{Hertz, NoneListed, Refused as NoAnswer}
+use Rattle.number_texts.specs.Text.{textTests, textAnswer, textBytes}
+use Rattle.number_texts.specs.declared.TextAnswer.{TextAnswer}
+use Rattle.number_texts.specs.declared.TextAnswer.the-variants.{Length, Refused as NoText}
 use Rattle.flat.specs.declared.FlatDistance.{FlatDistance}
 use Rattle.flat.specs.declared.FlatStation.{FlatStation}
 use Rattle.flat.specs.declared.FlatEdges.{FlatEdges}
@@ -57,6 +60,7 @@ use Rattle.flat.specs.declared.FlatTidiness.{FlatTidiness}
 use Rattle.flat.specs.declared.FlatCeiling.{FlatCeiling}
 use Rattle.flat.specs.declared.FlatDials.{FlatDials}
 use Rattle.flat.specs.declared.FlatFault.{FlatFault}
+use Rattle.flat.specs.declared.FlatText.{FlatText}
 
 -- the station record that arrives, and one that leaves
 unfoldable pub stationRecordOf : FlatStation → StationRecord
@@ -236,6 +240,16 @@ distanceFlat (Hertz x) = record { «distance_hz» = x; listed = 1; refusal = 0 }
 distanceFlat NoneListed = record { «distance_hz» = infinityHz; listed = 0; refusal = 0 }
 distanceFlat (NoAnswer n) = record { «distance_hz» = infinityHz; listed = 0; refusal = n }
 
--- the boundary's version, 0.3.0: 10,000 times the first number, 100 times the second, and the third
+-- a text: its length, or a refusal's number and length 0
+abbrev pub textFlat : TextAnswer → FlatText
+textFlat (Length n) = record { length = n; refusal = 0 }
+textFlat (NoText n) = record { length = 0; refusal = n }
+
+-- what the exported texts promise: the flat form of the answer, and every byte lent
+pub record FlatTexted (hz : Float) (text lent left : List ℕ) (answer : FlatText) : Type 0 where
+  pub answered : answer ≡ textFlat (textAnswer (refusalOf (textTests hz text lent)) text)
+  pub bytes : left ≡ textBytes (refusalOf (textTests hz text lent)) text lent
+
+-- the boundary's version, 0.4.0: 10,000 times the first number, 100 times the second, and the third
 abbrev pub versionNumber : ℕ
-versionNumber = 300
+versionNumber = 400

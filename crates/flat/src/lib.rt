@@ -1,5 +1,5 @@
 // The records of the boundary to C: flat structs of numbers, made from the answers and read into the station record and the edges. It
-// uses codes, profile, occupancy, station, fault, tidy, decision, numbers, ceiling, dials and distance.
+// uses codes, profile, occupancy, station, fault, tidy, decision, numbers, ceiling, dials, distance and number_texts.
 use ceiling::CeilingAnswer;
 use ceiling::Rung;
 use codes::Checked;
@@ -13,6 +13,7 @@ use dials::DialList;
 use distance::Distance;
 use fault::Fault;
 use fault::FaultAnswer;
+use number_texts::TextAnswer;
 use occupancy::Edges;
 use profile::Range;
 use profile::RuleName;
@@ -26,7 +27,7 @@ ghost use Rattle.ceiling.specs.Ceiling.{rungNumber};
 ghost use Rattle.flat.specs.Fits.{FaultFits, RungFits, Counted, Indexed};
 ghost use Rattle.flat.specs.Flat.{stationRecordOf, stationOf, edgesOf, rangeFlat, segmentFlat, overshootFlat};
 ghost use Rattle.flat.specs.Flat.{guidanceIndex, guidanceFlat, ruleFlat, bandFlat, widthFlat};
-ghost use Rattle.flat.specs.Flat.{faultFlat, tidinessFlat, flatOf, ceilingFlat, dialsFlat, infinityHz, distanceFlat};
+ghost use Rattle.flat.specs.Flat.{faultFlat, tidinessFlat, flatOf, ceilingFlat, dialsFlat, infinityHz, distanceFlat, textFlat};
 
 // The station record: codes and presence bytes as document 01 numbers them, figures whatever they are.
 #[repr(C)]
@@ -126,6 +127,13 @@ pub struct FlatDials {
 pub struct FlatDistance {
     pub distance_hz: f64,
     pub listed: u8,
+    pub refusal: u8,
+}
+
+// A text's answer: the bytes written, or the refusal's number and length 0.
+#[repr(C)]
+pub struct FlatText {
+    pub length: u32,
     pub refusal: u8,
 }
 
@@ -508,6 +516,22 @@ pub fn distance_flat(d: Distance) -> FlatDistance
         Distance::Refused(n) => FlatDistance {
             distance_hz: none,
             listed: 0,
+            refusal: n,
+        },
+    }
+}
+
+// A text's answer, flat.
+pub fn text_flat(a: TextAnswer) -> FlatText
+    ensures { λ r. ⌜ r ≡ textFlat a ⌝ }
+{
+    match a {
+        TextAnswer::Length(n) => FlatText {
+            length: n,
+            refusal: 0,
+        },
+        TextAnswer::Refused(n) => FlatText {
+            length: 0,
             refusal: n,
         },
     }

@@ -1,5 +1,5 @@
 // The boundary to C: the public calls, exported, with flat structs of numbers. It uses station, image, fault, tidy, numbers, verdict,
-// ceiling, dials, distance and flat.
+// ceiling, dials, distance, number_texts and flat.
 use flat::FlatCeiling;
 use flat::FlatDecision;
 use flat::FlatDials;
@@ -7,6 +7,7 @@ use flat::FlatDistance;
 use flat::FlatEdges;
 use flat::FlatFault;
 use flat::FlatStation;
+use flat::FlatText;
 use flat::FlatTidiness;
 ghost use mathlib.Core.Path.{_≡_};
 ghost use Rattle.image.specs.Check.{checkOf};
@@ -16,12 +17,13 @@ ghost use Rattle.station.specs.Station.{freshOf};
 ghost use Rattle.verdict.specs.Verdict.{evaluateOf, unmeasuredOf};
 ghost use Rattle.ceiling.specs.Ceiling.{ceilingOf};
 ghost use Rattle.distance.specs.Distance.{distanceOf};
+ghost use Rattle.number_texts.specs.Text.{atText, khzText, hertzText};
 ghost use Rattle.numbers.specs.Refusal.{refusalNumber};
 ghost use Rattle.flat.specs.Flat.{stationRecordOf, stationOf, edgesOf, faultFlat, tidinessFlat, flatOf};
-ghost use Rattle.flat.specs.Flat.{ceilingFlat, FlatDialed, distanceFlat, versionNumber};
+ghost use Rattle.flat.specs.Flat.{ceilingFlat, FlatDialed, distanceFlat, FlatTexted, versionNumber};
 
-// The version of this boundary: 0.3.0.
-pub const VERSION: u32 = 300;
+// The version of this boundary: 0.4.0.
+pub const VERSION: u32 = 400;
 
 // The version of this boundary, that of the header: 10,000 times the first number, 100 times the second, and the third.
 #[no_mangle]
@@ -147,4 +149,28 @@ pub extern "C" fn pamuklid_distance_of(
     ensures { λ r. ⌜ r ≡ distanceFlat (distanceOf «dial_hz» flags «channel_band» count (now (rows .entry))) ⌝ }
 {
     flat::distance_flat(distance::distance_of(dial_hz, flags, channel_band, count as usize, rows))
+}
+
+// The text of a frequency in kilohertz, with three decimals.
+#[no_mangle]
+pub extern "C" fn pamuklid_text_at(hz: f64, text: &mut [u8]) -> FlatText
+    ensures { λ r. ⌜ FlatTexted hz (atText hz) (now (text .entry)) (now (text .exit)) r ⌝ }
+{
+    flat::text_flat(number_texts::at(hz, text))
+}
+
+// The text of a frequency in kilohertz, with as many decimals as it needs.
+#[no_mangle]
+pub extern "C" fn pamuklid_text_khz(hz: f64, text: &mut [u8]) -> FlatText
+    ensures { λ r. ⌜ FlatTexted hz (khzText hz) (now (text .entry)) (now (text .exit)) r ⌝ }
+{
+    flat::text_flat(number_texts::khz(hz, text))
+}
+
+// The text of a figure in whole hertz.
+#[no_mangle]
+pub extern "C" fn pamuklid_text_hertz(hz: f64, text: &mut [u8]) -> FlatText
+    ensures { λ r. ⌜ FlatTexted hz (hertzText hz) (now (text .entry)) (now (text .exit)) r ⌝ }
+{
+    flat::text_flat(number_texts::hertz(hz, text))
 }

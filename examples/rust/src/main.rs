@@ -5,8 +5,8 @@ use std::fs;
 use std::process::ExitCode;
 
 use pamuklid::{
-    raw, Control, Decision, Direction, Distance, Edges, Kind, License, Overshoot, Place, Policy,
-    Refusal, Sideband, Station, ROW,
+    raw, text_at, text_hertz, text_khz, Control, Decision, Direction, Distance, Edges, Kind,
+    License, Overshoot, Place, Policy, Refusal, Sideband, Station, MOST_TEXT, ROW,
 };
 
 fn station(dial_hz: f64, control: Control, power_w: Option<f64>) -> Station {
@@ -197,6 +197,26 @@ fn distances(image: &[u8], title: &str, sideband: Option<Sideband>, dials: &[f64
     }
 }
 
+type TextCall = fn(f64, &mut [u8]) -> Result<&str, Refusal>;
+
+/// A figure as a panel shows it.
+fn panel(title: &str, hz: f64, call: TextCall, room: usize, unit: &str) {
+    let mut bytes = [0; MOST_TEXT];
+    let text = match call(hz, &mut bytes[..room]) {
+        Err(r) => refusal(r),
+        Ok(digits) => format!("{digits} {unit}"),
+    };
+    println!("panel, {title} {hz} in {room} bytes: {text}");
+}
+
+fn panels() {
+    panel("dial", 14_097_700.0, text_at, MOST_TEXT, "kHz");
+    panel("dial", 14_097_700.0, text_at, 8, "kHz");
+    panel("dial", 1e13, text_at, MOST_TEXT, "kHz");
+    panel("end of a segment", 14_099_500.0, text_khz, MOST_TEXT, "kHz");
+    panel("width", 500.0, text_hertz, MOST_TEXT, "Hz");
+}
+
 fn main() -> ExitCode {
     let Some(Ok(image)) = env::args_os().nth(1).map(fs::read) else {
         eprintln!("usage: judge IMAGE");
@@ -214,6 +234,7 @@ fn main() -> ExitCode {
     let dials = [14_097_700.0, 14_098_000.0, 14_093_799.0, 2e12];
     distances(&image, "automatic, originating", Some(Sideband::Upper), &dials);
     distances(&image, "sideband absent", None, &dials[..1]);
+    panels();
     let s = station(14_100_000.0, Control::Local, None);
     println!("spectrum not known: {}", answer(pamuklid::unmeasured(&s, &image)));
     let edges = Edges::both(1_250.0, 1_750.0);

@@ -1,6 +1,6 @@
 //! `pamuklid distance`: how far a dial stands from the nearest at which data may be sent.
 
-use pamuklid::{evaluate, Decision, Distance, Hertz, Kind};
+use pamuklid::{evaluate, Decision, Distance, Hertz, Kilohertz, Kind};
 use serde::Serialize;
 
 use crate::answer::{Answer, Failure, Status, Style};
@@ -8,7 +8,7 @@ use crate::args::{Asked, SignalArgs, StationArgs, TableArgs};
 use crate::commands::judge::fault;
 use crate::json::{DecisionJson, Question, RefusalJson};
 use crate::listing::{closing, list, remarks, Listing};
-use crate::text::figure;
+use crate::text::{typed, Typed};
 use crate::words;
 
 /// Says how far a dial stands from the nearest one that is listed
@@ -19,8 +19,8 @@ use crate::words;
 #[derive(clap::Args, Debug)]
 pub struct Args {
     /// The dial in hertz
-    #[arg(value_name = "HZ", value_parser = figure, allow_negative_numbers = true)]
-    dial: f64,
+    #[arg(value_name = "HZ", value_parser = typed, allow_negative_numbers = true)]
+    dial: Typed,
     #[command(flatten)]
     table: TableArgs,
     #[command(flatten)]
@@ -44,21 +44,21 @@ struct Json {
 }
 
 fn clause(dial: f64, distance: Option<Distance>, listing: &Listing) -> String {
-    let dial = Hertz(dial);
+    let dial = Kilohertz(dial);
     match (distance, listing) {
-        (Some(Distance::Hz(0.0)), _) => format!("The dial {dial} is listed."),
-        (Some(Distance::Hz(far)), _) => format!("The dial {dial} is {} from the nearest listed one.", Hertz(far)),
+        (Some(Distance::Hz(0.0)), _) => format!("The dial, {dial}, is listed."),
+        (Some(Distance::Hz(far)), _) => format!("The dial, {dial}, is {} from the nearest listed one.", Hertz(far)),
         (_, Listing::Barred(decision)) => format!("No dial is listed: {}.", words::reason(decision)),
         _ => "No dial is listed outside 60 m.".to_owned(),
     }
 }
 
 pub fn answer(args: &Args, style: Style) -> Result<Answer, Failure> {
-    let mut asked = Asked::new(&args.table, &args.station, None, &args.signal, None)?;
-    asked.station.dial_hz = Some(args.dial);
+    let asked = Asked::new(&args.table, &args.station, None, &args.signal, None)?.at(&args.dial);
+    let dial = args.dial.figure;
     let image = &asked.table.image;
     let mut text = words::question(&asked, true, style) + "\n";
-    let found = list(&asked, |rows| rows.distance(args.dial)).and_then(|(listing, distance)| {
+    let found = list(&asked, |rows| rows.distance(dial)).and_then(|(listing, distance)| {
         let decision = evaluate(&asked.station, Kind::Data, asked.direction, &asked.edges, image)?;
         Ok((listing, distance, decision))
     });
@@ -88,7 +88,7 @@ pub fn answer(args: &Args, style: Style) -> Result<Answer, Failure> {
     if decision.allowed() != (distance_hz == Some(0.0)) {
         remarks.push("The verdict is another than the list's: go by the verdict (docs/DIFFERENCES.md).".to_owned());
     }
-    text.push_str(&format!("{}\n", clause(args.dial, distance, &listing)));
+    text.push_str(&format!("{}\n", clause(dial, distance, &listing)));
     text.push_str(&format!("The verdict on data there: {}\n", words::decision_line(&decision, style)));
     text.push_str(&closing(&asked, &remarks, style));
     let json = Json {

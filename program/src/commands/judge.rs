@@ -9,7 +9,7 @@ use crate::args::{in_order, Asked, KindArgs, SignalArgs, StationArgs, TableArgs,
 use crate::image::{self, Field};
 use crate::json::{CeilingJson, DecisionJson, Question, RangeJson, RefusalJson, RowJson};
 use crate::listing::{closing, list, list_remarks, notes, remarks, Listing};
-use crate::text::figure;
+use crate::text::{typed, Typed};
 use crate::words;
 
 /// Judges a transmission: whether it may be sent, why, and at which dials data may be
@@ -42,23 +42,23 @@ struct CeilingArgs {
         long,
         num_args = 2,
         value_names = ["LOW", "HIGH"],
-        value_parser = figure,
+        value_parser = typed,
         allow_negative_numbers = true,
         action = ArgAction::Append,
     )]
-    rung: Option<Vec<f64>>,
+    rung: Option<Vec<Typed>>,
 
     /// The audio edges of the control frames that go with the rungs [default: 1250 1750]
     #[arg(
         long,
         num_args = 2,
         value_names = ["LOW", "HIGH"],
-        value_parser = figure,
+        value_parser = typed,
         allow_negative_numbers = true,
         action = ArgAction::Set,
         requires = "rung",
     )]
-    control_edges: Option<Vec<f64>>,
+    control_edges: Option<Vec<Typed>>,
 }
 
 /// The rungs that were given, and their control frames.

@@ -7,6 +7,7 @@ mod dials;
 mod distance;
 mod judge;
 mod man;
+mod text;
 
 use clap::Subcommand;
 
@@ -18,6 +19,7 @@ pub enum Command {
     Check(check::Args),
     Dials(dials::Args),
     Distance(distance::Args),
+    Text(text::Args),
     Completions(completions::Args),
     Man(man::Args),
 }
@@ -29,6 +31,7 @@ impl Command {
             Self::Check(args) => check::answer(args, style),
             Self::Dials(args) => dials::answer(args, style),
             Self::Distance(args) => distance::answer(args, style),
+            Self::Text(args) => text::answer(args, style),
             Self::Completions(args) => completions::answer(args),
             Self::Man(args) => man::answer(args),
         }

@@ -247,7 +247,7 @@ numbered! {
 }
 
 numbered! {
-    /// Why a call was not answered. The order of looking: 20, 21, 22, 1 to 14, 15, 16, 23.
+    /// Why a call was not answered. The order of looking: 20, 21, 22, 1 to 14, 15, 16, 23, 24.
     Refusal: "refusal" {
         /// The image has under 92 or over 65,536 bytes.
         ImageLength = 1 "image_length",
@@ -286,13 +286,15 @@ numbered! {
         /// have no such code.
         StationCode = 20 "station_code",
         /// A figure of the station, or a dial whose distance is asked, is not finite or above 2^40 in
-        /// size.
+        /// size; or a figure to be written is not finite or above 2^43 in size.
         StationFigure = 21 "station_figure",
         /// [`Policy::Rules`] and an image of no bytes.
         NoImage = 22 "no_image",
         /// The dial list is longer than the whole rows lent: those to write, or those to ask a
         /// distance of.
         Rows = 23 "rows",
+        /// The text of a figure is longer than the bytes lent.
+        Text = 24 "text",
     }
 }
 

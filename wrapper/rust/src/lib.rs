@@ -16,6 +16,8 @@
 //! | [`ceiling`] | the fastest rung that may be sent |
 //! | [`safe_dials`] | the dials at which a signal stays inside the rules |
 //! | [`DialList::distance`], [`distance`] | how far a dial stands from those of a list |
+//! | [`text_at`], [`text_khz`] | a frequency's text, kilohertz: three decimals, or as many as it needs |
+//! | [`text_hertz`] | a figure's text, whole hertz |
 //!
 //! No call keeps what it is lent or has a state of its own: equal arguments give equal answers, and
 //! calls may run at once on several threads. Images, edges and rungs are only read. Frequencies are
@@ -29,6 +31,10 @@
 //! and, by `Display`, a clause in words; [`Code`] and [`Refusal`] have `reason` and `what_to_do`. A whole
 //! [`Decision`] or [`Ceiling`] is sentences that an operator understands: on one line with `{}`, a line
 //! for each with `{:#}`. [`raw`] is the bare boundary, in numbers.
+//!
+//! Frequencies in words are the texts of the last three calls: dials and edges on the air as
+//! [`Kilohertz`], ranges of the table as short as [`Range`] has them, widths, distances and audio as
+//! [`Hertz`]. A text has whole hertz: a figure that is not whole is shown with `about` before it.
 //!
 //! ```
 //! use pamuklid::{evaluate, Code, Direction, Edges, Kind, Policy, Refusal, Station, Verdict};
@@ -64,7 +70,8 @@
 //! # Panics
 //!
 //! A call panics if the library that is linked is not of the version that this crate was written for
-//! ([`VERSION`]): each asks before it goes to the library, the first time. [`version`] alone does not.
+//! ([`VERSION`]): each asks before it goes to the library, the first time, and so does the text of a
+//! frequency. [`version`] alone does not.
 
 #![deny(missing_docs)]
 #![deny(unsafe_op_in_unsafe_fn)]
@@ -75,6 +82,7 @@ mod dials;
 mod fault;
 pub mod raw;
 mod station;
+mod texts;
 mod version;
 mod words;
 
@@ -87,8 +95,9 @@ pub use dials::{DialList, DialRow, DialRows, Distance, ROW};
 pub use fault::{Fault, Place, Table};
 pub use raw::Edges;
 pub use station::Station;
+pub use texts::{text_at, text_hertz, text_khz, MOST_TEXT};
 pub use version::{version, Version, VERSION};
-pub use words::Hertz;
+pub use words::{Hertz, Kilohertz};
 
 /// Whether an image is accepted; else the first of the refusals 1 to 14 that it meets.
 ///

@@ -13,17 +13,18 @@ use crate::codes::{
 };
 use crate::dials::{DialRow, Distance};
 use crate::fault::{Fault, Place, Table};
+use crate::texts::{text_at, text_hertz, text_khz, MOST_TEXT};
 
 // ------------------------------------------------------------------------------------- figures
 
 /// A short text, in place.
 struct Text {
-    bytes: [u8; 48],
+    bytes: [u8; 32],
     len: usize,
 }
 
 impl Text {
-    const EMPTY: Self = Self { bytes: [0; 48], len: 0 };
+    const EMPTY: Self = Self { bytes: [0; 32], len: 0 };
 
     fn as_str(&self) -> &str {
         std::str::from_utf8(&self.bytes[..self.len]).unwrap_or_default()
@@ -39,56 +40,128 @@ impl Write for Text {
     }
 }
 
-/// A figure's digits, the whole ones in threes: 14,100,000.125. What does not fit is an error.
-fn grouped(x: f64) -> Result<Text, fmt::Error> {
-    let mut plain = Text::EMPTY;
-    write!(plain, "{x}")?;
-    let (sign, size) = match plain.as_str().strip_prefix('-') {
-        Some(size) => ("-", size),
-        None => ("", plain.as_str()),
-    };
-    let (whole, part) = size.split_at(size.find('.').unwrap_or(size.len()));
-    let mut out = Text::EMPTY;
-    out.write_str(sign)?;
-    for (i, digit) in whole.char_indices() {
-        if i > 0 && (whole.len() - i) % 3 == 0 && x.is_finite() {
-            out.write_char(',')?;
-        }
-        out.write_char(digit)?;
-    }
-    out.write_str(part)?;
-    Ok(out)
+/// One of the library's texts, with its unit.
+#[derive(Clone, Copy)]
+struct Form {
+    text: fn(f64, &mut [u8]) -> Result<&str, Refusal>,
+    unit: &'static str,
 }
 
-/// A frequency or a width, to be written: `14,100,000.125 Hz`. A figure of very many digits is written
-/// without commas.
+const AT: Form = Form { text: text_at, unit: "kHz" };
+const KHZ: Form = Form { text: text_khz, unit: "kHz" };
+const HERTZ: Form = Form { text: text_hertz, unit: "Hz" };
+
+/// What stands before the digits: they are whole hertz, and the figure may not be.
+fn about(hz: f64) -> &'static str {
+    match hz.fract() == 0.0 {
+        true => "",
+        false => "about ",
+    }
+}
+
+/// A figure for which the library has no text.
+fn without_text(hz: f64) -> &'static str {
+    match (hz.is_finite(), hz > 0.0) {
+        _ if hz.is_nan() => "no number",
+        (false, true) => "infinite",
+        (false, false) => "infinite, below 0",
+        (true, true) => "above 8796093022208 Hz",
+        (true, false) => "below -8796093022208 Hz",
+    }
+}
+
+/// Whether the digits of a figure without a sign are noughts.
+fn nought(digits: &str) -> bool {
+    digits.bytes().all(|digit| digit == b'0' || digit == b'.')
+}
+
+impl Form {
+    /// A figure with its unit.
+    fn say(self, hz: f64) -> Result<Text, fmt::Error> {
+        let mut out = Text::EMPTY;
+        match (self.text)(hz, &mut [0; MOST_TEXT]) {
+            Err(_) => out.write_str(without_text(hz))?,
+            Ok(digits) if hz > 0.0 && nought(digits) => out.write_str("under 1 Hz")?,
+            Ok(digits) => write!(out, "{}{digits} {}", about(hz), self.unit)?,
+        }
+        Ok(out)
+    }
+
+    /// A range, with the unit at its end.
+    fn say_range(self, range: &Range, f: &mut Formatter<'_>) -> fmt::Result {
+        let Range { low_hz, high_hz } = *range;
+        let (mut low_room, mut high_room) = ([0; MOST_TEXT], [0; MOST_TEXT]);
+        match ((self.text)(low_hz, &mut low_room), (self.text)(high_hz, &mut high_room)) {
+            (Ok(low), Ok(high)) => {
+                let (low_is, high_is) = (about(low_hz), about(high_hz));
+                write!(f, "{low_is}{low} to {high_is}{high} {}", self.unit)
+            }
+            _ => write!(f, "{} to {}", self.say(low_hz)?.as_str(), self.say(high_hz)?.as_str()),
+        }
+    }
+}
+
+/// A width, a margin, a distance or an audio edge in words, or a range of such: whole hertz by
+/// [`text_hertz`], `500 Hz`, `1250 to 1750 Hz`.
+///
+/// What is not a whole number of hertz has `about` before it; what is above nought and has no digit but
+/// noughts is `under 1 Hz`, in a range `about 0`. What has no text (a NaN, an infinity, a figure above
+/// 2^43 in size) is said in words.
+///
+/// ```
+/// use pamuklid::{Hertz, Range};
+///
+/// assert_eq!(Hertz(2_800.0).to_string(), "2800 Hz");
+/// assert_eq!(Hertz(2_800.125).to_string(), "about 2800 Hz");
+/// assert_eq!(Hertz(0.125).to_string(), "under 1 Hz");
+/// assert_eq!(Hertz(Range { low_hz: 100.0, high_hz: 2_900.0 }).to_string(), "100 to 2900 Hz");
+/// ```
 #[derive(Clone, Copy, Debug, PartialEq)]
-pub struct Hertz(pub f64);
+pub struct Hertz<T>(pub T);
 
-impl Display for Hertz {
+impl Display for Hertz<f64> {
     fn fmt(&self, f: &mut Formatter<'_>) -> fmt::Result {
-        match grouped(self.0).and_then(|mut text| text.write_str(" Hz").map(|()| text)) {
-            Ok(text) => f.pad(text.as_str()),
-            Err(_) => write!(f, "{} Hz", self.0),
-        }
+        f.pad(HERTZ.say(self.0)?.as_str())
     }
 }
 
-/// As [`Hertz`], without the unit.
-struct Figure(f64);
-
-impl Display for Figure {
+impl Display for Hertz<Range> {
     fn fmt(&self, f: &mut Formatter<'_>) -> fmt::Result {
-        match grouped(self.0) {
-            Ok(text) => f.pad(text.as_str()),
-            Err(_) => write!(f, "{}", self.0),
-        }
+        HERTZ.say_range(&self.0, f)
     }
 }
 
+/// A frequency in words, or a range of such: a dial, an edge on the air, kilohertz with three decimals
+/// by [`text_at`], `14097.700 kHz`. Else as [`Hertz`].
+///
+/// ```
+/// use pamuklid::{Kilohertz, Range};
+///
+/// assert_eq!(Kilohertz(14_097_700.0).to_string(), "14097.700 kHz");
+/// assert_eq!(Kilohertz(14_097_700.125).to_string(), "about 14097.700 kHz");
+/// let air = Range { low_hz: 14_098_950.0, high_hz: 14_099_450.0 };
+/// assert_eq!(Kilohertz(air).to_string(), "14098.950 to 14099.450 kHz");
+/// ```
+#[derive(Clone, Copy, Debug, PartialEq)]
+pub struct Kilohertz<T>(pub T);
+
+impl Display for Kilohertz<f64> {
+    fn fmt(&self, f: &mut Formatter<'_>) -> fmt::Result {
+        f.pad(AT.say(self.0)?.as_str())
+    }
+}
+
+impl Display for Kilohertz<Range> {
+    fn fmt(&self, f: &mut Formatter<'_>) -> fmt::Result {
+        AT.say_range(&self.0, f)
+    }
+}
+
+/// As a range of the table, kilohertz with as many decimals as each end needs: `14000 to 14150 kHz`. For
+/// audio edges see [`Hertz`], for dials and edges on the air [`Kilohertz`].
 impl Display for Range {
     fn fmt(&self, f: &mut Formatter<'_>) -> fmt::Result {
-        write!(f, "{} to {}", Figure(self.low_hz), Hertz(self.high_hz))
+        KHZ.say_range(self, f)
     }
 }
 
@@ -304,10 +377,11 @@ impl Refusal {
             Self::StationCode => "a code of the station is outside its values",
             Self::StationFigure => {
                 "the station's margin, dial or power, or a dial asked, is not finite or above 2^40 \
-                 in size"
+                 in size, or a figure to be written is not finite or above 2^43 in size"
             }
             Self::NoImage => "rules are in force and there is no image",
             Self::Rows => "the dial list is longer than the rows lent",
+            Self::Text => "the text of the figure is longer than the bytes lent",
         }
     }
 
@@ -333,9 +407,12 @@ impl Refusal {
             Self::SignalEdge => "measure the signal again",
             Self::Rungs => "give at most 256 rungs, with a floor mark for each",
             Self::StationCode => "set the station's record again",
-            Self::StationFigure => "set the margin, the dial and the power again",
+            Self::StationFigure => {
+                "set the margin, the dial and the power again, or write another figure"
+            }
             Self::NoImage => "load the table's image",
             Self::Rows => "lend more rows",
+            Self::Text => "lend more bytes: 15 have room for every text",
         }
     }
 }
@@ -518,7 +595,7 @@ impl Decision {
         }
         write!(f, "{gap}The signal is {} wide", Hertz(self.width_hz))?;
         if let Some(air) = self.air {
-            write!(f, ", at {air}")?;
+            write!(f, ", at {}", Kilohertz(air))?;
         }
         match self.band {
             Some(band) if self.code == Code::OutOfBand => write!(f, ", and touches band {band}")?,
@@ -598,6 +675,7 @@ impl Display for Distance {
 impl Display for DialRow {
     fn fmt(&self, f: &mut Formatter<'_>) -> fmt::Result {
         let Self { segment, dial, band, rule } = self;
+        let dial = Kilohertz(*dial);
         write!(f, "dials {dial} keep it in {segment} (band {band}, by {rule})")
     }
 }

@@ -2,10 +2,10 @@
 //! library's.
 
 use pamuklid::{
-    ceiling, check, distance, evaluate, fault_of, raw, safe_dials, tidy, unmeasured, version, Code,
-    Control, DialRow, DialRows, Direction, Distance, Edge, Edges, Fault, Guidance, Kind, License,
-    Overshoot, Place, Policy, Range, Refusal, Rule, Segment, Sideband, SixtyNotes, Station, Table,
-    Verdict, ROW, VERSION,
+    ceiling, check, distance, evaluate, fault_of, raw, safe_dials, text_at, text_hertz, text_khz,
+    tidy, unmeasured, version, Code, Control, DialRow, DialRows, Direction, Distance, Edge, Edges,
+    Fault, Guidance, Kind, License, Overshoot, Place, Policy, Range, Refusal, Rule, Segment,
+    Sideband, SixtyNotes, Station, Table, Verdict, MOST_TEXT, ROW, VERSION,
 };
 
 static IMAGE: &[u8] = include_bytes!("../../../tools/reference/practice.bin");
@@ -416,4 +416,148 @@ fn refusals_of_the_state() {
     let s = station(14_100_000.0);
     let refused = evaluate(&s, Kind::Data, Direction::Originate, &edges, IMAGE);
     assert_eq!(refused, Err(Refusal::SignalEdge));
+}
+
+type Call = fn(f64, &mut [u8]) -> Result<&str, Refusal>;
+
+const TEXTS: [Call; 3] = [text_at, text_khz, text_hertz];
+
+fn writes(call: Call, hz: f64, text: &str) {
+    assert_eq!(call(hz, &mut [0; MOST_TEXT]), Ok(text), "{hz}");
+}
+
+const MOST: f64 = 8_796_093_022_208.0; // 2^43
+
+#[test]
+fn texts() {
+    // 14,097.7 kHz, and halves of the last digit: the quotient's exact value is a little off the half,
+    // or on it (62.5 and 187.5), and then goes to the even digit
+    for (hz, text) in [
+        (14_097_700.0, "14097.700"),
+        (0.0, "0.000"),
+        (0.5, "0.001"),
+        (1.5, "0.002"),
+        (2.5, "0.003"),
+        (4.5, "0.004"),
+        (62.5, "0.062"),
+        (187.5, "0.188"),
+        (0.25, "0.000"),
+        (999.75, "1.000"),
+        (MOST, "8796093022.208"),
+    ] {
+        writes(text_at, hz, text);
+        writes(text_at, -hz, &format!("-{text}"));
+    }
+    for (hz, text) in [
+        (14_100_000.0, "14100"),
+        (14_097_700.0, "14097.7"),
+        (14_097_750.0, "14097.750"),
+        (0.4, "0.000"),
+        (0.0001, "0"),
+        (0.001, "0.000"),
+        (0.000_999, "0"),
+        (999.999, "1.000"),
+        (999.999_5, "1"),
+        (100.000_09, "0.1"),
+        (100.000_1, "0.100"),
+        (0.0, "0"),
+        (MOST, "8796093022.208"),
+    ] {
+        writes(text_khz, hz, text);
+        writes(text_khz, -hz, &format!("-{text}"));
+    }
+    for (hz, text) in [
+        (2_300.0, "2300"),
+        (2_300.5, "2300"),
+        (2_301.5, "2302"),
+        (0.0, "0"),
+        (0.5, "0"),
+        (1.5, "2"),
+        (0.500_1, "1"),
+        (5e-324, "0"),
+        (MOST, "8796093022208"),
+    ] {
+        writes(text_hertz, hz, text);
+        writes(text_hertz, -hz, &format!("-{text}"));
+    }
+}
+
+/// The original's `khz`.
+fn khz(hz: f64) -> String {
+    let k = hz / 1000.0;
+    if (k - k.round()).abs() < 1e-6 {
+        format!("{k:.0}")
+    } else if (k * 10.0 - (k * 10.0).round()).abs() < 1e-6 {
+        format!("{k:.1}")
+    } else {
+        format!("{k:.3}")
+    }
+}
+
+/// Rust's own texts of figures of every size: whole, in eighths, a step beside, and of any bits.
+#[test]
+fn texts_as_rust_has_them() {
+    let mut seed = 1u64;
+    let mut random = || {
+        // SplitMix64
+        seed = seed.wrapping_add(0x9e37_79b9_7f4a_7c15);
+        let mut z = seed;
+        z = (z ^ (z >> 30)).wrapping_mul(0xbf58_476d_1ce4_e5b9);
+        z = (z ^ (z >> 27)).wrapping_mul(0x94d0_49bb_1331_11eb);
+        z ^ (z >> 31)
+    };
+    for _ in 0..20_000 {
+        let whole = (random() >> (21 + random() % 43)) as f64;
+        let eighths = whole / 8.0;
+        let beside = f64::from_bits(whole.to_bits() + 1);
+        let bits = f64::from_bits((random() >> 1) % (MOST.to_bits() + 1));
+        for hz in [whole, eighths, beside, bits, whole / 1e6].into_iter().filter(|&hz| hz <= MOST) {
+            for hz in [hz, -hz] {
+                writes(text_at, hz, &format!("{:.3}", hz / 1000.0));
+                writes(text_khz, hz, &khz(hz));
+                writes(text_hertz, hz, &format!("{hz:.0}"));
+            }
+        }
+    }
+}
+
+/// 21, then 24; a refusal changes no byte, a text none past itself.
+#[test]
+fn texts_in_lent_bytes() {
+    let above = f64::from_bits(MOST.to_bits() + 1);
+    for call in TEXTS {
+        for hz in [above, f64::MAX, f64::INFINITY, f64::NAN] {
+            for hz in [hz, -hz] {
+                let mut room = [7; MOST_TEXT];
+                assert_eq!(call(hz, &mut room), Err(Refusal::StationFigure), "{hz}");
+                assert_eq!(room, [7; MOST_TEXT]);
+                assert_eq!(call(hz, &mut []), Err(Refusal::StationFigure), "{hz}");
+            }
+        }
+        for hz in [-MOST, -0.0, 0.0, 14_097_700.0, 14_097_750.0] {
+            let text = call(hz, &mut [0; MOST_TEXT]).unwrap().to_owned();
+            assert!(!text.is_empty() && text.is_ascii());
+            for room in 0..=20 {
+                let mut bytes = [7; 20];
+                let lent = &mut bytes[..room];
+                if room < text.len() {
+                    assert_eq!(call(hz, lent), Err(Refusal::Text), "{hz} in {room}");
+                    assert_eq!(bytes, [7; 20]);
+                } else {
+                    assert_eq!(call(hz, lent), Ok(&*text), "{hz} in {room}");
+                    assert_eq!(&bytes[..text.len()], text.as_bytes());
+                    assert!(bytes[text.len()..].iter().all(|&b| b == 7));
+                }
+            }
+        }
+    }
+    writes(text_at, -MOST, "-8796093022.208");
+    assert_eq!("-8796093022.208".len(), MOST_TEXT);
+    let mut room = [7; 4];
+    let flat = raw::text_at(14_097_700.0, &mut room);
+    assert_eq!((flat.length, flat.refusal, room), (0, 24, [7; 4]));
+    let flat = raw::text_khz(f64::NAN, &mut room);
+    assert_eq!((flat.length, flat.refusal, room), (0, 21, [7; 4]));
+    let flat = raw::text_hertz(500.0, &mut room);
+    assert_eq!((flat.length, flat.refusal, &room), (3, 0, b"500\x07"));
 }

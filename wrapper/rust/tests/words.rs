@@ -5,8 +5,8 @@ use std::fmt::Display;
 
 use pamuklid::{
     Ceiling, Code, Control, Decision, DialRow, Direction, Distance, Edge, Fault, Guidance, Hertz,
-    Kind, License, Overshoot, Place, Policy, PowerNotes, Range, Refusal, Rule, Segment, Sideband,
-    SixtyNotes, Table, Verdict, Version,
+    Kilohertz, Kind, License, Overshoot, Place, Policy, PowerNotes, Range, Refusal, Rule, Segment,
+    Sideband, SixtyNotes, Table, Verdict, Version,
 };
 
 fn range(low_hz: f64, high_hz: f64) -> Range {
@@ -27,25 +27,67 @@ fn all_differ<T: Display>(all: &[T]) {
 #[test]
 fn figures() {
     reads(Hertz(0.0), "0 Hz");
-    reads(Hertz(0.125), "0.125 Hz");
     reads(Hertz(999.0), "999 Hz");
-    reads(Hertz(1_000.0), "1,000 Hz");
-    reads(Hertz(-1_000.0), "-1,000 Hz");
-    reads(Hertz(-999.5), "-999.5 Hz");
-    reads(Hertz(14_100_000.125), "14,100,000.125 Hz");
-    reads(Hertz(1_099_511_627_776.0), "1,099,511,627,776 Hz");
-    reads(Hertz(f64::INFINITY), "inf Hz");
-    reads(Hertz(f64::NEG_INFINITY), "-inf Hz");
-    reads(Hertz(f64::NAN), "NaN Hz");
-    // too long to be put in threes
-    let most = f64::MAX.to_string();
-    reads(Hertz(f64::MAX), &format!("{most} Hz"));
-    assert_eq!(format!("[{:>10}]", Hertz(1_000.0)), "[  1,000 Hz]");
-    reads(range(14_000_000.0, 14_150_000.0), "14,000,000 to 14,150,000 Hz");
-    let segment = Segment { range: range(20.0, 80.5), rule: Rule::Table(13) };
-    reads(segment, "20 to 80.5 Hz (rule 13 of the table)");
-    reads(Version { major: 0, minor: 3, patch: 0 }, "0.3.0");
+    reads(Hertz(1_000.0), "1000 Hz");
+    reads(Hertz(-1_000.0), "-1000 Hz");
+    reads(Hertz(1_099_511_627_776.0), "1099511627776 Hz");
+    assert_eq!(format!("[{:>10}]", Hertz(1_000.0)), "[   1000 Hz]");
+    reads(Hertz(range(1_250.0, 1_750.0)), "1250 to 1750 Hz");
+    reads(Kilohertz(0.0), "0.000 kHz");
+    reads(Kilohertz(14_097_700.0), "14097.700 kHz");
+    reads(Kilohertz(-50.0), "-0.050 kHz");
+    assert_eq!(format!("[{:<15}]", Kilohertz(14_097_700.0)), "[14097.700 kHz  ]");
+    reads(Kilohertz(range(14_025_050.0, 14_025_550.0)), "14025.050 to 14025.550 kHz");
+    reads(range(14_000_000.0, 14_150_000.0), "14000 to 14150 kHz");
+    reads(range(5_330_600.0, 5_333_450.0), "5330.6 to 5333.450 kHz");
+    let segment = Segment { range: range(14_095_000.0, 14_099_500.0), rule: Rule::Table(13) };
+    reads(segment, "14095 to 14099.5 kHz (rule 13 of the table)");
+    reads(Version { major: 0, minor: 4, patch: 0 }, "0.4.0");
     reads(Version::from_number(123_456), "12.34.56");
+}
+
+/// A figure that is not whole hertz is not shown as if it were.
+#[test]
+fn figures_that_are_not_whole() {
+    reads(Hertz(49.875), "about 50 Hz");
+    reads(Hertz(2_800.125), "about 2800 Hz");
+    reads(Hertz(-999.5), "about -1000 Hz"); // a half to the even one
+    reads(Hertz(-998.5), "about -998 Hz");
+    reads(Hertz(0.125), "under 1 Hz");
+    reads(Hertz(0.5), "under 1 Hz");
+    reads(Hertz(0.75), "about 1 Hz");
+    reads(Hertz(5e-324), "under 1 Hz");
+    reads(Hertz(-0.125), "about -0 Hz");
+    reads(Hertz(range(0.125, 2_900.0)), "about 0 to 2900 Hz");
+    reads(Hertz(range(-0.125, 2_900.25)), "about -0 to about 2900 Hz");
+    reads(Kilohertz(14_097_700.125), "about 14097.700 kHz");
+    reads(Kilohertz(0.25), "under 1 Hz");
+    reads(Kilohertz(0.5), "about 0.001 kHz"); // 0.0005 is a little more than the half
+    reads(Kilohertz(range(14_025_049.875, 14_025_550.0)), "about 14025.050 to 14025.550 kHz");
+    reads(range(14_000_000.0, 14_150_000.125), "14000 to about 14150.000 kHz");
+    // within a millionth of a kilohertz
+    reads(range(14_000_000.000_5, 14_150_000.0), "about 14000 to 14150 kHz");
+    assert_eq!(format!("[{:>12}]", Hertz(49.875)), "[ about 50 Hz]");
+}
+
+/// Figures that have no text.
+#[test]
+fn figures_in_words_alone() {
+    let most = 8_796_093_022_208.0; // 2^43
+    reads(Hertz(most), "8796093022208 Hz");
+    reads(Kilohertz(-most), "-8796093022.208 kHz");
+    reads(Kilohertz(0.125 - most), "about -8796093022.208 kHz"); // the longest of all
+    for above in [most + 0.125, f64::MAX] {
+        reads(Hertz(above), "above 8796093022208 Hz");
+        reads(Kilohertz(-above), "below -8796093022208 Hz");
+    }
+    reads(Hertz(f64::INFINITY), "infinite");
+    reads(Kilohertz(f64::NEG_INFINITY), "infinite, below 0");
+    reads(Hertz(f64::NAN), "no number");
+    reads(Kilohertz(-f64::NAN), "no number");
+    reads(Hertz(range(f64::NAN, 1_750.0)), "no number to 1750 Hz");
+    reads(range(14_000_000.0, f64::INFINITY), "14000 kHz to infinite");
+    reads(Kilohertz(range(f64::MIN, 0.0)), "below -8796093022208 Hz to 0.000 kHz");
 }
 
 #[test]
@@ -156,10 +198,11 @@ fn refusals() {
         (
             21,
             "the station's margin, dial or power, or a dial asked, is not finite or above 2^40 in \
-             size",
+             size, or a figure to be written is not finite or above 2^43 in size",
         ),
         (22, "rules are in force and there is no image"),
         (23, "the dial list is longer than the rows lent"),
+        (24, "the text of the figure is longer than the bytes lent"),
     ];
     assert_eq!(texts.len(), Refusal::ALL.len());
     for (&refusal, (number, text)) in Refusal::ALL.iter().zip(texts) {
@@ -199,8 +242,9 @@ fn parts_of_an_answer() {
     reads(beyond(250.0, Edge::Upper), "it reaches 250 Hz beyond the upper edge of the segment");
     reads(
         beyond(1_000.125, Edge::Lower),
-        "it reaches 1,000.125 Hz beyond the lower edge of the segment",
+        "it reaches about 1000 Hz beyond the lower edge of the segment",
     );
+    reads(beyond(0.125, Edge::Upper), "it reaches under 1 Hz beyond the upper edge of the segment");
     for &edge in Edge::ALL {
         let text = "it lies inside the segment, closer to an edge than the margin";
         reads(Overshoot::TooClose { edge }, text);
@@ -210,8 +254,8 @@ fn parts_of_an_answer() {
     reads(Guidance::Inside(255), "it lies in the band plan's area 255 for data");
     reads(Guidance::Outside, "the band plan puts data elsewhere");
     reads(Distance::Hz(0.0), "the dial is listed");
-    reads(Distance::Hz(0.125), "the nearest listed dial is 0.125 Hz away");
-    reads(Distance::Hz(8_693_300.0), "the nearest listed dial is 8,693,300 Hz away");
+    reads(Distance::Hz(0.125), "the nearest listed dial is under 1 Hz away");
+    reads(Distance::Hz(8_693_300.0), "the nearest listed dial is 8693300 Hz away");
     reads(Distance::NoneListed, "no dial is listed outside the channel band");
     let power = |records: &[usize]| records.iter().copied().collect::<PowerNotes>();
     reads(PowerNotes::NONE, "the power is above no power limit of the table");
@@ -226,8 +270,8 @@ fn parts_of_an_answer() {
     };
     reads(
         row,
-        "dials 14,093,800 to 14,097,700 Hz keep it in 14,095,000 to 14,099,500 Hz (band 20, by rule 9 \
-         of the table)",
+        "dials 14093.800 to 14097.700 kHz keep it in 14095 to 14099.5 kHz (band 20, by rule 9 of the \
+         table)",
     );
 }
 
@@ -299,7 +343,7 @@ fn decisions() {
     d.air = Some(range(13_999_000.0, 13_999_500.0));
     let why =
         "Blocked: no band of the table holds the signal with its margin (code 10, out_of_band, \
-               by §97.301). The signal is 500 Hz wide, at 13,999,000 to 13,999,500 Hz";
+               by §97.301). The signal is 500 Hz wide, at 13999.000 to 13999.500 kHz";
     reads(d, &format!("{why}."));
     d.band = Some(20);
     reads(d, &format!("{why}, and touches band 20."));
@@ -308,8 +352,8 @@ fn decisions() {
     reads(
         d,
         "May be sent: the rules permit it (code 16, permitted, by rule 13 of the table). The signal is \
-         500 Hz wide, at 14,025,050 to 14,025,550 Hz in band 20; the segment is 14,000,000 to \
-         14,150,000 Hz (rule 13 of the table).",
+         500 Hz wide, at 14025.050 to 14025.550 kHz in band 20; the segment is 14000 to 14150 kHz \
+         (rule 13 of the table).",
     );
     assert_eq!(d.what_to_do(), None);
     assert!(d.allowed());
@@ -318,8 +362,8 @@ fn decisions() {
 #[test]
 fn decisions_outside_a_segment() {
     let place =
-        "The signal is 500 Hz wide, at 14,149,750 to 14,150,250 Hz in band 20; the segment is \
-                 14,000,000 to 14,150,000 Hz (rule 13 of the table).";
+        "The signal is 500 Hz wide, at 14149.750 to 14150.250 kHz in band 20; the segment is \
+                 14000 to 14150 kHz (rule 13 of the table).";
     let mut d = at(14_148_500.0, Verdict::Blocked, Code::OutsideDataSegment, Rule::Table(13));
     d.overshoot = Overshoot::Beyond { by_hz: 250.0, edge: Edge::Upper };
     let why = "Blocked: no data segment holds the signal with its margin (code 13, \
@@ -332,10 +376,19 @@ fn decisions_outside_a_segment() {
     let mut d = at(13_998_751.0, Verdict::Blocked, Code::OutsideDataSegment, Rule::Table(13));
     d.overshoot = Overshoot::TooClose { edge: Edge::Upper };
     let text = d.to_string();
-    let how =
-        "It lies inside the segment, 1 Hz from the lower edge and 149,499 Hz from the upper: \
+    let how = "It lies inside the segment, 1 Hz from the lower edge and 149499 Hz from the upper: \
                closer than the margin.";
     assert!(text.starts_with(&format!("{why} {how} The signal is 500 Hz wide, at ")), "{text}");
+    // an eighth inside, in words that are true of it
+    d.air = Some(range(14_000_000.125, 14_000_500.125));
+    let text = d.to_string();
+    let how =
+        "It lies inside the segment, under 1 Hz from the lower edge and about 149500 Hz from the \
+               upper: closer than the margin.";
+    assert!(
+        text.starts_with(&format!("{why} {how} The signal is 500 Hz wide, at about ")),
+        "{text}"
+    );
     // without a segment, which no answer of the library is
     d.segment = None;
     let text = d.to_string();
@@ -353,9 +406,9 @@ fn decisions_with_notes() {
         format!("{d:#}"),
         "May be sent, with a warning: it lies in a segment for automatic control (code 17, \
          automatic_segment, by rule 9 of the table).\n\
-         The signal is 500 Hz wide, at 14,098,950 to 14,099,450 Hz in band 20; the segment is \
-         14,000,000 to 14,150,000 Hz (rule 13 of the table); the segment for automatic control is \
-         14,095,000 to 14,099,500 Hz.\n\
+         The signal is 500 Hz wide, at 14098.950 to 14099.450 kHz in band 20; the segment is \
+         14000 to 14150 kHz (rule 13 of the table); the segment for automatic control is \
+         14095 to 14099.5 kHz.\n\
          The power is above the table's power limits 2 and 5.\n\
          The band plan asks to keep clear of its area 1 to avoid."
     );
@@ -369,8 +422,8 @@ fn decisions_with_notes() {
         format!("{d:#}"),
         "May be sent, with a warning: it is set up for a 60 m channel (code 24, sixty_channel, by rule \
          10 of the table).\n\
-         The signal is 500 Hz wide, at 5,331,800 to 5,332,300 Hz in band 60; the channel is 5,330,600 \
-         to 5,333,400 Hz (rule 10 of the table).\n\
+         The signal is 500 Hz wide, at 5331.800 to 5332.300 kHz in band 60; the channel is 5330.6 \
+         to 5333.4 kHz (rule 10 of the table).\n\
          The power is above the 100 W ERP of a 60 m channel.\n\
          60 m is shared with government stations: keep transmissions short.\n\
          The power is above the 9.15 W ERP of the 60 m segment."
