@@ -36,7 +36,7 @@ fn shown(lent: &[u8], length: usize) {
         return;
     }
     io::write_all(1, b" [");
-    io::write_all(1, &lent[..length]);
+    io::write_all(1, &lent[0..length]);
     io::write_all(1, b"]");
     rest(&lent[length..]);
     io::write_all(1, b"\n");
