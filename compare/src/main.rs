@@ -444,6 +444,7 @@ fn run_all(run: &mut Run, wanted: &Wanted) {
         }
         if long {
             let s = Station {
+                margin_hz: 0.0,
                 policy: 2,
                 control: 2,
                 license: 4,
