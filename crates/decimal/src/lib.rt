@@ -74,16 +74,23 @@ fn half_up(n: u64, shift: u64) -> u64
     (2 * n + (1u64 << shift)) >> (shift + 1)
 }
 
+// A rounded figure keeps the sign of the figure, also where nothing is left of it.
+fn with_sign(sign: bool, count: u64) -> Decimal
+    ensures { λ r. ⌜ r ≡ record { negative = sign; count = count } ⌝ }
+{
+    Decimal {
+        negative: sign,
+        count: count,
+    }
+}
+
 // A figure's exact value, to the nearest of so many units to the whole, halves to even.
 pub fn rounded(x: f64, units: u64) -> Decimal
     requires { ⌜ Within 43 x × (units ≤ 1000) ⌝ }
     ensures { λ r. ⌜ r ≡ decimalRounded units x ⌝ }
 {
     let p = parts_of(x);
-    Decimal {
-        negative: p.negative,
-        count: nearest(p.digits * units, p.shift),
-    }
+    with_sign(p.negative, nearest(p.digits * units, p.shift))
 }
 
 // Rust's f64::round.

@@ -17,12 +17,16 @@ mul-nearest c = omega (arith, times-fits _ _ (c .before .parts-of .ensures .few)
 nearest-requires : tie.Need-nearest-requires
 nearest-requires c κs = times-fits _ _ (c .before .parts-of .ensures .few) (c .before .before .pre .1)
 
+with-sign-requires : tie.Need-with-sign-requires
+with-sign-requires c κs = search needs
+
 returns : tie.Need-returns
 returns c =
-    let p = c .before .before .parts-of in
-    rw (sym (sign-by (c .before .before .before .args .x) (p .result .negative) (p .result .digits) (2 ^ p .result .shift) (p .ensures .value)))
-    (rw (sym (decimal-by (c .before .before .before .args .units) (c .before .before .before .args .x) (p .result .negative) (p .result .digits) (2 ^ p .result .shift) (pow-pos (p .result .shift)) (p .ensures .value)))
-    (rw (c .nearest .ensures)))
+    let p = c .before .before .before .parts-of in
+    rw (c .with-sign .ensures)
+    (rw (sym (sign-by (c .before .before .before .before .args .x) (p .result .negative) (p .result .digits) (2 ^ p .result .shift) (p .ensures .value)))
+    (rw (sym (decimal-by (c .before .before .before .before .args .units) (c .before .before .before .before .args .x) (p .result .negative) (p .result .digits) (2 ^ p .result .shift) (pow-pos (p .result .shift)) (p .ensures .value)))
+    (rw (c .before .nearest .ensures))))
 
 pub rounded-spec : {M : Type 1} → statement M
-rounded-spec = tie.close (tie.spec parts-of-requires mul-nearest nearest-requires returns)
+rounded-spec = tie.close (tie.spec parts-of-requires mul-nearest nearest-requires with-sign-requires returns)
