@@ -2,7 +2,9 @@
 use Prim.Native.Nat.{ℕ, zero, suc, _+_, _-_, _*_, _/_, _%_, _^_, _≤_, _<_, compare, Ordering, Ordering·lt, Ordering·eq, Ordering·gt}
 use mathlib.Core.Path.{_≡_, refl, sym, ap, _∙_, subst}
 use mathlib.Core.Bool.{Bool, true, false, cond, not}
-use native.Mathlib.Nat.{le-trans, le-of-eq, mul-le-mul-right, mul-le-mul-left, mul-right-comm, mul-assoc, mul-comm, mul-left-comm, le-of-mul-le-mul-right, eq-of-mul-eq-mul-right, mod-lt, mod-eq-of-lt, div-eq-of-lt, add-mul, lt-irrefl, le-of-lt, lt-of-le-of-lt, div-mul-le-self, one-mul, pow-succ'}
+use native.Mathlib.Nat.{le-trans, le-of-eq, mul-le-mul-right, mul-le-mul-left, mul-right-comm, mul-assoc, mul-comm, mul-left-comm}
+use native.Mathlib.Nat.{le-of-mul-le-mul-right, eq-of-mul-eq-mul-right, mod-lt, mod-eq-of-lt, div-eq-of-lt, add-mul, lt-irrefl, le-of-lt}
+use native.Mathlib.Nat.{lt-of-le-of-lt, div-mul-le-self, one-mul, pow-succ'}
 use native.Mathlib.Numerals.{add-one}
 use native.Mathlib.Omega.{arith}
 use native.Mathlib.Decide.{decLe}
@@ -90,7 +92,8 @@ more-field s (suc g) t x e z h w = go (eqb (suc g) (ones binary64)) (eqb t 0) e
     go true true e = absurd (subst (Within 43) (sym e) w)
     go true false e = absurd (subst (Within 43) (sym e) w)
     go false c e =
-        let v : HasValue x s ((2 ^ 52 + t) * 2 ^ g) (2 ^ 1074) = subst (λ (y : Float). HasValue y s ((2 ^ 52 + t) * 2 ^ g) (2 ^ 1074)) e (odd-sign 53 s (2 ^ 52 + t) g 1074) in
+        let v : HasValue x s ((2 ^ 52 + t) * 2 ^ g) (2 ^ 1074) = subst (λ (y : Float). HasValue y s ((2 ^ 52 + t) * 2 ^ g) (2 ^ 1074)) e
+        (odd-sign 53 s (2 ^ 52 + t) g 1074) in
         let k : g + 9 ≤ 1074 = low-enough t g 1074 (at-most 43 x s ((2 ^ 52 + t) * 2 ^ g) (2 ^ 1074) w v) in
         let q : 1074 - g ≡ 1075 - suc g = omega arith in (
           omega (arith, k),
@@ -148,7 +151,8 @@ round-by (fin t m e) s d c p v =
     let q : d * down e ≡ m * up e * c = sym (v .1) in
     let a : 0 < 2 * c = omega (arith, p) in
     let b : 0 < 2 * down e = omega (arith, down-pos e) in
-    ap (λ (n : ℕ). signed s (ofInt binary64 (pos n))) (div-same (2 * d + c) (2 * c) (2 * (m * up e) + down e) (2 * down e) a b (doubled d c (m * up e) (down e) q))
+    ap (λ (n : ℕ). signed s (ofInt binary64 (pos n)))
+    (div-same (2 * d + c) (2 * c) (2 * (m * up e) + down e) (2 * down e) a b (doubled d c (m * up e) (down e) q))
     ∙ ap (λ (z : Bool). signed z (ofInt binary64 (pos (halfUp (m * up e) (down e))))) (sym (v .0))
 
 -- ---- the nearest whole number, by how twice the remainder compares

@@ -51,7 +51,8 @@ unfolding atText textOf khzPlaces nearWhole decimalOf roundOf signOf digits digi
 at-9 = refl
 
 -- -2^43 Hz: "-8796093022.208"
-pub at-10 : atText (ofBits binary64 0xc2a0000000000000) ≡ 45 ∷ 56 ∷ 55 ∷ 57 ∷ 54 ∷ 48 ∷ 57 ∷ 51 ∷ 48 ∷ 50 ∷ 50 ∷ 46 ∷ 50 ∷ 48 ∷ 56 ∷ []
+pub at-10 :
+    atText (ofBits binary64 0xc2a0000000000000) ≡ 45 ∷ 56 ∷ 55 ∷ 57 ∷ 54 ∷ 48 ∷ 57 ∷ 51 ∷ 48 ∷ 50 ∷ 50 ∷ 46 ∷ 50 ∷ 48 ∷ 56 ∷ []
 unfolding atText textOf khzPlaces nearWhole decimalOf roundOf signOf digits digitCount ofBits ofInt div mul sub neg lt eq
 at-10 = refl
 
@@ -101,7 +102,8 @@ unfolding khzText textOf khzPlaces nearWhole decimalOf roundOf signOf digits dig
 khz-9 = refl
 
 -- 2^43 Hz: "8796093022.208"
-pub khz-10 : khzText (ofBits binary64 0x42a0000000000000) ≡ 56 ∷ 55 ∷ 57 ∷ 54 ∷ 48 ∷ 57 ∷ 51 ∷ 48 ∷ 50 ∷ 50 ∷ 46 ∷ 50 ∷ 48 ∷ 56 ∷ []
+pub khz-10 :
+    khzText (ofBits binary64 0x42a0000000000000) ≡ 56 ∷ 55 ∷ 57 ∷ 54 ∷ 48 ∷ 57 ∷ 51 ∷ 48 ∷ 50 ∷ 50 ∷ 46 ∷ 50 ∷ 48 ∷ 56 ∷ []
 unfolding khzText textOf khzPlaces nearWhole decimalOf roundOf signOf digits digitCount ofBits ofInt div mul sub neg lt eq
 khz-10 = refl
 

@@ -19,7 +19,8 @@ use Rattle.decimal.specs.declared.Decimal.{Decimal}
 use Rattle.decimal.specs.Within.{Within, limit43, ten, in-size-within, within-more, div-within, mul-within}
 use Rattle.number_texts.specs.declared.TextAnswer.{TextAnswer}
 use Rattle.number_texts.specs.declared.TextAnswer.the-variants.{Length, Refused as NoText}
-use Rattle.number_texts.specs.Text.{digits, digitCount, signText, wholeText, pointText, written, textOf, kilohertz, nearWhole, khzPlaces, khzText, roomTests, Left, Texted}
+use Rattle.number_texts.specs.Text.{digits, digitCount, signText, wholeText, pointText, written, textOf, kilohertz, nearWhole, khzPlaces}
+use Rattle.number_texts.specs.Text.{khzText, roomTests, Left, Texted}
 
 -- ---- counting digits
 
@@ -174,7 +175,8 @@ pub put-all : (l : List ℕ) (negative : Bool) (whole places part sign point : �
     → sign ≡ length (signText negative) → point ≡ sign + digitCount 12 whole
     → sets (sets (sets l 0 (signText negative)) sign (wholeText whole)) point (pointText places part) ≡ sets l 0 (written negative whole places part)
 put-all l negative whole places part sign point e f =
-    sets-next (wholeText whole) (pointText places part) (sets l 0 (signText negative)) sign point (ap (λ (k : ℕ). sign + k) (length-digits (digitCount 12 whole) whole) ∙ sym f)
+    sets-next (wholeText whole) (pointText places part) (sets l 0 (signText negative)) sign point
+    (ap (λ (k : ℕ). sign + k) (length-digits (digitCount 12 whole) whole) ∙ sym f)
     ∙ sets-next (signText negative) (wholeText whole ++ pointText places part) l 0 sign (zero-add (length (signText negative)) ∙ sym e)
 
 -- ---- a text in lent bytes
@@ -188,18 +190,21 @@ shown-few text lent n e h =
     let k : length lent < length text = omega arith in
     record { answered = rw (lt-ltb (length lent) (length text) k); bytes = rw (lt-ltb (length lent) (length text) k) }
 
-pub shown-all : (text lent left : List ℕ) (n : ℕ) → length text ≡ n → n ≤ length lent → left ≡ sets lent 0 text → Shown text lent left (Length n)
+pub shown-all : (text lent left : List ℕ) (n : ℕ) → length text ≡ n → n ≤ length lent → left ≡ sets lent 0 text
+    → Shown text lent left (Length n)
 shown-all text lent left n e h b =
     let k : length text ≤ length lent = omega arith in
     record {
       answered = rw (le-ltb (length lent) (length text) k) (ap Length (sym e));
-      bytes = rw (le-ltb (length lent) (length text) k) (b ∙ sets-eq text lent 0 (omega (arith, k)) ∙ ap (λ (n : ℕ). text ++ drop n lent) (zero-add (length text)));
+      bytes = rw (le-ltb (length lent) (length text) k)
+          (b ∙ sets-eq text lent 0 (omega (arith, k)) ∙ ap (λ (n : ℕ). text ++ drop n lent) (zero-add (length text)));
     }
 
 pub texted-size : (hz : Float) (text lent : List ℕ) → inSize limit43 hz ≡ false → Texted hz text lent lent (NoText 21)
 texted-size hz text lent h = record { answered = rw h; bytes = rw h }
 
-pub texted-shown : (hz : Float) (text lent left : List ℕ) (r : TextAnswer) → inSize limit43 hz ≡ true → Shown text lent left r → Texted hz text lent left r
+pub texted-shown : (hz : Float) (text lent left : List ℕ) (r : TextAnswer) → inSize limit43 hz ≡ true → Shown text lent left r
+    → Texted hz text lent left r
 texted-shown hz text lent left r h s = record { answered = rw h (s .answered); bytes = rw h (s .bytes) }
 
 -- ---- a figure's text by its decimal

@@ -1,3 +1,4 @@
 pub mod Text
 pub mod Laws
+pub mod Whole
 pub mod Examples

@@ -19,7 +19,8 @@ nearest-u64-to-f64-requires c κs = search needs
 returns : tie.Need-returns
 returns c =
     let p = c .before .before .before .parts-of in
-    rw (sym (round-by (c .before .before .before .before .args .x) (p .result .negative) (p .result .digits) (2 ^ p .result .shift) (pow-pos (p .result .shift)) (p .ensures .value)))
+    rw (sym (round-by (c .before .before .before .before .args .x) (p .result .negative) (p .result .digits) (2 ^ p .result .shift)
+    (pow-pos (p .result .shift)) (p .ensures .value)))
     (rw (c .if1 .taken)
     (rw (c .before .nearest-u64-to-f64 .ensures)
     (rw (c .before .before .half-up .ensures))))
@@ -27,7 +28,8 @@ returns c =
 returns-2 : tie.Need-returns-2
 returns-2 c =
     let p = c .before .before .before .parts-of in
-    rw (sym (round-by (c .before .before .before .before .args .x) (p .result .negative) (p .result .digits) (2 ^ p .result .shift) (pow-pos (p .result .shift)) (p .ensures .value)))
+    rw (sym (round-by (c .before .before .before .before .args .x) (p .result .negative) (p .result .digits) (2 ^ p .result .shift)
+    (pow-pos (p .result .shift)) (p .ensures .value)))
     (rw (c .if1 .left)
     (rw (c .before .nearest-u64-to-f64 .ensures)
     (rw (c .before .before .half-up .ensures))))

@@ -25,7 +25,8 @@ returns c =
     let p = c .before .before .before .parts-of in
     rw (c .with-sign .ensures)
     (rw (sym (sign-by (c .before .before .before .before .args .x) (p .result .negative) (p .result .digits) (2 ^ p .result .shift) (p .ensures .value)))
-    (rw (sym (decimal-by (c .before .before .before .before .args .units) (c .before .before .before .before .args .x) (p .result .negative) (p .result .digits) (2 ^ p .result .shift) (pow-pos (p .result .shift)) (p .ensures .value)))
+    (rw (sym (decimal-by (c .before .before .before .before .args .units) (c .before .before .before .before .args .x) (p .result .negative)
+    (p .result .digits) (2 ^ p .result .shift) (pow-pos (p .result .shift)) (p .ensures .value)))
     (rw (c .before .nearest .ensures))))
 
 pub rounded-spec : {M : Type 1} → statement M

@@ -26,7 +26,9 @@ same-length c = search needs
 returns-2 : tie.Need-returns-2
 returns-2 c =
     unfold hertzText in
-    texted-shown _ _ _ _ _ (sym (c .before .before .before .before .before .in-size .ensures) ∙ not-false _ (c .before .before .before .before .if1 .left)) (c .before .before .show .ensures)
+    texted-shown _ _ _ _ _
+    (sym (c .before .before .before .before .before .in-size .ensures) ∙ not-false _ (c .before .before .before .before .if1 .left))
+    (c .before .before .show .ensures)
 
 pub hertz-spec : {M : Type 1} → statement M
 hertz-spec = tie.close (tie.spec in-size-requires returns show-requires same-length returns-2)

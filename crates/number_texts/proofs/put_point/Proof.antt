@@ -26,7 +26,8 @@ put-digits-requires c κs =
     simp length-set (omega (arith, c .before .before .before .pre, e))
 
 same-length : tie.Need-same-length
-same-length c = c .before .before .put-digits .kept .0 ∙ length-set (c .before .before .before .before .before .before .args .out .now) (c .before .before .before .before .before .before .args .at) 46
+same-length c = c .before .before .put-digits .kept .0 ∙ length-set (c .before .before .before .before .before .before .args .out .now)
+    (c .before .before .before .before .before .before .args .at) 46
 
 returns-2 : tie.Need-returns-2
 returns-2 c =

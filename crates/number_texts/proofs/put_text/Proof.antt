@@ -18,19 +18,39 @@ put-digits-requires : tie.Need-put-digits-requires
 put-digits-requires c κs =
     let a = c .before .before .before .before .before .before .before .args in
     let h = roomy (a .negative) (a .whole) (a .places) (a .part) _ (c .before .before .before .before .before .before .before .pre .1) .number in
-    omega (arith, h, c .before .before .before .before .before .sign-length .ensures, c .before .before .before .before .before .before .before .pre .0, c .before .before .before .put-sign .kept .0)
+    omega (
+      arith,
+      h,
+      c .before .before .before .before .before .sign-length .ensures,
+      c .before .before .before .before .before .before .before .pre .0,
+      c .before .before .before .put-sign .kept .0,
+    )
 
 add-put-point : tie.Need-add-put-point
 add-put-point c =
     let a = c .before .before .before .before .before .before .before .before .before .before .before .args in
-    let h = roomy (a .negative) (a .whole) (a .places) (a .part) _ (c .before .before .before .before .before .before .before .before .before .before .before .pre .1) .number in
-    omega (arith, h, c .before .before .before .before .before .before .before .before .before .sign-length .ensures, c .before .before .before .before .before .before .before .before .before .before .before .pre .0)
+    let h = roomy (a .negative) (a .whole) (a .places) (a .part) _
+    (c .before .before .before .before .before .before .before .before .before .before .before .pre .1) .number in
+    omega (
+      arith,
+      h,
+      c .before .before .before .before .before .before .before .before .before .sign-length .ensures,
+      c .before .before .before .before .before .before .before .before .before .before .before .pre .0,
+    )
 
 put-point-requires : tie.Need-put-point-requires
 put-point-requires c κs =
     let a = c .before .before .before .before .before .before .before .before .before .before .before .args in
-    let h = roomy (a .negative) (a .whole) (a .places) (a .part) _ (c .before .before .before .before .before .before .before .before .before .before .before .pre .1) .point in
-    omega (arith, h, c .before .before .before .before .before .before .before .before .before .sign-length .ensures, c .before .before .before .before .before .before .before .before .before .before .before .pre .0, c .before .before .before .before .before .before .before .put-sign .kept .0, c .before .before .before .put-digits .kept .0)
+    let h = roomy (a .negative) (a .whole) (a .places) (a .part) _
+    (c .before .before .before .before .before .before .before .before .before .before .before .pre .1) .point in
+    omega (
+      arith,
+      h,
+      c .before .before .before .before .before .before .before .before .before .sign-length .ensures,
+      c .before .before .before .before .before .before .before .before .before .before .before .pre .0,
+      c .before .before .before .before .before .before .before .put-sign .kept .0,
+      c .before .before .before .put-digits .kept .0,
+    )
 
 same-length : tie.Need-same-length
 same-length c = search needs
@@ -42,7 +62,9 @@ returns c =
     (rw (c .before .before .before .before .before .before .put-digits .ensures)
     (rw (c .before .before .before .before .before .before .before .before .before .before .put-sign .ensures)
     (rw (c .before .before .before .before .before .before .before .before .before .before .before .before .before .before .pre .0)
-    (put-all _ (a .negative) (a .whole) (a .places) (a .part) (c .before .before .before .before .before .before .before .before .before .before .before .before .sign-length .result) _ (c .before .before .before .before .before .before .before .before .before .before .before .before .sign-length .ensures) refl))))
+    (put-all _ (a .negative) (a .whole) (a .places) (a .part)
+    (c .before .before .before .before .before .before .before .before .before .before .before .before .sign-length .result) _
+    (c .before .before .before .before .before .before .before .before .before .before .before .before .sign-length .ensures) refl))))
 
 pub put-text-spec : {M : Type 1} → statement M
 put-text-spec =

@@ -15,10 +15,16 @@ rounded-requires : tie.Need-rounded-requires
 rounded-requires c κs = (c .before .pre .0, omega (arith, c .before .pre .1 .0, ten-power (c .before .args .places) (c .before .pre .1 .1) .1))
 
 div-whole : tie.Need-div-whole
-div-whole c = omega (arith, c .before .before .before .pre .1 .0, ten-power (c .before .before .before .args .places) (c .before .before .before .pre .1 .1) .0)
+div-whole c = omega
+    (arith, c .before .before .before .pre .1 .0, ten-power (c .before .before .before .args .places) (c .before .before .before .pre .1 .1) .0)
 
 rem-part : tie.Need-rem-part
-rem-part c = omega (arith, c .before .before .before .before .pre .1 .0, ten-power (c .before .before .before .before .args .places) (c .before .before .before .before .pre .1 .1) .0)
+rem-part c = omega (
+  arith,
+  c .before .before .before .before .pre .1 .0,
+  ten-power (c .before .before .before .before .args .places)
+      (c .before .before .before .before .pre .1 .1) .0,
+)
 
 digit-count-requires : tie.Need-digit-count-requires
 digit-count-requires c κs = search needs
@@ -29,7 +35,14 @@ sign-length-requires c κs = search needs
 add-length : tie.Need-add-length
 add-length c =
     let d = c .before .before .before .before .rounded .result in
-    omega (arith, c .sign-length .ensures, sign-short (d .negative), c .before .digit-count .ensures, count-most 12 (d .count / c .before .before .before .before .before .before .args .units))
+    omega (
+      arith,
+      c .sign-length .ensures,
+      sign-short (d .negative),
+      c .before .digit-count .ensures,
+      count-most 12
+          (d .count / c .before .before .before .before .before .before .args .units),
+    )
 
 point-length-requires : tie.Need-point-length-requires
 point-length-requires c κs = search needs
@@ -37,25 +50,39 @@ point-length-requires c κs = search needs
 add-length-2 : tie.Need-add-length-2
 add-length-2 c =
     let a = c .before .before .before .before .before .before .before .args in
-    let s = text-short (a .x) (a .places) (a .units) _ (c .before .before .before .before .before .before .before .pre .1 .0) (c .before .before .before .before .before .rounded .ensures) _ _ _ (c .before .before .before .before .before .before .before .pre .1 .1) (c .before .sign-length .ensures) (c .before .before .digit-count .ensures) (c .point-length .ensures) in
+    let s = text-short (a .x) (a .places) (a .units) _ (c .before .before .before .before .before .before .before .pre .1 .0)
+    (c .before .before .before .before .before .rounded .ensures) _ _ _ (c .before .before .before .before .before .before .before .pre .1 .1)
+    (c .before .sign-length .ensures) (c .before .before .digit-count .ensures) (c .point-length .ensures) in
     omega (arith, s)
 
 returns : tie.Need-returns
 returns c =
     let a = c .before .before .before .before .before .before .before .before .args in
-    shown-few _ _ _ (text-length (a .x) (a .places) (a .units) _ (c .before .before .before .before .before .before .before .before .pre .1 .0) (c .before .before .before .before .before .before .rounded .ensures) _ _ _ (c .before .before .sign-length .ensures) (c .before .before .before .digit-count .ensures) (c .before .point-length .ensures)) (c .if1 .taken)
+    shown-few _ _ _
+    (text-length (a .x) (a .places) (a .units) _ (c .before .before .before .before .before .before .before .before .pre .1 .0)
+    (c .before .before .before .before .before .before .rounded .ensures) _ _ _ (c .before .before .sign-length .ensures)
+    (c .before .before .before .digit-count .ensures) (c .before .point-length .ensures)) (c .if1 .taken)
 
 put-text-requires : tie.Need-put-text-requires
 put-text-requires c κs =
     let a = c .before .before .before .before .before .before .before .before .before .args in
-    let e = text-is (a .x) (a .places) (a .units) _ (c .before .before .before .before .before .before .before .before .before .pre .1 .0) (c .before .before .before .before .before .before .before .rounded .ensures) in
-    let l = text-length (a .x) (a .places) (a .units) _ (c .before .before .before .before .before .before .before .before .before .pre .1 .0) (c .before .before .before .before .before .before .before .rounded .ensures) _ _ _ (c .before .before .before .sign-length .ensures) (c .before .before .before .before .digit-count .ensures) (c .before .before .point-length .ensures) in
+    let e = text-is (a .x) (a .places) (a .units) _ (c .before .before .before .before .before .before .before .before .before .pre .1 .0)
+    (c .before .before .before .before .before .before .before .rounded .ensures) in
+    let l = text-length (a .x) (a .places) (a .units) _ (c .before .before .before .before .before .before .before .before .before .pre .1 .0)
+    (c .before .before .before .before .before .before .before .rounded .ensures) _ _ _ (c .before .before .before .sign-length .ensures)
+    (c .before .before .before .before .digit-count .ensures) (c .before .before .point-length .ensures) in
     (c .before .before .before .before .digit-count .ensures, le-trans (le-of-eq (ap length e ∙ l)) (c .before .if1 .left))
 
 cast-t17 : tie.Need-cast-t17
 cast-t17 c =
     let a = c .before .before .before .before .before .before .before .before .before .before .before .before .args in
-    let s = text-short (a .x) (a .places) (a .units) _ (c .before .before .before .before .before .before .before .before .before .before .before .before .pre .1 .0) (c .before .before .before .before .before .before .before .before .before .before .rounded .ensures) _ _ _ (c .before .before .before .before .before .before .before .before .before .before .before .before .pre .1 .1) (c .before .before .before .before .before .before .sign-length .ensures) (c .before .before .before .before .before .before .before .digit-count .ensures) (c .before .before .before .before .before .point-length .ensures) in
+    let s = text-short (a .x) (a .places) (a .units) _
+    (c .before .before .before .before .before .before .before .before .before .before .before .before .pre .1 .0)
+    (c .before .before .before .before .before .before .before .before .before .before .rounded .ensures) _ _ _
+    (c .before .before .before .before .before .before .before .before .before .before .before .before .pre .1 .1)
+    (c .before .before .before .before .before .before .sign-length .ensures)
+    (c .before .before .before .before .before .before .before .digit-count .ensures)
+    (c .before .before .before .before .before .point-length .ensures) in
     omega (arith, s)
 
 same-length : tie.Need-same-length
@@ -64,8 +91,16 @@ same-length c = search needs
 returns-2 : tie.Need-returns-2
 returns-2 c =
     let a = c .before .before .before .before .before .before .before .before .before .before .before .before .args in
-    let e = text-is (a .x) (a .places) (a .units) _ (c .before .before .before .before .before .before .before .before .before .before .before .before .pre .1 .0) (c .before .before .before .before .before .before .before .before .before .before .rounded .ensures) in
-    shown-all _ _ _ _ (text-length (a .x) (a .places) (a .units) _ (c .before .before .before .before .before .before .before .before .before .before .before .before .pre .1 .0) (c .before .before .before .before .before .before .before .before .before .before .rounded .ensures) _ _ _ (c .before .before .before .before .before .before .sign-length .ensures) (c .before .before .before .before .before .before .before .digit-count .ensures) (c .before .before .before .before .before .point-length .ensures)) (c .before .before .before .before .if1 .left)
+    let e = text-is (a .x) (a .places) (a .units) _
+    (c .before .before .before .before .before .before .before .before .before .before .before .before .pre .1 .0)
+    (c .before .before .before .before .before .before .before .before .before .before .rounded .ensures) in
+    shown-all _ _ _ _
+    (text-length (a .x) (a .places) (a .units) _
+    (c .before .before .before .before .before .before .before .before .before .before .before .before .pre .1 .0)
+    (c .before .before .before .before .before .before .before .before .before .before .rounded .ensures) _ _ _
+    (c .before .before .before .before .before .before .sign-length .ensures)
+    (c .before .before .before .before .before .before .before .digit-count .ensures)
+    (c .before .before .before .before .before .point-length .ensures)) (c .before .before .before .before .if1 .left)
     (c .before .before .put-text .ensures ∙ ap (λ (t : List ℕ). sets (a .out .now) 0 t) e)
 
 pub show-spec : {M : Type 1} → statement M
