@@ -4,7 +4,7 @@ use lib.Ieee.{Float, le}
 use Rattle.codes.specs.declared.ControlMode.{ControlMode}
 use Rattle.codes.specs.declared.ControlMode.the-variants.{Local, Remote, Automatic}
 use Rattle.codes.specs.declared.Direction.{Direction}
-use Rattle.codes.specs.declared.Direction.the-variants.{Originate, Respond, Operator}
+use Rattle.codes.specs.declared.Direction.the-variants.{Originate, Respond, Operator, RespondToAutomatic}
 use Rattle.table.specs.declared.ElsewhereRule.{ElsewhereRule}
 use Rattle.table.specs.declared.ElsewhereRule.the-variants.{Under, Nowhere}
 
@@ -19,12 +19,15 @@ abbrev pub atControlPoint : Direction → Bool
 atControlPoint Originate = false
 atControlPoint Respond = false
 atControlPoint Operator = true
+atControlPoint RespondToAutomatic = false
 
--- 97.221(c)(1): the transmission answers interrogation by another station
+-- 97.221(c)(1): the transmission answers interrogation by a station under local or remote control; "the elsewhere rule counts only a plain
+-- Respond" (document 02, 3)
 abbrev pub responds : Direction → Bool
 responds Originate = false
 responds Respond = true
 responds Operator = false
+responds RespondToAutomatic = false
 
 -- 97.221 applies: "Automatic is off when the direction is Operator."
 abbrev pub appliesOf : ControlMode → Direction → Bool

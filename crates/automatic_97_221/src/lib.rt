@@ -23,10 +23,11 @@ fn at_control_point(direction: Direction) -> bool
         Direction::Originate => false,
         Direction::Respond => false,
         Direction::Operator => true,
+        Direction::RespondToAutomatic => false,
     }
 }
 
-// Whether a transmission answers interrogation by another station (97.221(c)(1)).
+// Whether a transmission answers interrogation by a station under local or remote control (97.221(c)(1)).
 pub fn responding(direction: Direction) -> bool
     ensures { λ r. ⌜ r ≡ responds direction ⌝ }
 {
@@ -34,6 +35,7 @@ pub fn responding(direction: Direction) -> bool
         Direction::Originate => false,
         Direction::Respond => true,
         Direction::Operator => false,
+        Direction::RespondToAutomatic => false,
     }
 }
 

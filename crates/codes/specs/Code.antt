@@ -14,7 +14,7 @@ use Rattle.codes.specs.declared.Sideband.the-variants.{Usb, Lsb}
 use Rattle.codes.specs.declared.EmissionKind.{EmissionKind}
 use Rattle.codes.specs.declared.EmissionKind.the-variants.{Data, Cw, Test, Nothing}
 use Rattle.codes.specs.declared.Direction.{Direction}
-use Rattle.codes.specs.declared.Direction.the-variants.{Originate, Respond, Operator}
+use Rattle.codes.specs.declared.Direction.the-variants.{Originate, Respond, Operator, RespondToAutomatic}
 
 -- "policy 0 unset, 1 none, 2 rules, 3 broken"
 abbrev pub policyCode : Policy → ℕ
@@ -49,11 +49,12 @@ kindCode Cw = 1
 kindCode Test = 2
 kindCode Nothing = 3
 
--- "direction 0 originate, 1 respond, 2 operator"
+-- "direction 0 originate, 1 respond, 2 operator", and document 02: "the value 3, 'respond to automatic'"
 abbrev pub directionCode : Direction → ℕ
 directionCode Originate = 0
 directionCode Respond = 1
 directionCode Operator = 2
+directionCode RespondToAutomatic = 3
 
 -- 1 at an emission's or a class's bit
 abbrev pub bitOf : ℕ → ℕ → Bool

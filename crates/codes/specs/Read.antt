@@ -10,7 +10,7 @@ use Rattle.codes.specs.declared.Sideband.the-variants.{Usb, Lsb}
 use Rattle.codes.specs.declared.EmissionKind.{EmissionKind}
 use Rattle.codes.specs.declared.EmissionKind.the-variants.{Data, Cw, Test, Nothing}
 use Rattle.codes.specs.declared.Direction.{Direction}
-use Rattle.codes.specs.declared.Direction.the-variants.{Originate, Respond, Operator}
+use Rattle.codes.specs.declared.Direction.the-variants.{Originate, Respond, Operator, RespondToAutomatic}
 use Rattle.codes.specs.declared.Control.{Control}
 use Rattle.codes.specs.declared.Control.the-variants.{ControlIs, NoControl}
 use Rattle.codes.specs.declared.License.{License}
@@ -35,7 +35,7 @@ abbrev pub kindValid : ℕ → Bool
 kindValid n = leb n 3
 
 abbrev pub directionValid : ℕ → Bool
-directionValid n = leb n 2
+directionValid n = leb n 3
 
 abbrev pub policyOf : ℕ → Policy
 policyOf n = cond (eqb n 0) Unset (cond (eqb n 1) NoProfile (cond (eqb n 2) Rules Broken))
@@ -61,4 +61,4 @@ abbrev pub kindOf : ℕ → EmissionKind
 kindOf n = cond (eqb n 0) Data (cond (eqb n 1) Cw (cond (eqb n 2) Test Nothing))
 
 abbrev pub directionOf : ℕ → Direction
-directionOf n = cond (eqb n 0) Originate (cond (eqb n 1) Respond Operator)
+directionOf n = cond (eqb n 0) Originate (cond (eqb n 1) Respond (cond (eqb n 2) Operator RespondToAutomatic))

@@ -11,7 +11,7 @@ use Rattle.codes.specs.declared.Sideband.the-variants.{Usb, Lsb}
 use Rattle.codes.specs.declared.EmissionKind.{EmissionKind}
 use Rattle.codes.specs.declared.EmissionKind.the-variants.{Data, Cw, Test, Nothing}
 use Rattle.codes.specs.declared.Direction.{Direction}
-use Rattle.codes.specs.declared.Direction.the-variants.{Originate, Respond, Operator}
+use Rattle.codes.specs.declared.Direction.the-variants.{Originate, Respond, Operator, RespondToAutomatic}
 use Rattle.codes.specs.declared.Control.the-variants.{ControlIs, NoControl}
 use Rattle.codes.specs.declared.License.the-variants.{LicenseIs, NoLicense}
 use Rattle.codes.specs.declared.SidebandSet.the-variants.{SidebandIs, NoSideband}
@@ -51,6 +51,7 @@ pub direction-read : (d : Direction) → directionOf (directionCode d) ≡ d
 direction-read Originate = refl
 direction-read Respond = refl
 direction-read Operator = refl
+direction-read RespondToAutomatic = refl
 
 -- and 255 is absent
 pub absent-read : (controlOf 255 ≡ NoControl) × (licenseOf 255 ≡ NoLicense) × (sidebandOf 255 ≡ NoSideband)

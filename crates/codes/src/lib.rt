@@ -42,11 +42,13 @@ pub enum EmissionKind {
     Nothing,
 }
 
-// Who began the exchange: 97.221(c)(1)'s question.
+// Who began the exchange: 97.221(c)(1)'s question. Whoever answers another station answers one under local or remote control, or
+// one under automatic control.
 pub enum Direction {
     Originate,
     Respond,
     Operator,
+    RespondToAutomatic,
 }
 
 // A control, a licence class and a sideband that may be absent.
@@ -131,7 +133,7 @@ pub fn kind_of(code: u8) -> EmissionKind
 pub fn direction_valid(code: u8) -> bool
     ensures { λ r. ⌜ r ≡ directionValid code ⌝ }
 {
-    code <= 2
+    code <= 3
 }
 
 pub fn direction_of(code: u8) -> Direction
@@ -140,7 +142,8 @@ pub fn direction_of(code: u8) -> Direction
     match code {
         0 => Direction::Originate,
         1 => Direction::Respond,
-        _ => Direction::Operator,
+        2 => Direction::Operator,
+        _ => Direction::RespondToAutomatic,
     }
 }
 

@@ -13,8 +13,13 @@ returns-2 c =
 
 returns-3 : tie.Need-returns-3
 returns-3 c =
-    rw (ne-eqb _ _ (c .match .rest .0 .1))
-    (rw (ne-eqb _ _ (c .match .rest .1)))
+    rw (c .match .keys3)
+
+returns-4 : tie.Need-returns-4
+returns-4 c =
+    rw (ne-eqb _ _ (c .match .rest .0 .0 .1))
+    (rw (ne-eqb _ _ (c .match .rest .0 .1))
+    (rw (ne-eqb _ _ (c .match .rest .1))))
 
 pub direction-of-spec : {M : Type 1} → statement M
-direction-of-spec = tie.close (tie.spec returns returns-2 returns-3)
+direction-of-spec = tie.close (tie.spec returns returns-2 returns-3 returns-4)
