@@ -110,7 +110,7 @@ module _ (table : Table) (s : Situation) (direction : Direction) (audio : Range)
   abbrev pub requested : Request
   requested = requestOf (table .general) (P .class) (P .sideband) (P .control) direction (s .«margin_hz») audio
 
-  abbrev judgedCase : Case
+  abbrev pub judgedCase : Case
   judgedCase = caseOf s (P .control) (P .class) (P .sideband) dial Data direction audio
 
   matched : Match table requested judgedCase dial
@@ -126,7 +126,7 @@ module _ (table : Table) (s : Situation) (direction : Direction) (audio : Range)
       ∙ ap (λ (x : License). rowsWithLicense x (λ cl. rowsWithControl (s .control) (rowsKnown table s direction audio (P .sideband) cl))) (P .has-license)
       ∙ ap (λ (x : Control). rowsWithControl x (rowsKnown table s direction audio (P .sideband) (P .class))) (P .has-control)
 
-  ruling : underRulesOf table s (Known dial) Data direction audio ≡ judge table judgedCase
+  pub ruling : underRulesOf table s (Known dial) Data direction audio ≡ judge table judgedCase
   ruling =
       sym
       (under-met table s (Known dial) Data direction audio judgedCase
@@ -139,7 +139,7 @@ module _ (table : Table) (s : Situation) (direction : Direction) (audio : Range)
   kind-data = refl
 
   -- the channel band does not hold the guarded signal, so the first band that does is none of it
-  off-channels : onChannelBand table s audio dial ≡ false → OffChannels table judgedCase
+  pub off-channels : onChannelBand table s audio dial ≡ false → OffChannels table judgedCase
   unfolding onChannelBand caseOf channelBandHolds isOutside asks
   off-channels off b found = go (bitOf (table .general .flags) 2) (eqb (bandAt table b .band) (table .general .«channel_band»)) refl refl
     where

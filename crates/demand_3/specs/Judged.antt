@@ -229,7 +229,7 @@ module _ (table : Table) (c : Case) where
   -- ---- the band
 
   -- off the channel band
-  on-band :
+  pub on-band :
       (g : General) (band : ℕ) → isOutside (g .flags) (g .«channel_band») band ≡ true
       → judgeOnBand table c band (channelsOf g) ≡ offSixty table c band (c .kind)
   unfolding judgeOnBand
@@ -242,7 +242,7 @@ module _ (table : Table) (c : Case) where
       go ch own true e = absurd (false≢true (sym own ∙ ap (isOutside (g .flags) (g .«channel_band»)) (eqb-true (ch .band) band e) ∙ o))
       go ch own false e = refl
 
-  abbrev excludedHere : ℕ → Bool
+  abbrev pub excludedHere : ℕ → Bool
   excludedHere band = c .automatic && someIn table excluded (OfBand band)
 
   abbrev banded : ℕ → Bool → Found → Decision
@@ -252,7 +252,7 @@ module _ (table : Table) (c : Case) where
       (judgeOnBand table c band (channelsOf (table .general))))
       (judgeOnBand table c band (channelsOf (table .general)))
 
-  in-band : (band : ℕ) → excludedHere band ≡ false → judgeInBand table c band ≡ judgeOnBand table c band (channelsOf (table .general))
+  pub in-band : (band : ℕ) → excludedHere band ≡ false → judgeInBand table c band ≡ judgeOnBand table c band (channelsOf (table .general))
   unfolding judgeInBand
   in-band band e = go (c .automatic) (firstIn table excluded (OfBand band)) e
     where
