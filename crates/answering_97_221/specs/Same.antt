@@ -43,7 +43,7 @@ use Rattle.part97.specs.declared.Case.{Case}
 use Rattle.part97.specs.declared.Nearest.{Nearest}
 use Rattle.part97.specs.Part97.{draftOf, draftInside, draftAutomatic, privilegedOf, noted, wantsPlan, guidanceOf, adviceOf, adviceWarns, advised}
 use Rattle.part97.specs.Part97.{automaticElsewhere, automaticData, considered, nearestUpTo, outsideSegments, insideSegment, judgeData}
-use Rattle.part97.specs.Part97.{sixtyChannel, sixtySegment, sixtyPlace, sixtyEmission, sixtyKind, sixty, judgeOnBand, judgeInBand, touching, judge}
+use Rattle.part97.specs.Part97.{sixtyChannel, sixtySegment, sixtyOverlap, sixtyPlace, sixtyEmission, sixtyKind, sixty, judgeOnBand, judgeInBand, touching, judge}
 use Rattle.part97.specs.Part97.{segmentAt}
 use Rattle.verdict.specs.Verdict.{signalOf, caseOf, withControl, withLicense, withSideband, withDial, readyOf, judgedOf, underRulesOf, decideOf}
 use Rattle.verdict.specs.Verdict.{evaluateTests, unlessRefused, evaluateOf}
@@ -82,7 +82,7 @@ module _ (table : Table) (c : Case) where
   nearest-same (suc n) = ap (λ (best : Nearest). considered (turned c Originate) best n (segmentAt table n .range)) (nearest-same n)
 
   judge-same : judge table (turned c RespondToAutomatic) ≡ judge table (turned c Originate)
-  unfolding judge judgeInBand judgeOnBand judgeData insideSegment automaticData automaticElsewhere outsideSegments sixty sixtyKind sixtyEmission sixtyPlace sixtySegment sixtyChannel touching draftOf draftInside draftAutomatic privilegedOf noted wantsPlan guidanceOf adviceOf adviceWarns advised
+  unfolding judge judgeInBand judgeOnBand judgeData insideSegment automaticData automaticElsewhere outsideSegments sixty sixtyKind sixtyEmission sixtyPlace sixtyOverlap sixtySegment sixtyChannel touching draftOf draftInside draftAutomatic privilegedOf noted wantsPlan guidanceOf adviceOf adviceWarns advised
   judge-same = rw (nearest-same (table .count segments))
 
 -- the prerequisites, from the last one back

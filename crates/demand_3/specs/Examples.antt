@@ -28,7 +28,7 @@ use Rattle.decision.specs.Decision.{noAdvice, finishOf, simpleOf, refusedOf}
 use Rattle.part97.specs.Part97.{draftOf, draftInside, draftAutomatic, privilegedOf, noted, notesUpTo, anyNote, planSays, wantsPlan}
 use Rattle.part97.specs.Part97.{guidanceOf, adviceOf, adviceWarns, advised, automaticElsewhere, automaticData, considered, nearestUpTo}
 use Rattle.part97.specs.Part97.{overshootOf, outsideSegments, insideSegment, judgeData, allowedOnSixty, sixtyChannel, sixtySegment}
-use Rattle.part97.specs.Part97.{sixtyPlace, sixtyEmission, sixtyKind, sixty, judgeOnBand, judgeInBand, touching, judge}
+use Rattle.part97.specs.Part97.{sixtyOverlap, sixtyPlace, sixtyEmission, sixtyKind, sixty, judgeOnBand, judgeInBand, touching, judge}
 use Rattle.verdict.specs.Verdict.{airOf, signalOf, caseOf, readyOf, underRulesOf, unruledOf, decideOf, evaluateOf}
 use Rattle.dials.specs.List.{situationRows, listRows, listTests, answerOf, bytesOf, SafeDials}
 use Rattle.dials.specs.declared.DialList.{DialList}
@@ -220,7 +220,7 @@ opened : Unit {0}
 unfolding
     situationRows listRows requestOf pieceRows automaticRows cutRows privilegeRows privilegesRows segmentRows dataRows channelFound channelRow
     channelRows openRows rowsOf insertRow insertAll little figuresOf encodeRow encodeAll each toBits evaluateOf decideOf unruledOf underRulesOf
-    readyOf caseOf signalOf airOf judge touching judgeInBand judgeOnBand sixty sixtyKind sixtyEmission sixtyPlace sixtySegment sixtyChannel
+    readyOf caseOf signalOf airOf judge touching judgeInBand judgeOnBand sixty sixtyKind sixtyEmission sixtyPlace sixtyOverlap sixtySegment sixtyChannel
     allowedOnSixty judgeData insideSegment outsideSegments overshootOf nearestUpTo considered automaticData automaticElsewhere advised
     adviceWarns adviceOf guidanceOf planSays wantsPlan notesUpTo anyNote noted privilegedOf draftAutomatic draftInside draftOf refusedOf
     simpleOf finishOf noAdvice edgesRead edgesValid situationOf codesValid figuresValid checkOf codedBlock miscoded soundBlock unsound bare

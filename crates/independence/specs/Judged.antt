@@ -64,7 +64,7 @@ use Rattle.decision.specs.declared.Code.the-variants.{SixtyEmission, SixtyOffCh
 use Rattle.decision.specs.declared.BandNumber.the-variants.{Band}
 use Rattle.decision.specs.declared.SixtyNotes.{SixtyNotes}
 use Rattle.automatic_97_221.specs.Automatic.{responds}
-use Rattle.profile.specs.Range.{channelRangeOf}
+use Rattle.profile.specs.Range.{holdsOf, channelRangeOf}
 use Rattle.occupancy.specs.Edges.{rangeOf}
 use Rattle.decision.specs.declared.BandNumber.{BandNumber}
 use Rattle.decision.specs.declared.JudgedSegment.{JudgedSegment}
@@ -73,7 +73,8 @@ use Rattle.decision.specs.declared.Decision.{Decision}
 use Rattle.part97.specs.Part97.{bandAt, segmentAt, generalLimit, limitFor, automaticRule, exceeds, channelWatts, segmentWatts}
 use Rattle.part97.specs.Part97.{onChannel, isData, somePrivilege, privilegedOf, underPrivilege, draftOf, draftInside}
 use Rattle.part97.specs.Part97.{draftAutomatic, advised, automaticElsewhere, automaticData, considered, nearestUpTo, onNearest}
-use Rattle.part97.specs.Part97.{outsideSegments, insideSegment, judgeData, allowedOnSixty, sixtyChannel, sixtySegment, sixtyPlace}
+use Rattle.part97.specs.Part97.{outsideSegments, insideSegment, judgeData, allowedOnSixty, sixtyChannel, sixtySegment}
+use Rattle.part97.specs.Part97.{inSixtySegment, sixtyOverlap, sixtyPlace}
 use Rattle.part97.specs.Part97.{sixtyEmission, sixtyKind, sixty, offSixty, judgeOnBand, judgeInBand, touching, judge}
 use Rattle.part97.specs.declared.Case.{Case}
 use Rattle.part97.specs.declared.Nearest.{Nearest}
@@ -255,12 +256,20 @@ module _ (table : Table) (c : Case) (power : Figure) (plan : Bool) where
       (record { «channel_power» = false; shared = false; «segment_power» = exceeds power segmentWatts })
       (record { «channel_power» = false; shared = false; «segment_power» = exceeds (c .power) segmentWatts }))
 
+  in-segment-same : (ch : Channels) {a b : Decision} → Same a b → Same (inSixtySegment table (other c power plan) ch a) (inSixtySegment table c ch b)
+  in-segment-same ch s =
+      on-found (firstIn table segments (BandHolds (ch .band) (c .guarded))) (λ i. segment-same (ch .band) (segmentAt table i)) s
+
+  overlap-same : (ch : Channels) (centre : Float) → Same (sixtyOverlap table (other c power plan) ch centre) (sixtyOverlap table c ch centre)
+  unfolding sixtyOverlap
+  overlap-same ch centre =
+      on-cond (holdsOf (channelRangeOf (ch .«width_hz») centre) (c .guarded)) (channel-same ch centre) (in-segment-same ch (channel-same ch centre))
+
   place-same : (ch : Channels) → Same (sixtyPlace table (other c power plan) ch) (sixtyPlace table c ch)
   unfolding sixtyPlace draftOf
   place-same ch =
-      on-found (firstIn table channels (ChannelOverlaps (ch .«width_hz») (c .guarded))) (λ i. channel-same ch (centreOf (table .at channels i)))
-      (on-found (firstIn table segments (BandHolds (ch .band) (c .guarded))) (λ i. segment-same (ch .band) (segmentAt table i))
-      (leaf (draftOf c (Band (ch .band))) Blocked SixtyOffChannel (ch .rule)))
+      on-found (firstIn table channels (ChannelOverlaps (ch .«width_hz») (c .guarded))) (λ i. overlap-same ch (centreOf (table .at channels i)))
+      (in-segment-same ch (leaf (draftOf c (Band (ch .band))) Blocked SixtyOffChannel (ch .rule)))
 
   emission-same : (ch : Channels) (x : SixtyEmissions) → Same (sixtyEmission table (other c power plan) ch x) (sixtyEmission table c ch x)
   unfolding sixtyEmission draftOf

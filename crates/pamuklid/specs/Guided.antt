@@ -27,7 +27,7 @@ use Rattle.codes.specs.declared.EmissionKind.{EmissionKind}
 use Rattle.codes.specs.declared.EmissionKind.the-variants.{Data, Cw, Test as TestKind, Nothing as NoEmission}
 use Rattle.codes.specs.declared.Direction.{Direction}
 use Rattle.codes.specs.Code.{kindCode, bitOf}
-use Rattle.profile.specs.Range.{range}
+use Rattle.profile.specs.Range.{range, holdsOf, channelRangeOf}
 use Rattle.profile.specs.declared.Range.{Range}
 use Rattle.occupancy.specs.Edges.{rangeOf}
 use Rattle.occupancy.specs.declared.Edges.{Edges}
@@ -71,7 +71,7 @@ use Rattle.part97.specs.Part97.{automaticData, onNearest, outsideSegments, insi
 use Rattle.automatic_97_221.specs.Automatic.{responds}
 use Rattle.part97.specs.Part97.{generalLimit, privilegedOf, somePrivilege, onChannel, isData, limitFor, nearestUpTo}
 use Rattle.part97.specs.Part97.{emitted, keyed, offSixty, allowedOnSixty, sixtyChannel, sixtySegment}
-use Rattle.part97.specs.Part97.{sixtyPlace, sixtyEmission, sixtyKind, sixty, judgeOnBand, judgeInBand, judge}
+use Rattle.part97.specs.Part97.{inSixtySegment, sixtyOverlap, sixtyPlace, sixtyEmission, sixtyKind, sixty, judgeOnBand, judgeInBand, judge}
 use Rattle.part97.specs.declared.Case.{Case}
 use Rattle.part97.specs.declared.Nearest.{Nearest}
 use Rattle.part97.specs.declared.Nearest.the-variants.{Near, NoneNear}
@@ -203,11 +203,17 @@ module _ (l : List ℕ) (w : Whole l) (c : Case) where
   segment band s =
       by-test (isData (c .kind) && lt (generalLimit table .«max_bandwidth_hz») (c .width)) (simple _ _ _ _) (on-sixty _ _ _ _ _)
 
+  in-segment : (ch : Channels) {otherwise : Decision} → Settled otherwise → Settled (inSixtySegment table c ch otherwise)
+  in-segment ch s = by-found (firstIn table segments (BandHolds (ch .band) (c .guarded))) (λ i. segment _ _) s
+
+  overlap : (ch : Channels) (centre : Float) → Settled (sixtyOverlap table c ch centre)
+  unfolding sixtyOverlap
+  overlap ch centre = by-test (holdsOf (channelRangeOf (ch .«width_hz») centre) (c .guarded)) (channel ch centre) (in-segment ch (channel ch centre))
+
   sixty-place : (ch : Channels) → Settled (sixtyPlace table c ch)
   unfolding sixtyPlace
   sixty-place ch =
-      by-found (firstIn table channels (ChannelOverlaps (ch .«width_hz») (c .guarded))) (λ i. channel ch _)
-      (by-found (firstIn table segments (BandHolds (ch .band) (c .guarded))) (λ i. segment _ _) (simple _ _ _ _))
+      by-found (firstIn table channels (ChannelOverlaps (ch .«width_hz») (c .guarded))) (λ i. overlap ch _) (in-segment ch (simple _ _ _ _))
 
   sixty-emission : (ch : Channels) (e : SixtyEmissions) → Settled (sixtyEmission table c ch e)
   unfolding sixtyEmission

@@ -407,14 +407,24 @@ sixtySegment table c band s =
     (allowedOnSixty (draftInside c band (s .range) (s .rule)) (exceeds (c .power) segmentWatts) SixtySegment (s .rule)
     (record { «channel_power» = false; shared = false; «segment_power» = exceeds (c .power) segmentWatts }))
 
--- "An overlapping channel comes before the segment." Neither: off channel
+-- the first data segment of the band that holds the guarded range, or else
+abbrev pub inSixtySegment : Table → Case → Channels → Decision → Decision
+inSixtySegment table c ch otherwise =
+    onFound (firstIn table segments (BandHolds (ch .band) (c .guarded))) (λ i. sixtySegment table c (ch .band) (segmentAt table i)) otherwise
+
+-- "a data segment of that band which holds the guarded range goes first, unless the first overlapping channel holds that range as well"
+-- (document 02, 4): by that channel
+unfoldable pub sixtyOverlap : Table → Case → Channels → Float → Decision
+sixtyOverlap table c ch centre =
+    cond (holdsOf (channelRangeOf (ch .«width_hz») centre) (c .guarded)) (sixtyChannel c ch centre)
+    (inSixtySegment table c ch (sixtyChannel c ch centre))
+
+-- the first channel that the guarded range overlaps, or else the segment. Neither: off channel
 unfoldable pub sixtyPlace : Table → Case → Channels → Decision
 sixtyPlace table c ch =
     onFound (firstIn table channels (ChannelOverlaps (ch .«width_hz») (c .guarded)))
-    (λ i. sixtyChannel c ch (centreOf (table .at channels i)))
-    (onFound (firstIn table segments (BandHolds (ch .band) (c .guarded)))
-    (λ i. sixtySegment table c (ch .band) (segmentAt table i))
-    (simpleOf (draftOf c (Band (ch .band))) Blocked SixtyOffChannel (ch .rule)))
+    (λ i. sixtyOverlap table c ch (centreOf (table .at channels i)))
+    (inSixtySegment table c ch (simpleOf (draftOf c (Band (ch .band))) Blocked SixtyOffChannel (ch .rule)))
 
 -- 97.307(f)(14): the emissions allowed on 60 m; the bit for keying alone is never asked for
 unfoldable pub sixtyEmission : Table → Case → Channels → SixtyEmissions → Decision

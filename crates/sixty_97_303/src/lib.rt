@@ -25,7 +25,7 @@ ghost use Prim.Native.Nat.{ℕ};
 ghost use mathlib.Core.List.{List};
 ghost use Rattle.part97.specs.Finding.{concluded};
 ghost use Rattle.part97.specs.Part97.{cwOnChannel, sameSideband, dataOnChannel, onChannel, sixtyChannel};
-ghost use Rattle.part97.specs.Part97.{isData, sixtySegment, sixtyPlace, sixtyEmission, sixtyKind, sixty};
+ghost use Rattle.part97.specs.Part97.{isData, sixtySegment, sixtyOverlap, sixtyPlace, sixtyEmission, sixtyKind, sixty};
 
 // The watts above which the operator is warned, on a channel and in the segment (97.313(i)).
 const CHANNEL_WATTS: f64 = 100.0;
@@ -137,7 +137,27 @@ fn sixty_segment(g: General, c: Case, band: u8, place: Segment) -> Finding
     findings::on_sixty(band, range, warn, Code::SixtySegment, place.rule, marks)
 }
 
-// An overlapping channel comes before the segment; neither: off channel.
+// By the first channel that the signal overlaps, whose centre is given, if it holds the guarded range; else by the segment that holds
+// it, if one does.
+fn sixty_overlap(s: &[u8], g: General, c: Case, ch: Channels, centre: f64) -> Finding
+    requires { ⌜ (Whole (now s)) × (g ≡ generalOf (now s)) ⌝ }
+    ensures { λ r. ⌜ concluded (tableOf (now (s .entry))) c r ≡ sixtyOverlap (tableOf (now (s .entry))) c ch centre ⌝ }
+{
+    let guarded = c.guarded;
+    if profile::channel_range(ch.width_hz, centre).holds(guarded) {
+        return sixty_channel(c, ch, centre);
+    }
+    match find::pick_in(
+        s,
+        layout::SEGMENTS,
+        Question::BandHolds(ch.band, guarded),
+    ) {
+        Pick::Picked(k, segment) => sixty_segment(g, c, ch.band, table::segment_of(segment)),
+        Pick::Missing => sixty_channel(c, ch, centre),
+    }
+}
+
+// By an overlapping channel or the segment; neither: off channel.
 fn sixty_place(s: &[u8], g: General, c: Case, ch: Channels) -> Finding
     requires { ⌜ (Whole (now s)) × (g ≡ generalOf (now s)) ⌝ }
     ensures { λ r. ⌜ concluded (tableOf (now (s .entry))) c r ≡ sixtyPlace (tableOf (now (s .entry))) c ch ⌝ }
@@ -148,7 +168,7 @@ fn sixty_place(s: &[u8], g: General, c: Case, ch: Channels) -> Finding
         layout::CHANNELS,
         Question::ChannelOverlaps(ch.width_hz, guarded),
     ) {
-        Pick::Picked(i, channel) => sixty_channel(c, ch, table::centre_of(channel)),
+        Pick::Picked(i, channel) => sixty_overlap(s, g, c, ch, table::centre_of(channel)),
         Pick::Missing => match find::pick_in(
             s,
             layout::SEGMENTS,

@@ -33,7 +33,7 @@ use Rattle.decision.specs.declared.Decision.{Decision}
 use Rattle.part97.specs.Part97.{draftOf, draftInside, draftAutomatic, privilegedOf, noted, notesUpTo, anyNote, planSays, wantsPlan}
 use Rattle.part97.specs.Part97.{guidanceOf, adviceOf, adviceWarns, advised, automaticElsewhere, automaticData, considered}
 use Rattle.part97.specs.Part97.{nearestUpTo, overshootOf, outsideSegments, insideSegment, judgeData, allowedOnSixty, sixtyChannel}
-use Rattle.part97.specs.Part97.{sixtySegment, sixtyPlace, sixtyEmission, sixtyKind, sixty, judgeOnBand, judgeInBand, touching, judge}
+use Rattle.part97.specs.Part97.{sixtySegment, sixtyOverlap, sixtyPlace, sixtyEmission, sixtyKind, sixty, judgeOnBand, judgeInBand, touching, judge}
 use Rattle.verdict.specs.Verdict.{airOf, signalOf, caseOf, readyOf, underRulesOf, unruledOf, decideOf, besideValid, evaluateOf}
 use Rattle.verdict.specs.Laws.{evaluate-accepted}
 use Rattle.ceiling.specs.Ceiling.{rungOf, burstOf, climbStart, endedOf, wentOn, climbAfter, judgeBy}
@@ -166,7 +166,7 @@ pub opened : Unit {0}
 unfolding
     recordIn checkOf codedBlock miscoded soundBlock unsound bare unlimited asks soundBits soundRecord codedOf codedGeneral recordsBefore recordAt
     generalOf u16At u32At u64At firstFrom lt le eq ne neg add sub mul div ofInt ofBits decideOf unruledOf underRulesOf readyOf caseOf signalOf
-    airOf judge touching judgeInBand judgeOnBand sixty sixtyKind sixtyEmission sixtyPlace sixtySegment sixtyChannel allowedOnSixty judgeData
+    airOf judge touching judgeInBand judgeOnBand sixty sixtyKind sixtyEmission sixtyPlace sixtyOverlap sixtySegment sixtyChannel allowedOnSixty judgeData
     insideSegment outsideSegments overshootOf nearestUpTo considered automaticData automaticElsewhere advised adviceWarns adviceOf guidanceOf
     planSays wantsPlan notesUpTo anyNote noted privilegedOf draftAutomatic draftInside draftOf refusedOf simpleOf finishOf noAdvice edgesRead
     edgesValid situationOf codesValid figuresValid rungOf burstOf climbStart endedOf wentOn climbAfter judgeBy rungJudged climbStep climbed badEdges

@@ -17,8 +17,8 @@ enum-known-i c = search needs
 centre-of-requires : tie.Need-centre-of-requires
 centre-of-requires c κs = search needs
 
-sixty-channel-requires : tie.Need-sixty-channel-requires
-sixty-channel-requires c κs = search needs
+sixty-overlap-requires : tie.Need-sixty-overlap-requires
+sixty-overlap-requires c κs = search needs
 
 enum-told : tie.Need-enum-told
 enum-told c = search needs
@@ -45,7 +45,7 @@ returns : tie.Need-returns
 unfolding sixtyPlace
 returns c =
     let p = picked _ _ _ _ _ (sym (c .before .before .before .before .before .pick-in .ensures) ∙ c .before .before .before .i .given .1) in
-    rw (c .sixty-channel .ensures _)
+    rw (c .sixty-overlap .ensures)
     (rw (c .before .centre-of .ensures)
     (rw (p .found)
     (rw (← p .here))))
@@ -77,7 +77,7 @@ sixty-place-spec =
     pick-in-requires
     enum-known-i
     centre-of-requires
-    sixty-channel-requires
+    sixty-overlap-requires
     enum-told
     pick-in-requires-2
     enum-known-k
