@@ -35,7 +35,7 @@ use Rattle.table.specs.declared.Segment.{Segment}
 use Rattle.find.specs.Question.{firstIn, someIn}
 use Rattle.find.specs.declared.Question.the-variants.{Holds, OfBand}
 use Rattle.entry.specs.Entry.{edgesRead}
-use Rattle.automatic_97_221.specs.Automatic.{appliesOf}
+use Rattle.automatic_97_221.specs.Automatic.{responds, appliesOf}
 use Rattle.decision.specs.Decision.{simpleOf, finishOf, refusedOf}
 use Rattle.decision.specs.declared.Draft.{Draft}
 use Rattle.decision.specs.declared.Decision.{Decision}
@@ -43,7 +43,8 @@ use Rattle.decision.specs.declared.Verdict.the-variants.{Blocked}
 use Rattle.decision.specs.declared.Code.the-variants.{Permitted, AutomaticSegment, AutomaticBandwidth, AutomaticOriginate, AutomaticResponse, OutOfBand}
 use Rattle.decision.specs.declared.BandNumber.the-variants.{Band}
 use Rattle.decision.specs.Number.{§97-301}
-use Rattle.part97.specs.Part97.{wider, limitFor, bandAt, segmentAt, draftOf, draftInside, draftAutomatic, privilegedOf, underPrivilege, advised}
+use Rattle.air.specs.Air.{wider}
+use Rattle.part97.specs.Part97.{limitFor, bandAt, segmentAt, draftOf, draftInside, draftAutomatic, privilegedOf, underPrivilege, advised}
 use Rattle.part97.specs.Part97.{advisedAutomatic, automaticRule, automaticElsewhere, automaticData, insideSegment, outsideSegments, blockedTooWide}
 use Rattle.part97.specs.Part97.{judgeData, offSixty, judgeInBand, touching, judge}
 use Rattle.part97.specs.declared.Case.{Case}
@@ -64,16 +65,18 @@ module _ (table : Table) (c : Case) (new : c .direction ≡ RespondToAutomatic) 
   -- 97.221(c)
   elsewhere-20 : (draft : Draft) (w : ElsewhereRule) → asksResponse w (c .width) ≡ true → Answered (automaticElsewhere table c draft w)
   unfolding automaticElsewhere
-  elsewhere-20 draft (Under e) h = rw new (go (wider (c .width) (e .«max_bandwidth_hz»)) (e .«requires_response») h)
+  elsewhere-20 draft (Under e) h =
+      go (wider (c .width) (e .«max_bandwidth_hz»)) (e .«requires_response») (responds (c .direction)) (ap responds new) h
     where
       go :
-          (a b : Bool) → (not a && b) ≡ true
+          (a b r : Bool) → r ≡ false → (not a && b) ≡ true
           → Answered
           (cond a (simpleOf draft Blocked AutomaticBandwidth (e .rule))
-          (cond (b && true) (simpleOf draft Blocked AutomaticOriginate (e .rule)) (advisedAutomatic table c draft AutomaticResponse (e .rule))))
-      go true b h = absurd (false≢true h)
-      go false true h = blocked-20 draft (e .rule)
-      go false false h = absurd (false≢true h)
+          (cond (b && not r) (simpleOf draft Blocked AutomaticOriginate (e .rule)) (advisedAutomatic table c draft AutomaticResponse (e .rule))))
+      go true b r k h = absurd (false≢true h)
+      go false true true k h = absurd (false≢true (sym k))
+      go false true false k h = blocked-20 draft (e .rule)
+      go false false r k h = absurd (false≢true h)
   elsewhere-20 draft Nowhere h = absurd (false≢true h)
 
   module _ (outside : outsideAutomatic table c ≡ true) (asked : asksResponse (elsewhereOf (table .general)) (c .width) ≡ true) where
@@ -94,14 +97,18 @@ module _ (table : Table) (c : Case) (new : c .direction ≡ RespondToAutomatic) 
 
     inside-20 : (band : ℕ) (s : Segment) → isGranted (privilegedOf table c Data) ≡ true → Answered (insideSegment table c band s)
     unfolding insideSegment
-    inside-20 band s h = rw auto (go (privilegedOf table c Data) h)
+    inside-20 band s h = go (privilegedOf table c Data) (c .automatic) h auto
       where
         go :
-            (x : Privileged) → isGranted x ≡ true
-            → Answered (underPrivilege x (draftInside c band (s .range) (s .rule)) (automaticData table c band (s .range) (s .rule)))
-        go Granted h = automatic-20 band (s .range) (s .rule)
-        go Forbidden h = absurd (false≢true h)
-        go Unheld h = absurd (false≢true h)
+            (x : Privileged) (b : Bool) → isGranted x ≡ true → b ≡ true
+            → Answered
+            (underPrivilege x (draftInside c band (s .range) (s .rule))
+            (cond b (automaticData table c band (s .range) (s .rule))
+            (advised table c (c .air) (draftInside c band (s .range) (s .rule)) Permitted (s .rule))))
+        go Granted true h k = automatic-20 band (s .range) (s .rule)
+        go Granted false h k = absurd (false≢true k)
+        go Forbidden b h k = absurd (false≢true h)
+        go Unheld b h k = absurd (false≢true h)
 
     data-20 :
         (band : ℕ) (f : Found) → segmentPasses table (c .width) f ≡ true → isGranted (privilegedOf table c Data) ≡ true

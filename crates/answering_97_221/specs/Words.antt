@@ -29,7 +29,8 @@ use Rattle.entry.specs.Entry.{edgesRead}
 use Rattle.decision.specs.declared.Decision.{Decision}
 use Rattle.decision.specs.declared.Verdict.the-variants.{Blocked}
 use Rattle.decision.specs.declared.Code.the-variants.{AutomaticOriginate}
-use Rattle.part97.specs.Part97.{wider, limitFor, bandAt, privilegedOf}
+use Rattle.air.specs.Air.{wider}
+use Rattle.part97.specs.Part97.{limitFor, bandAt, privilegedOf}
 use Rattle.part97.specs.declared.Case.{Case}
 use Rattle.part97.specs.declared.Privileged.{Privileged}
 use Rattle.part97.specs.declared.Privileged.the-variants.{Granted, Forbidden, Unheld}

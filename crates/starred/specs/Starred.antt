@@ -162,7 +162,7 @@ pub record Starred : Type 0 where
 -- ---- computed
 
 -- the definitions that computing from the bytes opens: to unfold `opened` is to unfold them all
-pub opened : Unit {0}
+unfoldable pub opened : Unit {0}
 unfolding
     recordIn checkOf codedBlock miscoded soundBlock unsound bare unlimited asks soundBits soundRecord codedOf codedGeneral recordsBefore recordAt
     generalOf u16At u32At u64At firstFrom lt le eq ne neg add sub mul div ofInt ofBits decideOf unruledOf underRulesOf readyOf caseOf signalOf
