@@ -250,6 +250,6 @@ pub record FlatTexted (hz : Float) (text lent left : List ℕ) (answer : FlatTex
   pub answered : answer ≡ textFlat (textAnswer (refusalOf (textTests hz text lent)) text)
   pub bytes : left ≡ textBytes (refusalOf (textTests hz text lent)) text lent
 
--- the boundary's version, 0.5.0: 10,000 times the first number, 100 times the second, and the third
+-- the boundary's version, 0.6.0: 10,000 times the first number, 100 times the second, and the third
 abbrev pub versionNumber : ℕ
-versionNumber = 500
+versionNumber = 600

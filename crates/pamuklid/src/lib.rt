@@ -22,8 +22,8 @@ ghost use Rattle.numbers.specs.Refusal.{refusalNumber};
 ghost use Rattle.flat.specs.Flat.{stationRecordOf, stationOf, edgesOf, faultFlat, tidinessFlat, flatOf};
 ghost use Rattle.flat.specs.Flat.{ceilingFlat, FlatDialed, distanceFlat, FlatTexted, versionNumber};
 
-// The version of this boundary: 0.5.0.
-pub const VERSION: u32 = 500;
+// The version of this boundary: 0.6.0.
+pub const VERSION: u32 = 600;
 
 // The version of this boundary, that of the header: 10,000 times the first number, 100 times the second, and the third.
 #[no_mangle]

@@ -1,4 +1,5 @@
--- Laws of the definitions in Part97 that go by the first n records: one record more, and where the nearest segment stands.
+-- Laws of the definitions in Part97: of those that go by the first n records one record more, where the nearest segment stands, and on
+-- 60 m which of channel and segment is judged.
 use Prim.Native.Nat.{ℕ, zero, suc, _+_, _<_}
 use mathlib.Core.Bool.{Bool, true, false, cond, _||_}
 use mathlib.Core.Path.{_≡_, sym, ap, _∙_}
@@ -7,19 +8,25 @@ use native.Mathlib.Omega.{arith}
 use lib.ListN.{set}
 use lib.Ieee.{Float, lt}
 use Rattle.figures.specs.Figure.{totalLess}
-use Rattle.profile.specs.Range.{overlapsOf}
+use Rattle.profile.specs.Range.{holdsOf, overlapsOf, channelRangeOf}
 use Rattle.profile.specs.declared.Range.{Range}
 use Rattle.profile.specs.declared.DataLimit.{DataLimit}
 use Rattle.scan.specs.First.{onFound}
 use Rattle.scan.specs.Laws.{cond-yes, cond-not}
 use Rattle.scan.specs.declared.Found.{Found}
 use Rattle.scan.specs.declared.Found.the-variants.{At, Nothing}
+use Rattle.layout.specs.Layout.{segments}
 use Rattle.table.specs.Table.{Table}
+use Rattle.table.specs.declared.Channels.{Channels}
+use Rattle.find.specs.Question.{firstIn}
+use Rattle.find.specs.declared.Question.the-variants.{BandHolds}
+use Rattle.decision.specs.declared.Decision.{Decision}
 use Rattle.table.specs.declared.Segment.{Segment}
 use Rattle.part97.specs.declared.Case.{Case}
 use Rattle.part97.specs.declared.Nearest.{Nearest}
 use Rattle.part97.specs.declared.Nearest.the-variants.{Near, NoneNear}
 use Rattle.part97.specs.Part97.{segmentAt, limitFor, blockedTooWide, insideSegment, outsideSegments, judgeData}
+use Rattle.part97.specs.Part97.{sixtyChannel, sixtySegment, inSixtySegment, sixtyOverlap}
 use Rattle.part97.specs.Part97.{reach, notesUpTo, anyNote, nearerBy, considered, nearestUpTo}
 
 pub notes-more : (note : ℕ → Bool) (n : ℕ) → notesUpTo note (n + 1) ≡ cond (note n) (set (notesUpTo note n) n 1) (notesUpTo note n)
@@ -86,3 +93,28 @@ module _ (table : Table) (c : Case) (band : ℕ) (found : Found) where
   judge-outside f limit e t =
       ap (λ (x : Found). onFound x (λ k. insideSegment table c band (segmentAt table k)) (outsideSegments table c band)) (sym f)
       ∙ sym (cond-not _ _ (ap (λ (d : DataLimit). lt (d .«max_bandwidth_hz») (c .width)) (sym e) ∙ t))
+
+-- ---- 60 m: an overlapping channel, and the segment
+
+module _ (table : Table) (c : Case) (ch : Channels) (centre : Float) where
+  abbrev overlapped : Bool → Decision
+  overlapped b = cond b (sixtyChannel c ch centre) (inSixtySegment table c ch (sixtyChannel c ch centre))
+
+  abbrev chosen : Found → Decision
+  chosen f = onFound f (λ i. sixtySegment table c (ch .band) (segmentAt table i)) (sixtyChannel c ch centre)
+
+  pub overlap-held : holdsOf (channelRangeOf (ch .«width_hz») centre) (c .guarded) ≡ true → sixtyChannel c ch centre ≡ sixtyOverlap table c ch centre
+  unfolding sixtyOverlap
+  overlap-held h = sym (ap overlapped h)
+
+  module _ (h : holdsOf (channelRangeOf (ch .«width_hz») centre) (c .guarded) ≡ false) where
+    pub overlap-segment :
+        (i : ℕ) → firstIn table segments (BandHolds (ch .band) (c .guarded)) ≡ At i
+        → sixtySegment table c (ch .band) (segmentAt table i) ≡ sixtyOverlap table c ch centre
+    unfolding sixtyOverlap
+    overlap-segment i f = sym (ap overlapped h ∙ ap chosen f)
+
+    pub overlap-channel :
+        firstIn table segments (BandHolds (ch .band) (c .guarded)) ≡ Nothing → sixtyChannel c ch centre ≡ sixtyOverlap table c ch centre
+    unfolding sixtyOverlap
+    overlap-channel f = sym (ap overlapped h ∙ ap chosen f)

@@ -147,11 +147,7 @@ fn sixty_overlap(s: &[u8], g: General, c: Case, ch: Channels, centre: f64) -> Fi
     if profile::channel_range(ch.width_hz, centre).holds(guarded) {
         return sixty_channel(c, ch, centre);
     }
-    match find::pick_in(
-        s,
-        layout::SEGMENTS,
-        Question::BandHolds(ch.band, guarded),
-    ) {
+    match find::pick_in(s, layout::SEGMENTS, Question::BandHolds(ch.band, guarded)) {
         Pick::Picked(k, segment) => sixty_segment(g, c, ch.band, table::segment_of(segment)),
         Pick::Missing => sixty_channel(c, ch, centre),
     }
