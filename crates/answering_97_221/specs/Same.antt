@@ -130,7 +130,8 @@ module _ (table : Table) (c : Case) where
   elsewhere-judged draft (Under e) = refl
   elsewhere-judged draft Nowhere = refl
 
-  automatic-same : (band : ℕ) (segment : Range) (rule : ℕ) → automaticData table answering band segment rule ≡ automaticData table calling band segment rule
+  automatic-same : (band : ℕ) (segment : Range) (rule : ℕ)
+      → automaticData table answering band segment rule ≡ automaticData table calling band segment rule
   unfolding automaticData draftInside draftAutomatic advised adviceWarns adviceOf noted guidanceOf wantsPlan
   automatic-same band segment rule =
       ap
@@ -252,7 +253,8 @@ module _ (table : Table) (s : Situation) (kind : EmissionKind) (audio : Range) (
       (λ sideband. withDial dial (Missing NoDial noRule) (λ hz. Met (caseOf s control class sideband hz kind direction audio)))
 
   at-sideband : (control : ControlMode) (class : LicenseClass) (set : SidebandSet) (dial : Figure)
-      → judgedOf table signal (fromSideband RespondToAutomatic control class set dial) ≡ judgedOf table signal (fromSideband Originate control class set dial)
+      → judgedOf table signal (fromSideband RespondToAutomatic control class set dial)
+      ≡ judgedOf table signal (fromSideband Originate control class set dial)
   at-sideband control class (SidebandIs sideband) dial = at-dial control class sideband dial
   at-sideband control class SidebandAbsent dial = refl
 
