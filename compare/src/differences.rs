@@ -273,6 +273,9 @@ fn believed(run: &mut Run) {
     verdict(&mut a, "10: originating", 30.0, in_segment(BLOCKED, 20, 8));
     a.direction = 1;
     verdict(&mut a, "10: any Respond is believed", 30.0, in_segment(LEGAL, 21, 8));
+    a.direction = 3;
+    verdict(&mut a, "10: respond to automatic", 30.0, in_segment(BLOCKED, 20, 8));
+    list(&mut a, "10: respond to automatic, no row", &[]);
 
     let mut a = on(run, sixty(), 0.0, SHORT);
     (a.s.power_known, a.s.power_w) = (1, 100.0);
