@@ -67,7 +67,8 @@ use Rattle.part97.specs.declared.Case.{Case}
 use Rattle.part97.specs.declared.Nearest.{Nearest}
 use Rattle.part97.specs.Part97.{draftOf, draftInside, draftAutomatic, privilegedOf, noted, wantsPlan, guidanceOf, adviceOf, adviceWarns, advised}
 use Rattle.part97.specs.Part97.{automaticElsewhere, automaticData, considered, nearestUpTo, outsideSegments, insideSegment, judgeData}
-use Rattle.part97.specs.Part97.{sixtyChannel, inSixtySegment, sixtySegment, sixtyOverlap, sixtyPlace, sixtyEmission, sixtyKind, sixty, judgeOnBand, judgeInBand, touching, judge}
+use Rattle.part97.specs.Part97.{sixtyChannel, inSixtySegment, sixtySegment, sixtyOverlap, sixtyPlace, sixtyEmission, sixtyKind, sixty, judgeOnBand}
+use Rattle.part97.specs.Part97.{judgeInBand, touching, judge}
 use Rattle.part97.specs.Part97.{bandAt, segmentAt, limitFor, blockedTooWide, overshootOf, onNearest, offSixty, somePrivilege, underPrivilege}
 use Rattle.part97.specs.Part97.{advisedAutomatic, automaticRule, exceeds, channelWatts, allowedOnSixty, onChannel}
 use Rattle.verdict.specs.Verdict.{signalOf, caseOf, withControl, withLicense, withSideband, withDial, readyOf, judgedOf, underRulesOf, decideOf}

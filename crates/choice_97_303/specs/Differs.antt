@@ -35,9 +35,11 @@ use Rattle.decision.specs.declared.SixtyNotes.{SixtyNotes}
 use Rattle.decision.specs.declared.Verdict.{Verdict}
 use Rattle.decision.specs.declared.Verdict.the-variants.{Legal, Warning, Blocked}
 use Rattle.decision.specs.declared.Code.{Code}
-use Rattle.decision.specs.declared.Code.the-variants.{Privilege, OutOfBand, AutomaticExcluded, TooWide, SixtyEmission, SixtyOffChannel, SixtyChannel, SixtySegment}
+use Rattle.decision.specs.declared.Code.the-variants.{Privilege, OutOfBand, AutomaticExcluded, TooWide, SixtyEmission, SixtyOffChannel, SixtyChannel}
+use Rattle.decision.specs.declared.Code.the-variants.{SixtySegment}
 use Rattle.part97.specs.Part97.{bandAt, segmentAt, draftOf, draftInside, somePrivilege, generalLimit, exceeds, channelWatts, segmentWatts, isData}
-use Rattle.part97.specs.Part97.{cwOnChannel, sameSideband, dataOnChannel, onChannel, allowedOnSixty, warned, sixtyChannel, sixtySegment, inSixtySegment, sixtyOverlap, sixtyPlace}
+use Rattle.part97.specs.Part97.{cwOnChannel, sameSideband, dataOnChannel, onChannel, allowedOnSixty, warned, sixtyChannel, sixtySegment}
+use Rattle.part97.specs.Part97.{inSixtySegment, sixtyOverlap, sixtyPlace}
 use Rattle.part97.specs.Part97.{sixtyEmission, sixtyKind, sixty, judgeOnBand, judgeInBand, touching, judge}
 use Rattle.part97.specs.declared.Case.{Case}
 use Rattle.air.specs.Air.{wider}
