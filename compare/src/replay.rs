@@ -59,6 +59,8 @@ struct List {
     seen: BTreeSet<(u8, u8, u8)>,
     /// How often each thing worth having is there.
     have: BTreeMap<(u8, u16, u16, u16), u32>,
+    /// How many answers of each kind document 02, 4 changed.
+    changed: BTreeMap<Key, u32>,
 }
 
 impl List {
@@ -70,6 +72,10 @@ impl List {
         }
         *n += 1;
         true
+    }
+
+    fn changes(&mut self, key: Key) {
+        *self.changed.entry(key).or_default() += 1;
     }
 }
 
@@ -162,13 +168,16 @@ impl<'a> Page<'a> {
         e: &Edges,
         most: u32,
     ) {
-        let d = run.verdict(self.image, self.p, s, kind, direction, e);
-        let shape = u16::from(d.overshoot * 2 + d.edge) * 4 + u16::from(d.guidance);
-        let code = u16::from(d.code) * 4 + u16::from(d.verdict);
-        let (key, most) = match (d.refusal, d.code) {
+        let (d, change) = run.judged(self.image, self.p, s, kind, direction, e);
+        // taken by the Rust's answer, so that a changed one stands where it stood
+        let was = change.map_or(d, |change| change.was);
+        let shape = u16::from(was.overshoot * 2 + was.edge) * 4 + u16::from(was.guidance);
+        let code = u16::from(was.code) * 4 + u16::from(was.verdict);
+        let (key, most) = match (was.refusal, was.code) {
             (0, 1..=9) => ((1, code, 0, 0), most),
             (0, _) => {
-                ((1, code, shape, u16::from(kind) * 2 + u16::from(d.notes.contains(&1))), most * 2)
+                let marked = was.notes.contains(&1);
+                ((1, code, shape, u16::from(kind) * 2 + u16::from(marked)), most * 2)
             }
             (r, _) => ((2, u16::from(r), 0, 0), most / 2),
         };
