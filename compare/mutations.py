@@ -751,8 +751,8 @@ for name, top in [("control", 2), ("license", 4), ("sideband", 1)]:
 for name in ["band_plan", "dial_known", "power_known"]:
     at(E, "&& s.%s <= 1" % name, "&& s.%s <= 2" % name)
     at(E, "&& s.%s <= 1" % name, "")
-at(E, "&& direction <= 2", "&& direction <= 3")
-at(E, "&& direction <= 2", "&& (direction <= 2 || direction == 255)")
+at(E, "&& direction <= 3", "&& direction <= 4")
+at(E, "&& direction <= 3", "&& (direction <= 3 || direction == 255)")
 at(E, "&& kind <= 3;", "&& kind <= 4;")
 at(E, "&& kind <= 3;", "&& (kind <= 3 || kind == 255);")
 at(E, "    if out_of_size(s.margin_hz) {\n        return 21;\n    }\n", "")
@@ -1013,3 +1013,14 @@ at(S, COPY, COPY + "    if room > bytes.len() { lent[bytes.len()] = 0; }\n")
 at(S, COPY, COPY + "    if room > 17 { lent[17] ^= 1; }\n")
 at(S, "    if expect::text_refused(bytes.len(), room) {\n", "    if expect::text_refused(bytes.len(), room) {\n        if room > 0 { unsafe { *text = bytes[0] } }\n")
 at(S, "Text { length: bytes.len() as u32, refusal: 0 }", "Text { length: room as u32, refusal: 0 }")
+
+# --------------------------------------------------------------------- respond to automatic
+THREE = "        0 | 3 => rust::Direction::Originate,\n        1 => rust::Direction::Respond,\n"
+at(A, THREE, "        0 => rust::Direction::Originate,\n        1 | 3 => rust::Direction::Respond,\n")
+at(A, THREE, "        0 => rust::Direction::Originate,\n        1 => rust::Direction::Respond,\n")
+RESPOND = "direction_of(if direction == 3 { 1 } else { direction })"
+at(A, "        direction: direction_of(direction),\n", "        direction: %s,\n" % RESPOND)
+at(A, "&air, direction_of(direction), &|i|", "&air, %s, &|i|" % RESPOND)
+at(A, "edges(e), direction_of(direction));", "edges(e), %s);" % RESPOND)
+at(E, "&& direction <= 3", "&& direction <= 2")
+at(E, "&& direction <= 3", "&& (direction <= 2 || (direction == 3 && s.control == 2))")

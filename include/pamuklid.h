@@ -8,8 +8,8 @@
  *
  * An image, rungs and floor bytes are lent as a pointer and a count of elements. They are only read,
  * during the call, and no byte of them changes. Dial rows and texts are lent to be written: see
- * pamuklid_safe_dials and pamuklid_text_at. With a count of 0 a pointer is not followed, but pass one that is not null.
- * Lent rows may not overlap what else is lent to the same call.
+ * pamuklid_safe_dials and pamuklid_text_at. With a count of 0 a pointer is not followed, but pass one
+ * that is not null. Lent rows may not overlap what else is lent to the same call.
  *
  * Structs go by value. Their sizes and offsets are checked below when this header is compiled (C11 or
  * C++11 on); whether the library is of the header's version is asked once, as the program starts:
@@ -28,8 +28,8 @@
 extern "C" {
 #endif
 
-/* The version of this header, 0.4.0: major * 10000 + minor * 100 + patch. */
-#define PAMUKLID_VERSION 400
+/* The version of this header, 0.5.0: major * 10000 + minor * 100 + patch. */
+#define PAMUKLID_VERSION 500
 
 /* Refusals, by number. A call that is refused has answered nothing: send nothing. */
 #define PAMUKLID_ACCEPTED 0                 /* none: the image is accepted, the call was answered */
@@ -60,8 +60,8 @@ extern "C" {
 #define PAMUKLID_REFUSAL_NO_IMAGE 22        /* PAMUKLID_POLICY_RULES and an image of no bytes */
 #define PAMUKLID_REFUSAL_ROWS 23            /* a dial list longer than the whole rows lent */
 #define PAMUKLID_REFUSAL_TEXT 24            /* a text longer than the bytes lent */
-/* They are looked for in the order 20, 21, 22, 1 to 14, 15, 16, 23, 24, each over the whole input before the
- * next; 22 and 1 to 14 with PAMUKLID_POLICY_RULES only, except by the calls that are about the image
+/* They are looked for in the order 20, 21, 22, 1 to 14, 15, 16, 23, 24, each over the whole input before
+ * the next; 22 and 1 to 14 with PAMUKLID_POLICY_RULES only, except by the calls that are about the image
  * alone (pamuklid_check, pamuklid_tidy, pamuklid_fault_of), which have 1 to 14 always. */
 
 /* pamuklid_station: policy */
@@ -95,10 +95,16 @@ extern "C" {
 #define PAMUKLID_KIND_TEST 2
 #define PAMUKLID_KIND_NOTHING 3
 
-/* direction: who begins. Automatic control (97.221) is judged for the first two only. */
-#define PAMUKLID_DIRECTION_ORIGINATE 0 /* this station calls */
-#define PAMUKLID_DIRECTION_RESPOND 1   /* it answers */
-#define PAMUKLID_DIRECTION_OPERATOR 2  /* an operator acts */
+/* direction: who begins, and who is answered. A station under automatic control is judged by 97.221 in
+ * every direction but the operator's. Outside the automatic segments 97.221(c) lets it answer a station
+ * under local or remote control; it does not cover an answer to one that is itself under automatic control.
+ * Which of the two is answered is taken on the caller's word: PAMUKLID_DIRECTION_RESPOND only where it is
+ * known that an operator controls the other station. */
+#define PAMUKLID_DIRECTION_ORIGINATE 0            /* this station calls */
+#define PAMUKLID_DIRECTION_RESPOND 1              /* it answers a station under local or remote control */
+#define PAMUKLID_DIRECTION_OPERATOR 2             /* an operator acts */
+#define PAMUKLID_DIRECTION_RESPOND_TO_AUTOMATIC 3 /* it answers a station under automatic control; judged
+                                                     as PAMUKLID_DIRECTION_ORIGINATE is */
 
 /* The station. Negative zero in a figure reads as zero. */
 typedef struct {
@@ -150,7 +156,8 @@ typedef struct {
 #define PAMUKLID_CODE_AUTOMATIC_SEGMENT 17    /* legal or a warning: inside an automatic segment */
 #define PAMUKLID_CODE_AUTOMATIC_OUTSIDE 18    /* blocked: outside them, and no rule for elsewhere */
 #define PAMUKLID_CODE_AUTOMATIC_BANDWIDTH 19  /* blocked: outside them, too wide for elsewhere */
-#define PAMUKLID_CODE_AUTOMATIC_ORIGINATE 20  /* blocked: outside them, and not in answer */
+#define PAMUKLID_CODE_AUTOMATIC_ORIGINATE 20  /* blocked: outside them, and not in answer to a station
+                                                 under local or remote control */
 #define PAMUKLID_CODE_AUTOMATIC_RESPONSE 21   /* legal or a warning: outside them, by the rule for elsewhere */
 #define PAMUKLID_CODE_SIXTY_EMISSION 22       /* blocked: not an emission for 60 m */
 #define PAMUKLID_CODE_SIXTY_OFF_CHANNEL 23    /* blocked: on no channel of 60 m, and not in its segment */
@@ -286,7 +293,8 @@ typedef struct {
 /* A text's answer. */
 typedef struct {
     uint32_t length;         /* the bytes that were written, 1 to PAMUKLID_MOST_TEXT; 0 on a refusal */
-    uint8_t refusal;         /* PAMUKLID_ACCEPTED; PAMUKLID_REFUSAL_STATION_FIGURE or PAMUKLID_REFUSAL_TEXT */
+    uint8_t refusal;         /* PAMUKLID_ACCEPTED; PAMUKLID_REFUSAL_STATION_FIGURE or
+                                PAMUKLID_REFUSAL_TEXT */
 } pamuklid_text;
 
 /* An image: its least and its most bytes, those of its general block, of each record and of its trailer, the
@@ -349,8 +357,9 @@ pamuklid_fault pamuklid_fault_of(const uint8_t *image, size_t n);
  * the same; list and verdict may then differ. Reads image[0] to image[n - 1]. */
 pamuklid_tidiness pamuklid_tidy(const uint8_t *image, size_t n);
 
-/* A fresh station: PAMUKLID_POLICY_UNSET, region 2, margin 50, plan off, all else absent. It permits nothing. A
- * station of zero bytes is not fresh: control, license and sideband 0 are local, Novice and upper. */
+/* A fresh station: PAMUKLID_POLICY_UNSET, region 2, margin 50, plan off, all else absent. It permits
+ * nothing. A station of zero bytes is not fresh: control, license and sideband 0 are local, Novice and
+ * upper. */
 pamuklid_station pamuklid_fresh(void);
 
 /* Judge a transmission. kind: PAMUKLID_KIND_... direction: PAMUKLID_DIRECTION_... Reads the image with
@@ -405,16 +414,18 @@ pamuklid_distance pamuklid_distance_of(double dial_hz, uint8_t flags, uint8_t ch
 /* The text of a frequency in kilohertz with three decimals, for a panel or a log: 14097700 is "14097.700".
  * The digits are those of hz / 1000, a double, by its exact value, to the nearest thousandth, a half to the
  * even one; a sign "-" is written wherever hz has one, of a zero too.
- * text[0] to text[length - 1] are written, ASCII, with no unit and no byte 0 after them; bytes past them stay as
- * lent, and on a refusal all do. PAMUKLID_MOST_TEXT bytes have room for every text. Refusals: 21 (hz not finite
- * or above 2^43, 8796093022208, in size), 24 (room too small). */
+ * text[0] to text[length - 1] are written, ASCII, with no unit and no byte 0 after them; bytes past them
+ * stay as lent, and on a refusal all do. PAMUKLID_MOST_TEXT bytes have room for every text. Refusals: 21
+ * (hz not finite or above 2^43, 8796093022208, in size), 24 (room too small). */
 pamuklid_text pamuklid_text_at(double hz, uint8_t *text, size_t room);
 
-/* The same with as many decimals as it needs: none where hz / 1000 is within a millionth of a whole number, one
- * where ten times it is, else three. 14100000 is "14100", 14097700 "14097.7", 14097750 "14097.750". */
+/* The same with as many decimals as it needs: none where hz / 1000 is within a millionth of a whole
+ * number, one where ten times it is, else three. 14100000 is "14100", 14097700 "14097.7", 14097750
+ * "14097.750". */
 pamuklid_text pamuklid_text_khz(double hz, uint8_t *text, size_t room);
 
-/* The text of a figure in whole hertz: 2300.5 is "2300", -0.5 "-0". Bytes and refusals as pamuklid_text_at. */
+/* The text of a figure in whole hertz: 2300.5 is "2300", -0.5 "-0". Bytes and refusals as
+ * pamuklid_text_at. */
 pamuklid_text pamuklid_text_hertz(double hz, uint8_t *text, size_t room);
 
 #ifdef __cplusplus

@@ -320,9 +320,11 @@ fn kind_of(kind: u8) -> rust::EmissionKind {
     }
 }
 
+/// The Rust has no direction 3, "respond to automatic". It is judged as automatic, and "the elsewhere
+/// rule counts only a plain Respond" (document 02): so Originate's answers are those of 3.
 fn direction_of(direction: u8) -> rust::Direction {
     match direction {
-        0 => rust::Direction::Originate,
+        0 | 3 => rust::Direction::Originate,
         1 => rust::Direction::Respond,
         _ => rust::Direction::Operator,
     }

@@ -46,6 +46,15 @@ pub fn spoil_code(rng: &mut Rng, code: &mut u8) {
     *code = odd_code(rng);
 }
 
+/// A direction outside its values, or 2. 3, which was outside until it became "respond to automatic", is 4
+/// here, so that a seed's refused cases stay refused.
+pub fn spoil_direction(rng: &mut Rng, direction: &mut u8) {
+    *direction = match odd_code(rng) {
+        3 => 4,
+        code => code,
+    };
+}
+
 pub fn spoil_edges(rng: &mut Rng, e: &mut Edges) {
     let mut f = e.figures();
     f[rng.below(4)] = odd_figure(rng);

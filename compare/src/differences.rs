@@ -299,6 +299,9 @@ fn believed(run: &mut Run) {
     verdict(&mut a, "10: originating", 30.0, in_segment(BLOCKED, 20, 8));
     a.direction = 1;
     verdict(&mut a, "10: any Respond is believed", 30.0, in_segment(LEGAL, 21, 8));
+    a.direction = 3;
+    verdict(&mut a, "10: respond to automatic", 30.0, in_segment(BLOCKED, 20, 8));
+    list(&mut a, "10: respond to automatic, no row", &[]);
 
     let mut a = on(run, sixty(), 0.0, SHORT);
     (a.s.power_known, a.s.power_w) = (1, 100.0);
@@ -453,7 +456,7 @@ fn demand_3(run: &mut Run) {
 }
 
 /// "Sixty" with its channel at 50 instead of 90, inside the segment 20–80: 45–55, its carrier 48.
-fn fifty() -> Table {
+pub fn fifty() -> Table {
     let mut t = sixty();
     t.tables[CHANNELS][0] = centre(50.0);
     t
@@ -491,11 +494,19 @@ fn brushed(run: &mut Run) {
     a.table.tables[PRIVILEGES][0].low = 40.125;
     let want = answer(BLOCKED, 15, 1, SHORT, air).band(1);
     verdict(&mut a, "20: the privilege comes before", 40.0, want);
-    a.table.tables[PRIVILEGES][0].low = 0.0;
+    // it holds the signal, 40–43, not the guarded range, 38–45
+    (a.table.tables[PRIVILEGES][0].low, a.s.margin_hz, a.edges) = (40.0, 2.0, (0.0, 3.0));
+    let short = (40.0, 43.0);
+    let (old, new) = (by_channel(BLOCKED, a.edges, short), by_segment(LEGAL, a.edges, short));
+    changed(&mut a, "20: the privilege holds the signal alone", 40.0, old, new);
+    (a.table.tables[PRIVILEGES][0].low, a.s.margin_hz, a.edges) = (0.0, 0.0, SHORT);
     a.table.flags |= HAS_EMISSIONS;
     (a.table.emissions, a.table.rules[4]) = (2, 11);
     let want = answer(BLOCKED, 22, 11, SHORT, air).band(1);
     verdict(&mut a, "20: the emission test comes before", 40.0, want);
+    a.table.tables[EXCLUDED].push(Record { band: 1, rule: 20, ..Record::default() });
+    let want = answer(BLOCKED, 11, 20, SHORT, air).band(1);
+    verdict(&mut a, "20: an excluded band comes before", 40.0, want);
 
     let mut a = on(run, fifty(), 0.0, SHORT);
     a.s.power_known = 1;

@@ -225,7 +225,8 @@ pub fn tidy(table: &Table) -> bool {
 /// "Station codes: policy 0 unset, 1 none, 2 rules, 3 broken; control 0 local, 1 remote,
 /// 2 automatic; sideband 0 upper, 1 lower; direction 0 originate, 1 respond, 2 operator; kinds as
 /// emission bits; 255 for an absent control, licence or sideband. The plan mark is 0 or 1. Dial and
-/// power have a presence byte 0 or 1; at 0 the figure isn't looked at."
+/// power have a presence byte 0 or 1; at 0 the figure isn't looked at." Document 02: "The direction
+/// gains the value 3, 'respond to automatic'".
 pub fn station_refusal(s: &Station, direction: u8, kind: u8) -> u8 {
     let codes_right = s.policy <= 3
         && (s.control <= 2 || s.control == 255)
@@ -234,7 +235,7 @@ pub fn station_refusal(s: &Station, direction: u8, kind: u8) -> u8 {
         && s.band_plan <= 1
         && s.dial_known <= 1
         && s.power_known <= 1
-        && direction <= 2
+        && direction <= 3
         && kind <= 3;
     if !codes_right {
         return 20;

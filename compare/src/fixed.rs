@@ -1,7 +1,7 @@
 //! Cases with answers that document 01 states or that were worked out from it by hand: its practice
-//! table, places where a table is wrong, the nearest segment, and the differences (differences.rs). Both
-//! sides are run on them as on every other case, and the code, the verdict and what else is stated must
-//! be the one that stands here.
+//! table, answers to another robot (document 02), places where a table is wrong, the nearest segment, and
+//! the differences (differences.rs). Both sides are run on them as on every other case, and the code, the
+//! verdict and what else is stated must be the one that stands here.
 
 use std::process::exit;
 
@@ -176,6 +176,7 @@ pub fn asked(
 
 pub fn run(run: &mut Run) {
     document_01(run);
+    another_robot(run);
     faults(run);
     nearest(run);
     differences::run(run);
@@ -239,6 +240,57 @@ fn document_01(run: &mut Run) {
     if c.rung.is_some() || c.limit.is_some() {
         wrong("No rungs: neither", &format!("{:?}", c.rung));
     }
+}
+
+/// "The direction gains the value 3, 'respond to automatic', and the elsewhere rule counts only a plain
+/// Respond, in verdicts, ceiling and dial list alike" (document 02, 3), on the practice table.
+fn another_robot(run: &mut Run) {
+    let mut a = asked(run, practice(), 2, 2, 50.0, (1250.0, 1750.0));
+    a.s.control = 2;
+    for (direction, verdict, code) in [(0, 2, 20), (1, 0, 21), (2, 0, 16), (3, 2, 20)] {
+        a.direction = direction;
+        a.gives("14,098,000, outside automatic segments", 14_098_000.0, verdict, code);
+    }
+    a.gives("14,097,700, inside one", 14_097_700.0, 0, 17);
+    a.gives("14,148,500 beyond the segment", 14_148_500.0, 2, 13);
+    a.edges = (1250.0, 1750.125);
+    a.gives("wider than elsewhere", 14_098_000.0, 2, 19);
+    a.edges = (1250.0, 1750.0);
+    let rows = [(14_093_800.0, 14_097_700.0), (14_099_300.0, 14_110_200.0)];
+    a.lists("the automatic segments alone", &rows);
+    // rung 0 ends at the segment's end with its margin, rung 1 is 50 longer
+    let pair = |high: f64| [1250.0, high, 1250.0, high];
+    let image = a.table.encode();
+    let p = a.run.image(&image);
+    let l = Ladder {
+        ordinary: Edges::of(pair(1700.0)),
+        floor: Edges::of(pair(1700.0)),
+        rungs: [pair(1700.0), pair(1750.0)].concat(),
+        floors: vec![0, 0],
+    };
+    a.s.dial_hz = 14_097_750.0;
+    for (direction, rung, limit) in [(0, 0, Some(20)), (1, 1, None), (2, 1, None), (3, 0, Some(20))]
+    {
+        let c = a.run.ceiling(&image, &p, &a.s, direction, &l);
+        if (c.rung, c.limit.map(|d| d.code)) != (Some(rung), limit) {
+            wrong("a ceiling by direction", &format!("{direction}: {:?}", c.rung));
+        }
+    }
+    let e = a.edges();
+    for direction in 4..=255 {
+        let d = a.run.verdict(&image, &p, &a.s, 0, direction, &e);
+        let c = a.run.ceiling(&image, &p, &a.s, direction, &l);
+        let found = a.run.dials(&image, &p, &a.s, direction, &e, Room::Rows(4), 0);
+        if (d.refusal, c.refusal, found.refusal) != (20, 20, 20) {
+            wrong("no such direction: 20", &direction.to_string());
+        }
+    }
+    // local control: 3 changes nothing
+    (a.direction, a.s.control) = (3, 0);
+    a.gives("local control", 14_098_000.0, 0, 16);
+    a.gives("a channel", 5_330_550.0, 0, 24);
+    a.s.control = 2;
+    a.gives("a channel, automatic control", 5_330_550.0, 0, 24);
 }
 
 /// Where the practice table is wrong, once it is spoilt in one place or two: the refusal, the place, the

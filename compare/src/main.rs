@@ -1,13 +1,15 @@
 //! Runs the Rust, unchanged, beside the proved library, and compares every part of every answer.
 //!
-//!     pamuklid-compare [--verdicts N] [--ceilings N] [--dials N] [--texts N] [--seed S] [--few]
-//!                      [--brief]
+//!     pamuklid-compare [--verdicts N] [--ceilings N] [--dials N] [--texts N] [--direction D]
+//!                      [--seed S] [--few] [--brief]
 //!     pamuklid-compare --replay FILE [--seed S]
 //!
 //! Exit 0: no difference, and everything that can be reached was; 1: a difference, printed with all
 //! its inputs and then made smaller; 2: wrong arguments; 3: no difference, but something was never
-//! reached. With --few, for a run of few cases, what was not reached is counted and 3 doesn't happen;
-//! with --brief neither, and a difference is one line: for mutate.py.
+//! reached. With --direction every drawn case has that direction (but for values outside, which are
+//! refused), and so many of each call are drawn besides the fixed cases. With --few, for a run of few
+//! cases, what was not reached is counted and 3 doesn't happen; with --brief neither, and a difference
+//! is one line: for mutate.py.
 
 mod cases;
 mod compare;
@@ -40,6 +42,40 @@ use oracle::sixty::{self, Change, Climb};
 use reach::Reach;
 use tables::{Signal, World};
 
+/// The directions of drawn cases: 0 to 3 alike, or one alone. 3 takes the place of one of the others by a
+/// stream of its own, so that a seed's other draws go on as before there was a 3.
+pub struct Directions {
+    rng: Rng,
+    only: Option<u8>,
+}
+
+impl Directions {
+    fn new(only: Option<u8>) -> Self {
+        Self { rng: Rng::new(0, 0), only }
+    }
+
+    /// The stream of a world.
+    fn begin(&mut self, seed: u64, place: u64) {
+        self.rng = Rng::new(seed, place + (1 << 35));
+    }
+
+    /// The direction of a case, from one of 0 to 2 that was drawn.
+    fn turn(&mut self, drawn: u8) -> u8 {
+        match self.only {
+            Some(direction) => direction,
+            None if self.rng.below(4) == 0 => 3,
+            None => drawn,
+        }
+    }
+
+    fn spoil(&self, rng: &mut Rng, direction: &mut u8) {
+        damage::spoil_direction(rng, direction);
+        if *direction <= 3 {
+            *direction = self.only.unwrap_or(*direction);
+        }
+    }
+}
+
 /// A run: what was compared, and where it stands in its seed.
 pub struct Run {
     pub seed: u64,
@@ -55,14 +91,17 @@ pub struct Run {
     pub demand_3: (u64, u64),
     pub images: u64,
     pub refused: u64,
-    /// Verdicts and ceilings that document 02, 4 changes: no yardstick for them is the Rust.
+    /// Verdicts and ceilings that document 02, 4 changes, for which the Rust is no yardstick; and how many
+    /// of them came before the cases made for it.
     pub changed: (u64, u64),
+    pub left: (u64, u64),
     pub texts: texts::Met,
+    directions: Directions,
     brief: bool,
 }
 
 impl Run {
-    fn new(seed: u64, brief: bool) -> Self {
+    fn new(seed: u64, only: Option<u8>, brief: bool) -> Self {
         Self {
             seed,
             place: 0,
@@ -77,7 +116,9 @@ impl Run {
             images: 0,
             refused: 0,
             changed: (0, 0),
+            left: (0, 0),
             texts: texts::Met::default(),
+            directions: Directions::new(only),
             brief,
         }
     }
@@ -160,9 +201,11 @@ impl Run {
         if d.refusal == 0 {
             self.verdicts += 1;
             self.reach.decision(&d, kind);
+            self.reach.verdict_by_direction(&d, s, direction);
         } else {
             self.refused += 1;
             self.reach.count("verdict refused", u16::from(d.refusal), 0);
+            self.reach.no_direction("no direction, verdict", direction, d.refusal);
         }
         (d, change)
     }
@@ -225,9 +268,14 @@ impl Run {
             if c.rung == Some(255) {
                 self.reach.count("ceiling at rung 255", 0, 0);
             }
+            self.reach.count("ceiling by direction", direction.into(), 0);
+            if s.control == 2 && c.limit.is_some_and(|limit| limit.code == 20) {
+                self.reach.count("ceiling limit 20 by direction", direction.into(), 0);
+            }
         } else {
             self.refused += 1;
             self.reach.count("ceiling refused", u16::from(c.refusal), 0);
+            self.reach.no_direction("no direction, ceiling", direction, c.refusal);
         }
         (c, climb)
     }
@@ -256,9 +304,18 @@ impl Run {
                 _ => 3,
             };
             self.reach.count("dial list rows", size, 0);
+            self.reach.count("dial list by direction", direction.into(), 0);
+            if s.control == 2 && s.policy == 2 {
+                self.reach.count("automatic list by direction", direction.into(), size.min(2));
+                let other = |(_, rows): (u8, Vec<u8>)| rows != found.rows;
+                if direction == 3 && adapter::safe_dials(p, s, 1, e).is_ok_and(other) {
+                    self.reach.count("list by direction, Respond's is another", 3, 0);
+                }
+            }
         } else {
             self.refused += 1;
             self.reach.count("dial list refused", u16::from(found.refusal), 0);
+            self.reach.no_direction("no direction, dial list", direction, found.refusal);
         }
         found
     }
@@ -335,11 +392,12 @@ impl Spoil {
     }
 }
 
-/// A signal and a station that sends it. Most are drawn again, up to three times, while `dull`
-/// finds nothing in them: else half of all cases would end at the first test.
+/// A signal and a station that sends it, its direction as `turn` has it. Most are drawn again, up to three
+/// times, while `dull` finds nothing in them: else half of all cases would end at the first test.
 fn draw(
     rng: &mut Rng,
     w: &World,
+    mut turn: impl FnMut(u8) -> u8,
     dull: impl Fn(&mut Rng, &Station, &Edges, u8, u8) -> bool,
 ) -> (Signal, Station, Edges, u8, u8) {
     let mut tries = 0;
@@ -348,7 +406,7 @@ fn draw(
         let s = w.station(rng, &signal);
         let e = w.edges(rng, signal.low, signal.high);
         let kind = rng.pick(&[0, 0, 0, 0, 1, 1, 2, 3]);
-        let direction = rng.below(3) as u8;
+        let direction = turn(rng.below(3) as u8);
         tries += 1;
         if tries == 4 || rng.chance(25) || !dull(rng, &s, &e, kind, direction) {
             return (signal, s, e, kind, direction);
@@ -368,9 +426,11 @@ fn or_none<'a>(
 
 fn one_verdict(run: &mut Run, rng: &mut Rng, w: &World, (image, p): (&[u8], &Prepared)) {
     let early = |d: Decision| matches!(d.code, 0 | 10) || (d.code == 15 && d.rule != 6);
-    let (_, mut s, mut e, mut kind, mut direction) = draw(rng, w, |_, s, e, kind, direction| {
-        adapter::evaluate(p, s, kind, direction, e).is_ok_and(early)
-    });
+    let turn = |drawn| run.directions.turn(drawn);
+    let (_, mut s, mut e, mut kind, mut direction) =
+        draw(rng, w, turn, |_, s, e, kind, direction| {
+            adapter::evaluate(p, s, kind, direction, e).is_ok_and(early)
+        });
     let spoil = Spoil::draw(rng);
     if spoil.station {
         damage::spoil_station(rng, &mut s);
@@ -379,7 +439,7 @@ fn one_verdict(run: &mut Run, rng: &mut Rng, w: &World, (image, p): (&[u8], &Pre
         if rng.chance(50) {
             damage::spoil_code(rng, &mut kind);
         } else {
-            damage::spoil_code(rng, &mut direction);
+            run.directions.spoil(rng, &mut direction);
         }
     }
     if spoil.edges {
@@ -392,7 +452,8 @@ fn one_verdict(run: &mut Run, rng: &mut Rng, w: &World, (image, p): (&[u8], &Pre
 }
 
 fn one_ceiling(run: &mut Run, rng: &mut Rng, w: &World, (image, p): (&[u8], &Prepared)) {
-    let (signal, mut s, _, _, mut direction) = draw(rng, w, |_, s, e, _, direction| {
+    let turn = |drawn| run.directions.turn(drawn);
+    let (signal, mut s, _, _, mut direction) = draw(rng, w, turn, |_, s, e, _, direction| {
         adapter::evaluate(p, s, 0, direction, e).is_ok_and(|d| d.verdict == 2)
     });
     let mut l = cases::ladder(rng, w, &signal);
@@ -401,7 +462,7 @@ fn one_ceiling(run: &mut Run, rng: &mut Rng, w: &World, (image, p): (&[u8], &Pre
         damage::spoil_station(rng, &mut s);
     }
     if spoil.code {
-        damage::spoil_code(rng, &mut direction);
+        run.directions.spoil(rng, &mut direction);
     }
     if spoil.edges || rng.chance(3) {
         for _ in 0..1 + rng.below(2) {
@@ -412,7 +473,8 @@ fn one_ceiling(run: &mut Run, rng: &mut Rng, w: &World, (image, p): (&[u8], &Pre
 }
 
 fn one_list(run: &mut Run, rng: &mut Rng, w: &World, (image, p): (&[u8], &Prepared)) {
-    let (_, mut s, mut e, _, mut direction) = draw(rng, w, |_, s, e, _, direction| {
+    let turn = |drawn| run.directions.turn(drawn);
+    let (_, mut s, mut e, _, mut direction) = draw(rng, w, turn, |_, s, e, _, direction| {
         adapter::safe_dials(p, s, direction, e).is_ok_and(|(_, rows)| rows.is_empty())
     });
     let spoil = Spoil::draw(rng);
@@ -420,7 +482,7 @@ fn one_list(run: &mut Run, rng: &mut Rng, w: &World, (image, p): (&[u8], &Prepar
         damage::spoil_station(rng, &mut s);
     }
     if spoil.code {
-        damage::spoil_code(rng, &mut direction);
+        run.directions.spoil(rng, &mut direction);
     }
     if spoil.edges {
         damage::spoil_edges(rng, &mut e);
@@ -435,6 +497,7 @@ fn one_list(run: &mut Run, rng: &mut Rng, w: &World, (image, p): (&[u8], &Prepar
 /// Document 02, 4, channel against segment, behind all other cases: stated ones, then tables made for it by a
 /// stream of their own, most of whose cases it changes. A fiftieth of the verdicts and of the ceilings.
 fn brushes(run: &mut Run, wanted: &Wanted) {
+    run.left = run.changed;
     differences::changes(run);
     let (verdicts, ceilings) =
         (run.verdicts + wanted.verdicts / 50, run.ceilings + wanted.ceilings / 50);
@@ -443,7 +506,8 @@ fn brushes(run: &mut Run, wanted: &Wanted) {
     };
     while run.verdicts < verdicts || run.ceilings < ceilings {
         run.place += 1;
-        let rng = &mut Rng::new(run.seed, run.place + (1 << 34));
+        let rng = &mut Rng::new(run.seed, run.place + (1 << 36));
+        run.directions.begin(run.seed, run.place);
         let w = tables::brush(rng);
         let p = run.image(&w.image);
         if p.refusal != 0 {
@@ -451,13 +515,15 @@ fn brushes(run: &mut Run, wanted: &Wanted) {
             continue;
         }
         for _ in 0..20 {
+            let turn = |drawn| run.directions.turn(drawn);
             let (_, s, e, kind, direction) =
-                draw(rng, &w, |_, s, e, kind, direction| !changes(&p, s, kind, direction, e));
+                draw(rng, &w, turn, |_, s, e, kind, direction| !changes(&p, s, kind, direction, e));
             run.verdict(&w.image, &p, &s, kind, direction, &e);
         }
         for _ in 0..2 {
+            let turn = |drawn| run.directions.turn(drawn);
             let (signal, s, _, _, direction) =
-                draw(rng, &w, |_, s, e, _, direction| !changes(&p, s, 0, direction, e));
+                draw(rng, &w, turn, |_, s, e, _, direction| !changes(&p, s, 0, direction, e));
             let l = cases::ladder(rng, &w, &signal);
             run.ceiling(&w.image, &p, &s, direction, &l);
         }
@@ -488,6 +554,17 @@ fn run_all(run: &mut Run, wanted: &Wanted) {
     texts::fixed(run);
     texts::run(run, wanted.texts);
     let none = run.image(&[]);
+    // of one direction alone as many are drawn: the fixed cases have theirs
+    let fixed = match run.directions.only {
+        Some(_) => (run.verdicts, run.ceilings, run.dials),
+        None => (0, 0, 0),
+    };
+    let wanted = Wanted {
+        verdicts: wanted.verdicts + fixed.0,
+        ceilings: wanted.ceilings + fixed.1,
+        dials: wanted.dials + fixed.2,
+        ..*wanted
+    };
     // verdicts, ceilings and lists of one world, in the proportion asked for
     let worlds = (wanted.verdicts / 40).max(wanted.ceilings / 4).max(wanted.dials / 4).max(1);
     let share = |n: u64, place: u64| (n * (place + 1)).div_ceil(worlds);
@@ -503,6 +580,7 @@ fn run_all(run: &mut Run, wanted: &Wanted) {
             eprintln!("{} verdicts, {} ceilings, {} lists", run.verdicts, run.ceilings, run.dials);
         }
         let rng = &mut Rng::new(run.seed, run.place);
+        run.directions.begin(run.seed, run.place);
         let long = run.place % 20_000 == 501;
         let w = match run.place % 100 {
             _ if long => tables::long_list(rng),
@@ -527,7 +605,8 @@ fn run_all(run: &mut Run, wanted: &Wanted) {
             let e = Edges::of([0.25, 0.5, 0.25, 0.5]);
             for _ in 0..3 {
                 let (room, fill) = (Room::draw(rng), rng.next());
-                run.dials(&w.image, &p, &s, 0, &e, room, fill);
+                let direction = run.directions.turn(0);
+                run.dials(&w.image, &p, &s, direction, &e, room, fill);
             }
             continue;
         }
@@ -561,7 +640,7 @@ fn run_all(run: &mut Run, wanted: &Wanted) {
         }
         run.image(&damage::several(&mut Rng::new(run.seed, run.place + (1 << 33)), &w));
     }
-    brushes(run, wanted);
+    brushes(run, &wanted);
 }
 
 /// Every bit of the sample images turned over, one at a time: the check, the tidy question, and where
@@ -580,8 +659,8 @@ fn every_bit(run: &mut Run) {
 
 fn usage() -> ! {
     eprintln!(
-        "usage: pamuklid-compare [--verdicts N] [--ceilings N] [--dials N] [--texts N] [--seed S] \
-         [--few] [--brief]\n\
+        "usage: pamuklid-compare [--verdicts N] [--ceilings N] [--dials N] [--texts N] \
+         [--direction D] [--seed S] [--few] [--brief]\n\
          \x20      pamuklid-compare --replay FILE [--seed S]"
     );
     exit(2)
@@ -590,7 +669,7 @@ fn usage() -> ! {
 fn main() {
     let mut wanted =
         Wanted { verdicts: 1_000_000, ceilings: 100_000, dials: 100_000, texts: 10_000_000 };
-    let (mut seed, mut few, mut brief, mut replay) = (1, false, false, None);
+    let (mut seed, mut only, mut few, mut brief, mut replay) = (1, None, false, false, None);
     let mut args = std::env::args().skip(1);
     while let Some(arg) = args.next() {
         let mut number = || args.next().and_then(|n| n.parse().ok()).unwrap_or_else(|| usage());
@@ -599,6 +678,10 @@ fn main() {
             "--ceilings" => wanted.ceilings = number(),
             "--dials" => wanted.dials = number(),
             "--texts" => wanted.texts = number(),
+            "--direction" => match number() {
+                direction @ 0..=3 => only = Some(direction as u8),
+                _ => usage(),
+            },
             "--seed" => seed = number(),
             "--few" => few = true,
             "--brief" => brief = true,
@@ -606,7 +689,7 @@ fn main() {
             _ => usage(),
         }
     }
-    let mut run = Run::new(seed, brief);
+    let mut run = Run::new(seed, only, brief);
     if let Some(file) = replay {
         replay::write(&mut run, &file);
         return;
@@ -620,9 +703,20 @@ fn main() {
          {} calls refused",
         run.verdicts, run.unmeasured, run.ceilings, run.dials, run.rows, run.images, run.refused
     );
+    let by = |call| run.reach.met((call, 3, 0));
     println!(
-        "changed by document 02, 4, and held to its words: {} of the verdicts, {} of the ceilings",
-        run.changed.0, run.changed.1
+        "direction 3: {} verdicts, {} of them code 20; {} ceilings; {} dial lists, {} of them others \
+         than Respond's",
+        by("verdict by direction"),
+        by("code 20 by direction"),
+        by("ceiling by direction"),
+        by("dial list by direction"),
+        by("list by direction, Respond's is another")
+    );
+    println!(
+        "changed by document 02, 4, and held to its words: {} of the verdicts, {} of the ceilings; {} and {} \
+         of them not on tables made for it",
+        run.changed.0, run.changed.1, run.left.0, run.left.1
     );
     for (key, what) in reach::CHANGES {
         println!("  {what}: {}", run.reach.met(key));
@@ -641,7 +735,7 @@ fn main() {
         run.texts.figures, run.texts.refused
     );
     run.texts.count(&mut run.reach);
-    let missing = run.reach.missing();
+    let missing = run.reach.missing(only);
     if !brief && !few {
         run.reach.print();
     }

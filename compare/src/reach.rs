@@ -2,7 +2,7 @@
 
 use std::collections::BTreeMap;
 
-use crate::ffi::Decision;
+use crate::ffi::{Decision, Station};
 use crate::oracle::adapter::Ceiling;
 use crate::oracle::sixty::{Change, Climb};
 use crate::texts;
@@ -177,6 +177,23 @@ pub fn climb_key(now: &Ceiling, climb: &Climb) -> Key {
     ("changed ceiling", end, 0)
 }
 
+/// What each direction must meet: 0 originate, 1 respond, 2 operator, 3 respond to automatic. Code 20 is met
+/// under automatic control outside automatic segments, by what isn't a plain Respond.
+const BY_DIRECTION: [(&str, &[u16], &[u16]); 7] = [
+    ("verdict by direction", &[0, 1, 2, 3], &[0]),
+    ("code 20 by direction", &[0, 3], &[0]),
+    ("ceiling by direction", &[0, 1, 2, 3], &[0]),
+    ("ceiling limit 20 by direction", &[0, 3], &[0]),
+    ("dial list by direction", &[0, 1, 2, 3], &[0]),
+    // under automatic control: rows none, one, several
+    ("automatic list by direction", &[0, 1, 2, 3], &[0, 1, 2]),
+    ("list by direction, Respond's is another", &[3], &[0]),
+];
+
+/// Calls that must meet 20 with each direction that is none, 4 to 255.
+const NO_DIRECTION: [&str; 3] =
+    ["no direction, verdict", "no direction, ceiling", "no direction, dial list"];
+
 impl Reach {
     pub fn count(&mut self, what: &'static str, a: u16, b: u16) {
         self.add((what, a, b), 1);
@@ -223,14 +240,37 @@ impl Reach {
         }
     }
 
+    pub fn verdict_by_direction(&mut self, d: &Decision, s: &Station, direction: u8) {
+        self.count("verdict by direction", direction.into(), 0);
+        if d.code == 20 && s.control == 2 && d.automatic_known == 0 {
+            self.count("code 20 by direction", direction.into(), 0);
+        }
+    }
+
+    /// A direction that is none, and meets 20.
+    pub fn no_direction(&mut self, call: &'static str, direction: u8, refusal: u8) {
+        if direction >= 4 && refusal == 20 {
+            self.count(call, direction.into(), 0);
+        }
+    }
+
     /// How often this was reached.
     pub fn met(&self, key: Key) -> u64 {
         self.counts.get(&key).copied().unwrap_or(0)
     }
 
-    fn required() -> Vec<Key> {
+    /// `only`: the one direction that was drawn.
+    fn required(only: Option<u8>) -> Vec<Key> {
         let mut out = OTHER.to_vec();
         out.extend(CHANGES.map(|(key, _)| key));
+        for (what, directions, cases) in BY_DIRECTION {
+            for &d in directions.iter().filter(|d| only.is_none_or(|only| u16::from(only) == **d)) {
+                out.extend(cases.iter().map(|&case| (what, d, case)));
+            }
+        }
+        for call in NO_DIRECTION {
+            out.extend((4..256).map(|d| (call, d, 0)));
+        }
         for (call, numbers) in CALLS {
             out.extend(numbers.iter().map(|&n| (call, n, 0)));
         }
@@ -256,16 +296,16 @@ impl Reach {
         out
     }
 
-    pub fn missing(&self) -> Vec<Key> {
-        Self::required().into_iter().filter(|k| !self.counts.contains_key(k)).collect()
+    pub fn missing(&self, only: Option<u8>) -> Vec<Key> {
+        Self::required(only).into_iter().filter(|k| !self.counts.contains_key(k)).collect()
     }
 
-    /// Every count, except the long runs of notes and indices, of which the least is given.
+    /// Every count, except the long runs of notes, indices and directions, of which the least is given.
     pub fn print(&self) {
         let mut long: BTreeMap<(&str, u16), (u64, u64)> = BTreeMap::new();
         for (&(what, a, b), &n) in &self.counts {
             match what {
-                "note at" => {
+                _ if what == "note at" || NO_DIRECTION.contains(&what) => {
                     let e = long.entry((what, 0)).or_insert((0, u64::MAX));
                     *e = (e.0 + 1, e.1.min(n));
                 }

@@ -1,7 +1,8 @@
 //! Writes the replay list: some thousand cases with their answers, for a program of the gate that
-//! needs no Rust (crates/run_replay). Verdicts, ceilings and dial lists are the Rust's own; refusals,
-//! and the parts that the Rust has only as text, are worked out from document 01 (expect.rs); texts are
-//! the Rust's own. Every answer was compared with the linked library's on the way.
+//! needs no Rust (crates/run_replay). Verdicts, ceilings and dial lists are the Rust's own (those of
+//! direction 3, which it has not, are its Originate's; those that document 02, 4 changed are worked out from
+//! it, sixty.rs); refusals, and the parts that the Rust has only as text, are worked out from document 01
+//! (expect.rs); texts are the Rust's own. Every answer was compared with the linked library's on the way.
 //!
 //! All numbers are little-endian; f64 means its 64 bits. No padding. The list is u32 number of
 //! pages, then those:
@@ -39,15 +40,18 @@
 use std::collections::{BTreeMap, BTreeSet};
 
 use crate::cases::{self, Ladder};
-use crate::compare::Room;
+use crate::compare::{Found, Room};
 use crate::damage;
 use crate::distance::{self, Asked};
 use crate::draw::{Rng, Scale};
 use crate::expect;
 use crate::ffi::{Decision, Edges, Figures, Parts, Station, StationParts};
-use crate::oracle::adapter::{self, Prepared};
+use crate::image::{CHANNELS, SEGMENTS};
+use crate::oracle::adapter::{self, Ceiling, Prepared};
+use crate::oracle::sixty::{Change, Climb};
+use crate::reach::{self, CHANGES, Key};
 use crate::tables::{self, World};
-use crate::{Run, fixed, texts};
+use crate::{Run, differences, fixed, texts};
 
 #[derive(Default)]
 struct List {
@@ -182,12 +186,26 @@ impl<'a> Page<'a> {
             (r, _) => ((2, u16::from(r), 0, 0), most / 2),
         };
         if list.wants(key, most) {
-            let mut out = Vec::new();
-            station(&mut out, s);
-            out.extend([kind, direction]);
-            edges(&mut out, e);
-            decision(&mut out, &d);
-            self.add(list, (1, d.refusal, d.code), &out);
+            self.add_verdict(list, s, (kind, direction), e, &(d, change));
+        }
+    }
+
+    fn add_verdict(
+        &mut self,
+        list: &mut List,
+        s: &Station,
+        (kind, direction): (u8, u8),
+        e: &Edges,
+        (d, change): &(Decision, Option<Change>),
+    ) {
+        let mut out = Vec::new();
+        station(&mut out, s);
+        out.extend([kind, direction]);
+        edges(&mut out, e);
+        decision(&mut out, d);
+        self.add(list, (1, d.refusal, d.code), &out);
+        if let Some(change) = change {
+            list.changes(reach::change_key(change, Some(kind)));
         }
     }
 
@@ -213,29 +231,44 @@ impl<'a> Page<'a> {
         if l.rungs.len() > 48 && !list.wants((4, 0, 0, 0), 2) {
             return;
         }
-        let c = run.ceiling(self.image, self.p, s, direction, l);
-        let limit = c.limit.map_or(0, |d| u16::from(d.code));
-        let key = match c.refusal {
-            0 => (5, limit, u16::from(c.rung.is_some()), u16::from(l.rungs.is_empty())),
+        let found = run.climbed(self.image, self.p, s, direction, l);
+        let was = rusts(&found);
+        let limit = was.limit.map_or(0, |d| u16::from(d.code));
+        let key = match was.refusal {
+            0 => (5, limit, u16::from(was.rung.is_some()), u16::from(l.rungs.is_empty())),
             r => (6, u16::from(r), 0, 0),
         };
         if list.wants(key, most) {
-            let mut out = Vec::new();
-            station(&mut out, s);
-            out.push(direction);
-            edges(&mut out, &l.ordinary);
-            edges(&mut out, &l.floor);
-            out.extend((l.rungs.len() as u16).to_le_bytes());
-            out.extend((l.floors.len() as u16).to_le_bytes());
-            for x in &l.rungs {
-                out.extend(x.to_bits().to_le_bytes());
-            }
-            out.extend(&l.floors);
-            out.extend([c.refusal, u8::from(c.rung.is_some())]);
-            out.extend(c.rung.unwrap_or(0).to_le_bytes());
-            out.push(u8::from(c.limit.is_some()));
-            decision(&mut out, &c.limit_or_none());
-            self.add(list, (3, c.refusal, 0), &out);
+            self.add_ceiling(list, s, direction, l, &found);
+        }
+    }
+
+    fn add_ceiling(
+        &mut self,
+        list: &mut List,
+        s: &Station,
+        direction: u8,
+        l: &Ladder,
+        (c, climb): &(Ceiling, Option<Climb>),
+    ) {
+        let mut out = Vec::new();
+        station(&mut out, s);
+        out.push(direction);
+        edges(&mut out, &l.ordinary);
+        edges(&mut out, &l.floor);
+        out.extend((l.rungs.len() as u16).to_le_bytes());
+        out.extend((l.floors.len() as u16).to_le_bytes());
+        for x in &l.rungs {
+            out.extend(x.to_bits().to_le_bytes());
+        }
+        out.extend(&l.floors);
+        out.extend([c.refusal, u8::from(c.rung.is_some())]);
+        out.extend(c.rung.unwrap_or(0).to_le_bytes());
+        out.push(u8::from(c.limit.is_some()));
+        decision(&mut out, &c.limit_or_none());
+        self.add(list, (3, c.refusal, 0), &out);
+        if let Some(climb) = climb {
+            list.changes(reach::climb_key(c, climb));
         }
     }
 
@@ -259,19 +292,23 @@ impl<'a> Page<'a> {
             r => (8, u16::from(r), 0, 0),
         };
         if list.wants(key, most) {
-            let mut out = Vec::new();
-            station(&mut out, s);
-            out.push(direction);
-            edges(&mut out, e);
-            out.extend((found.lent as u32).to_le_bytes());
-            out.push(found.refusal);
-            out.extend((n as u32).to_le_bytes());
-            out.extend(&found.rows);
-            self.add(list, (4, found.refusal, 0), &out);
+            self.add_dials(list, s, direction, e, &found);
         }
         if found.refusal == 0 && s.policy == 2 {
             self.distance(run, rng, list, &found.rows, most);
         }
+    }
+
+    fn add_dials(&mut self, list: &mut List, s: &Station, direction: u8, e: &Edges, found: &Found) {
+        let mut out = Vec::new();
+        station(&mut out, s);
+        out.push(direction);
+        edges(&mut out, e);
+        out.extend((found.lent as u32).to_le_bytes());
+        out.push(found.refusal);
+        out.extend(((found.rows.len() / 36) as u32).to_le_bytes());
+        out.extend(&found.rows);
+        self.add(list, (4, found.refusal, 0), &out);
     }
 
     /// The distance of a dial from a list, or from rows that no list wrote.
@@ -345,6 +382,9 @@ pub fn write(run: &mut Run, file: &str) {
     let mut last = Page::new(&[], &none);
     last.texts(run, &mut list);
     last.end(&mut list);
+    to_automatic(run, &mut list);
+    let before = list.changed.clone();
+    brushed(run, &mut list);
     let missing: Vec<_> = wanted().into_iter().filter(|k| !list.seen.contains(k)).collect();
     assert!(missing.is_empty(), "every code and every refusal: {missing:?}");
     let mut out = list.images.to_le_bytes().to_vec();
@@ -362,6 +402,197 @@ pub fn write(run: &mut Run, file: &str) {
         list.images,
         run.seed
     );
+    println!("changed by document 02, 4, where they stood, and added at the end:");
+    for (key, what) in CHANGES.into_iter().filter(|(key, _)| !of_rung(key)) {
+        let stood = before.get(&key).copied().unwrap_or(0);
+        let all = list.changed.get(&key).copied().unwrap_or(0);
+        println!("  {what}: {stood}, {}", all - stood);
+    }
+}
+
+/// The codes of a verdict under automatic control.
+const AUTOMATIC: [u8; 23] =
+    [1, 2, 3, 5, 7, 8, 9, 10, 11, 12, 13, 14, 15, 16, 17, 18, 19, 20, 21, 22, 23, 24, 25];
+
+/// Limits of a ceiling, 0 for none, that have to do with automatic control.
+const LIMITS: [u8; 5] = [0, 11, 18, 19, 20];
+
+/// Direction 3, "respond to automatic", behind all else, so that what was there before stays: automatic
+/// control, with every code that it can have, its own limits, and lists that are and aren't Respond's.
+fn to_automatic(run: &mut Run, list: &mut List) {
+    on_practice(run, list);
+    for place in 4001..=8000 {
+        run.place = place;
+        let w = tables::world(&mut Rng::new(run.seed, place));
+        if w.image.len() > 1000 {
+            continue;
+        }
+        let p = run.image(&w.image);
+        let mut page = Page::new(&w.image, &p);
+        let rng = &mut Rng::new(run.seed, place + (1 << 32));
+        for _ in 0..24 {
+            let (signal, s, e, kind, _) =
+                crate::draw(rng, &w, |drawn| drawn, |_, _, _, _, _| false);
+            let (s, direction) = (Station { control: 2, ..s }, 3);
+            let (d, change) = run.judged(page.image, &p, &s, kind, direction, &e);
+            let was = change.map_or(d, |change| change.was);
+            let most = if was.code == 20 { 3 } else { 1 };
+            if was.refusal == 0 && list.wants((11, was.code.into(), was.verdict.into(), 0), most) {
+                page.add_verdict(list, &s, (kind, direction), &e, &(d, change));
+            }
+            let l = cases::ladder(rng, &w, &signal);
+            let climbed = run.climbed(page.image, &p, &s, direction, &l);
+            let was = rusts(&climbed);
+            let limit = was.limit.map_or(0, |d| d.code);
+            let short = was.refusal == 0 && (1..=12).contains(&l.floors.len());
+            let key = (12, limit.into(), u16::from(was.rung.is_some()), 0);
+            if short && LIMITS.contains(&limit) && list.wants(key, 1) {
+                page.add_ceiling(list, &s, direction, &l, &climbed);
+            }
+            let found = run.dials(page.image, &p, &s, direction, &e, Room::More(36), 0);
+            let respond = adapter::safe_dials(&p, &s, 1, &e).map_or(0, |(_, rows)| rows.len());
+            let n = found.rows.len() / 36;
+            let key = (13, n.min(2) as u16, u16::from(respond == found.rows.len()), 0);
+            if found.refusal == 0 && s.policy == 2 && n <= 40 && list.wants(key, 1) {
+                page.add_dials(list, &s, direction, &e, &found);
+            }
+        }
+        page.end(list);
+    }
+    let have = |key| list.have.contains_key(&key);
+    let code = |code: &u8| (0..3).any(|verdict| have((11, (*code).into(), verdict, 0)));
+    assert!(AUTOMATIC.iter().all(code), "every code with direction 3");
+    let limit = |limit: &u8| (0..2).any(|rung| have((12, (*limit).into(), rung, 0)));
+    assert!(LIMITS.iter().all(limit), "every limit with direction 3");
+    assert!((0..6).all(|i| have((13, i / 2, i % 2, 0))), "every list with direction 3");
+}
+
+/// Outside and inside an automatic segment of the practice table, with Respond and with a direction that
+/// is none beside it.
+fn on_practice(run: &mut Run, list: &mut List) {
+    let image = fixed::practice().encode();
+    let p = run.image(&image);
+    let mut page = Page::new(&image, &p);
+    let s = Station {
+        margin_hz: 50.0,
+        dial_hz: 14_098_000.0,
+        policy: 2,
+        control: 2,
+        license: 2,
+        sideband: 0,
+        itu_region: 2,
+        dial_known: 1,
+        ..expect::FRESH
+    };
+    let pair = |high: f64| [1250.0, high, 1250.0, high];
+    let e = Edges::of(pair(1750.0));
+    for (dial_hz, direction) in [(14_098_000.0, 3), (14_098_000.0, 1), (14_097_700.0, 3)] {
+        let s = Station { dial_hz, ..s };
+        let judged = run.judged(&image, &p, &s, 0, direction, &e);
+        page.add_verdict(list, &s, (0, direction), &e, &judged);
+    }
+    let judged = run.judged(&image, &p, &s, 0, 4, &e);
+    page.add_verdict(list, &s, (0, 4), &e, &judged);
+    let control = Edges::of(pair(1700.0));
+    let rungs = [pair(1700.0), pair(1750.0)].concat();
+    let l = Ladder { ordinary: control, floor: control, rungs, floors: vec![0, 0] };
+    let there = Station { dial_hz: 14_097_750.0, ..s };
+    for direction in [3, 1, 4] {
+        let climbed = run.climbed(&image, &p, &there, direction, &l);
+        page.add_ceiling(list, &there, direction, &l, &climbed);
+        let found = run.dials(&image, &p, &s, direction, &e, Room::Rows(4), 0);
+        page.add_dials(list, &s, direction, &e, &found);
+    }
+    page.end(list);
+}
+
+/// Document 02, 4, channel against segment, behind all else: two of its stated cases with what stands beside
+/// them, then each kind of change, and answers by a channel that stay.
+fn brushed(run: &mut Run, list: &mut List) {
+    let (mut two, mut swapped) = (fixed::sixty(), fixed::sixty());
+    for (t, centres) in [(&mut two, [80.0, 90.0]), (&mut swapped, [90.0, 80.0])] {
+        t.tables[SEGMENTS][0].high = 95.0;
+        t.tables[CHANNELS] = centres.map(fixed::centre).to_vec();
+    }
+    let s = Station {
+        margin_hz: 0.0,
+        policy: 2,
+        control: 0,
+        license: 4,
+        sideband: 0,
+        itu_region: 0,
+        dial_known: 1,
+        ..expect::FRESH
+    };
+    let e = Edges::of([0.0, 5.0, 0.0, 5.0]);
+    for (table, dials) in [
+        (differences::fifty(), vec![39.875, 40.0, 44.875, 45.0, 48.0, 50.0, 50.125, 55.0]),
+        (two, vec![85.0]),
+        (swapped, vec![85.0]),
+    ] {
+        let image = table.encode();
+        let p = run.image(&image);
+        let mut page = Page::new(&image, &p);
+        for dial_hz in dials {
+            let s = Station { dial_hz, ..s };
+            let judged = run.judged(&image, &p, &s, 0, 0, &e);
+            page.add_verdict(list, &s, (0, 0), &e, &judged);
+        }
+        page.end(list);
+    }
+    for place in 8001..=9000 {
+        run.place = place;
+        let rng = &mut Rng::new(run.seed, place + (1 << 36));
+        let w = tables::brush(rng);
+        if w.image.len() > 1000 {
+            continue;
+        }
+        let p = run.image(&w.image);
+        let mut page = Page::new(&w.image, &p);
+        for _ in 0..if p.refusal == 0 { 24 } else { 0 } {
+            let (signal, s, e, kind, direction) =
+                crate::draw(rng, &w, |drawn| drawn, |_, _, _, _, _| false);
+            let (d, change) = run.judged(&w.image, &p, &s, kind, direction, &e);
+            let key = match &change {
+                Some(change) => kind_of(reach::change_key(change, Some(kind))),
+                None => (15, kind.into(), d.verdict.into(), 0),
+            };
+            if (change.is_some() || d.code == 24) && list.wants(key, 3) {
+                page.add_verdict(list, &s, (kind, direction), &e, &(d, change));
+            }
+            let l = cases::ladder(rng, &w, &signal);
+            let climbed = run.climbed(&w.image, &p, &s, direction, &l);
+            if let (c, Some(climb)) = &climbed
+                && l.floors.len() <= 12
+                && list.wants(kind_of(reach::climb_key(c, climb)), 3)
+            {
+                page.add_ceiling(list, &s, direction, &l, &climbed);
+            }
+        }
+        page.end(list);
+    }
+    let all = CHANGES.iter().filter(|(key, _)| !of_rung(key));
+    let missing: Vec<_> = all
+        .filter(|(key, _)| !list.have.contains_key(&kind_of(*key)))
+        .map(|(_, what)| what)
+        .collect();
+    assert!(missing.is_empty(), "every kind of change: {missing:?}");
+}
+
+/// Whether a kind of change is one of rungs: a ceiling is taken by how it ends.
+fn of_rung(key: &Key) -> bool {
+    key.0.starts_with("changed rung")
+}
+
+/// A kind of change as a thing worth having.
+fn kind_of(key: Key) -> (u8, u16, u16, u16) {
+    let at = CHANGES.iter().position(|(known, _)| *known == key);
+    (14, at.expect("a kind of change") as u16, 0, 0)
+}
+
+/// The ceiling that the Rust gave, by which a case is taken, so that a changed one stands where it stood.
+fn rusts((c, climb): &(Ceiling, Option<Climb>)) -> &Ceiling {
+    climb.as_ref().map_or(c, |climb| &climb.was)
 }
 
 /// Every code of a verdict (4 is `unmeasured`'s alone), and every refusal that a call's inputs can
@@ -406,11 +637,11 @@ fn page(
     let rng = &mut Rng::new(run.seed, run.place + (1 << 32));
     for i in 0..tries {
         let (signal, mut s, mut e, mut kind, mut direction) =
-            crate::draw(rng, w, |_, _, _, _, _| false);
+            crate::draw(rng, w, |drawn| drawn, |_, _, _, _, _| false);
         if rng.chance(6) {
             match rng.below(4) {
                 0 => damage::spoil_code(rng, &mut kind),
-                1 => damage::spoil_code(rng, &mut direction),
+                1 => damage::spoil_direction(rng, &mut direction),
                 2 => damage::spoil_edges(rng, &mut e),
                 _ => damage::spoil_station(rng, &mut s),
             }

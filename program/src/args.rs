@@ -133,7 +133,8 @@ pub struct VerdictArgs {
 #[derive(Args, Debug)]
 #[command(next_help_heading = "The signal")]
 pub struct SignalArgs {
-    /// Who begins: this station, another that it answers, or an operator who acts [default: originate]
+    /// Who begins: this station, another that it answers, or an operator who acts; respond_to_automatic: the other
+    /// station is itself under automatic control [default: originate]
     #[arg(long, value_name = "WORD", value_parser = direction())]
     pub direction: Option<Direction>,
 

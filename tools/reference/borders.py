@@ -1354,7 +1354,7 @@ def station_cases():
     # By hand: the values of each code.
     values = {"policy": (0, 1, 2, 3), "control": (0, 1, 2, 255), "license": (0, 1, 2, 3, 4, 255),
               "sideband": (0, 1, 255), "region": tuple(range(256)), "plan": (0, 1),
-              "dial_here": (0, 1), "power_here": (0, 1), "direction": (0, 1, 2),
+              "dial_here": (0, 1), "power_here": (0, 1), "direction": (0, 1, 2, 3),
               "kind": (0, 1, 2, 3)}
     probes = (0, 1, 2, 3, 4, 5, 6, 7, 8, 15, 16, 127, 128, 253, 254, 255)
     words = {"dial_here": "dial", "power_here": "power"}
@@ -1373,7 +1373,7 @@ def station_cases():
     # A wrong code is a wrong code under every policy; a figure likewise.
     for policy in range(4):
         for code, value in (("control", 3), ("license", 5), ("sideband", 2), ("plan", 2),
-                            ("dial_here", 2), ("power_here", 2), ("direction", 3), ("kind", 4)):
+                            ("dial_here", 2), ("power_here", 2), ("direction", 4), ("kind", 4)):
             station("policy %d, %s %d" % (policy, code, value), 20, policy=policy, image=0,
                     **{code: value})
         for figure in ("margin", "dial", "power"):
@@ -1448,14 +1448,15 @@ def station_cases():
             policy=2, control=1, license=3, sideband=255, region=254, plan=0, dial_here=0,
             dial=9.0, power=0.125, margin=0.1, direction=2, kind=1)
 
-    # Random ones: mostly right codes, figures from a short list.
+    # Random ones: mostly right codes, figures from a short list. Direction 3 has its own below.
     dice = Dice(3)
+    drawn = dict(values, direction=(0, 1, 2))
     figures = [0, NEG_ZERO, TWO40, ABOVE, MINUS_TWO40, QUIET_NAN, SMALLEST, to_bits(1.5),
                to_bits(-20.0), to_bits(14100000.0)]
     for k in range(80):
         changes = {}
         for code in CODES:
-            pick = values[code][dice.below(len(values[code]))]
+            pick = drawn[code][dice.below(len(drawn[code]))]
             changes[code] = dice.below(256) if dice.below(40) == 0 else pick
         for figure in ("margin", "dial", "power"):
             changes[figure] = figures[dice.below(len(figures))]
@@ -1466,6 +1467,24 @@ def station_cases():
              "power absent margin 0000000000000000 direction 0 kind 0 "],
             policy=0, control=255, license=255, sideband=255, region=0, plan=0, dial_here=0,
             power_here=0, margin=0, dial=0, power=0, image=0)
+
+    # "The direction gains the value 3": a right code under every policy and beside every control.
+    for policy in range(4):
+        station("policy %d, direction 3, no image" % policy,
+                22 if policy == 2 else ["policy %d " % policy, "direction 3 kind 0 "],
+                policy=policy, direction=3, image=0)
+    for control in (0, 1, 2, 255):
+        station("control %d, direction 3" % control, ["control %d " % control, "direction 3 kind 0 "],
+                control=control, direction=3)
+    station("direction 3 and 21", 21, direction=3, margin=QUIET_NAN)
+    station("direction 4 and 21", 20, direction=4, margin=QUIET_NAN)
+    station("direction 4 and 22", 20, direction=4, image=0)
+    drawn["direction"] = (3,)
+    for k in range(12):
+        changes = dict((code, drawn[code][dice.below(len(drawn[code]))]) for code in CODES)
+        for figure in ("margin", "dial", "power"):
+            changes[figure] = figures[dice.below(len(figures))]
+        station("random station %d with direction 3" % k, None, **changes)
 
 
 # ---------------------------------------------------------------------------------------------

@@ -493,7 +493,8 @@ def station_codes_right(station, direction, kind):
 
     The licence is a class number: "0 Novice [...] 4 Extra". Kinds are bit numbers: "0 data, 1 cw,
     2 test, 3 nothing". The region is any byte. READING: direction and kind meet 20 too, and
-    "they have no absent code"."""
+    "they have no absent code". "The direction gains the value 3, 'respond to automatic'"
+    (document 02)."""
     return (station["policy"] in (0, 1, 2, 3)
             and station["control"] in (0, 1, 2, ABSENT)
             and station["license"] in (0, 1, 2, 3, 4, ABSENT)
@@ -501,7 +502,7 @@ def station_codes_right(station, direction, kind):
             and station["plan"] in (0, 1)
             and station["dial_here"] in (0, 1)
             and station["power_here"] in (0, 1)
-            and direction in (0, 1, 2)
+            and direction in (0, 1, 2, 3)
             and kind in (0, 1, 2, 3))
 
 

@@ -60,6 +60,7 @@ fn direction_number(d: Direction) -> u64 {
         Direction::Originate => 0,
         Direction::Respond => 1,
         Direction::Operator => 2,
+        Direction::RespondToAutomatic => 3,
     }
 }
 

@@ -86,7 +86,7 @@ fn images(image: &[u8]) {
 
 fn verdicts(image: &[u8]) {
     use Control::{Automatic, Local};
-    use Direction::{Originate, Respond};
+    use Direction::{Originate, Respond, RespondToAutomatic};
     use Kind::{Data, Test};
     let rows = [
         ("data", 14_023_800.0, (1_250.0, 1_750.0), None, Local, Originate, Data),
@@ -116,6 +116,15 @@ fn verdicts(image: &[u8]) {
             Data,
         ),
         ("automatic, responding", 14_098_000.0, (1_250.0, 1_750.0), None, Automatic, Respond, Data),
+        (
+            "automatic, responding to automatic",
+            14_098_000.0,
+            (1_250.0, 1_750.0),
+            None,
+            Automatic,
+            RespondToAutomatic,
+            Data,
+        ),
         ("data", 5_330_550.0, (1_250.0, 1_750.0), None, Local, Originate, Data),
         ("data", 5_330_550.125, (1_250.0, 1_750.0), None, Local, Originate, Data),
         ("test", 5_330_550.0, (1_250.0, 1_750.0), None, Local, Originate, Test),

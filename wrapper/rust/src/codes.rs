@@ -143,14 +143,20 @@ numbered! {
 }
 
 numbered! {
-    /// Who begins. Automatic control (§97.221) is judged for the first two only.
+    /// Who begins, and who is answered. A station under automatic control is judged by §97.221 in
+    /// every direction but [`Operator`](Direction::Operator). Outside the automatic segments §97.221(c)
+    /// lets it answer a station under local or remote control; it does not cover an answer to one that
+    /// is itself under automatic control. Which of the two is answered is taken on the caller's word.
     Direction: "direction" {
         /// This station calls.
         Originate = 0 "originate",
-        /// It answers a station that called it.
+        /// It answers a station that is known to be under local or remote control.
         Respond = 1 "respond",
         /// An operator acts.
         Operator = 2 "operator",
+        /// It answers a station under automatic control. Judged as [`Originate`](Direction::Originate)
+        /// is.
+        RespondToAutomatic = 3 "respond_to_automatic",
     }
 }
 
@@ -231,7 +237,8 @@ numbered! {
         AutomaticOutside = 18 "automatic_outside",
         /// Automatic, outside the automatic segments, and too wide for elsewhere.
         AutomaticBandwidth = 19 "automatic_bandwidth",
-        /// Automatic, outside the automatic segments, and not in answer to another station.
+        /// Automatic, outside the automatic segments, and not in answer to a station under local or
+        /// remote control.
         AutomaticOriginate = 20 "automatic_originate",
         /// Automatic, outside the automatic segments, by the rule for elsewhere: legal or a warning.
         AutomaticResponse = 21 "automatic_response",

@@ -221,6 +221,7 @@ impl Display for Direction {
             Self::Originate => "this station calls",
             Self::Respond => "this station answers",
             Self::Operator => "an operator acts",
+            Self::RespondToAutomatic => "this station answers one under automatic control",
         })
     }
 }
@@ -278,7 +279,10 @@ impl Code {
             Self::AutomaticSegment => "it lies in a segment for automatic control",
             Self::AutomaticOutside => "automatic control is not allowed outside its segments",
             Self::AutomaticBandwidth => "it is too wide for automatic control outside its segments",
-            Self::AutomaticOriginate => "outside its segments an automatic station may only answer",
+            Self::AutomaticOriginate => {
+                "outside its segments an automatic station may only answer one under local or remote \
+                 control"
+            }
             Self::AutomaticResponse => {
                 "it keeps to the rule for automatic control outside its segments"
             }
@@ -317,8 +321,8 @@ impl Code {
                  operator in control"
             }
             Self::AutomaticOriginate => {
-                "wait to be called, move into a segment for automatic control, or put an operator \
-                 in control"
+                "wait to be called by a station under local or remote control, move into a segment \
+                 for automatic control, or put an operator in control"
             }
             Self::SixtyEmission => "send another kind of emission, or leave 60 m",
             Self::SixtyOffChannel => "set the dial for a channel, or move into the 60 m segment",

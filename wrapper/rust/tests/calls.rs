@@ -184,6 +184,85 @@ fn automatic_with_its_segment() {
     assert_eq!(d.automatic_segment, Some(range(14_095_000.0, 14_099_500.0)));
 }
 
+/// Answering a station that is itself under automatic control (document 02, 3): outside the automatic
+/// segments blocked with 20 where an answer to another is legal with 21, and in every call what calling
+/// it would be.
+#[test]
+fn another_robot() {
+    // the guarded range 14,099,200 to 14,099,800 leaves the segment that ends at 14,099,500; it is as
+    // wide as elsewhere allows
+    let (outside, inside) = (automatic(14_098_000.0), automatic(14_097_700.0));
+    let at = |s: &Station, direction| evaluate(s, Kind::Data, direction, &EDGES, IMAGE);
+    let d = at(&outside, Direction::RespondToAutomatic).unwrap();
+    assert_eq!((d.verdict, d.code), (Verdict::Blocked, Code::AutomaticOriginate));
+    assert_eq!((d.rule, d.automatic_segment), (Rule::Table(8), None));
+    let d = at(&outside, Direction::Respond).unwrap();
+    assert_eq!((d.verdict, d.code), (Verdict::Legal, Code::AutomaticResponse));
+    let d = at(&inside, Direction::RespondToAutomatic).unwrap();
+    assert_eq!((d.verdict, d.code), (Verdict::Legal, Code::AutomaticSegment));
+
+    // with rung 1 the guarded range leaves the segment by 50, 500 wide
+    let s = automatic(14_097_750.0);
+    let rungs = [Edges::both(1_250.0, 1_700.0), EDGES];
+    let climb =
+        |direction| ceiling(&s, direction, &rungs[0], &rungs[0], IMAGE, &rungs, &[false; 2]);
+    let c = climb(Direction::RespondToAutomatic).unwrap();
+    assert_eq!((c.rung, c.limit.map(|d| d.code)), (Some(0), Some(Code::AutomaticOriginate)));
+    let c = climb(Direction::Respond).unwrap();
+    assert_eq!((c.rung, c.limit), (Some(1), None));
+
+    let list = |s: &Station, direction| {
+        let mut bytes = [7; 4 * ROW];
+        let count = safe_dials(s, direction, &EDGES, IMAGE, &mut bytes).unwrap().rows().len();
+        (count, bytes)
+    };
+    let (count, bytes) = list(&outside, Direction::RespondToAutomatic);
+    let dials: Vec<Range> = DialRows::new(&bytes[..count * ROW]).map(|row| row.dial).collect();
+    assert_eq!(dials, [range(14_093_800.0, 14_097_700.0), range(14_099_300.0, 14_110_200.0)]);
+    let (count, bytes) = list(&outside, Direction::Respond);
+    let dials: Vec<Range> = DialRows::new(&bytes[..count * ROW]).map(|row| row.dial).collect();
+    assert!(dials.contains(&range(14_023_800.0, 14_148_200.0)), "{dials:?}");
+
+    for s in [&outside, &inside, &automatic(14_148_500.0), &station(14_098_000.0)] {
+        for kind in Kind::ALL {
+            let at = |direction| evaluate(s, *kind, direction, &EDGES, IMAGE);
+            assert_eq!(at(Direction::RespondToAutomatic), at(Direction::Originate));
+        }
+        assert_eq!(list(s, Direction::RespondToAutomatic), list(s, Direction::Originate));
+    }
+    assert_eq!(climb(Direction::RespondToAutomatic), climb(Direction::Originate));
+}
+
+/// A direction of 4 and up, which the bare boundary can be given, meets 20 in each call.
+#[test]
+fn no_such_direction() {
+    let s = raw::Station {
+        margin_hz: 50.0,
+        dial_hz: 14_098_000.0,
+        power_w: 0.0,
+        policy: 2,
+        control: 2,
+        license: 2,
+        sideband: 0,
+        itu_region: 2,
+        band_plan: 0,
+        dial_known: 1,
+        power_known: 0,
+    };
+    let rung = [1_250.0, 1_750.0, 1_250.0, 1_750.0];
+    for direction in 0..=255 {
+        let want = if direction < 4 { 0 } else { 20 };
+        let d = raw::evaluate(s, 0, direction, EDGES, IMAGE);
+        assert_eq!((d.refusal, d.verdict == 2 && d.code == 0), (want, want == 20));
+        let c = raw::ceiling(s, direction, EDGES, EDGES, IMAGE, &rung, &[0]);
+        assert_eq!((c.refusal, c.limit.verdict), (want, 2));
+        let mut bytes = [7; 4 * ROW];
+        let rows = raw::safe_dials(s, direction, EDGES, IMAGE, &mut bytes);
+        assert_eq!((rows.refusal, rows.count == 0), (want, want == 20));
+        assert_eq!(bytes == [7; 4 * ROW], want == 20);
+    }
+}
+
 #[test]
 fn sixty_metres() {
     let at = |kind, power_w| {

@@ -54,7 +54,7 @@ fn every_byte() {
     round_trip!(Control, numbers(0, 2));
     round_trip!(License, numbers(0, 4));
     round_trip!(Sideband, numbers(0, 1));
-    round_trip!(Direction, numbers(0, 2));
+    round_trip!(Direction, numbers(0, 3));
     round_trip!(Kind, numbers(0, 3));
     round_trip!(Verdict, numbers(0, 2));
     round_trip!(Edge, numbers(0, 1));
@@ -88,7 +88,14 @@ fn meanings() {
         [License::Novice, License::Technician, License::General, License::Advanced, License::Extra];
     assert_eq!(classes, *License::ALL);
     assert_eq!([Sideband::Upper, Sideband::Lower], *Sideband::ALL);
-    assert_eq!([Direction::Originate, Direction::Respond, Direction::Operator], *Direction::ALL);
+    let directions = [
+        Direction::Originate,
+        Direction::Respond,
+        Direction::Operator,
+        Direction::RespondToAutomatic,
+    ];
+    assert_eq!(directions, *Direction::ALL);
+    assert_eq!("respond_to_automatic".parse(), Ok(Direction::RespondToAutomatic));
     assert_eq!([Kind::Data, Kind::Cw, Kind::Test, Kind::Nothing], *Kind::ALL);
     assert_eq!([Verdict::Legal, Verdict::Warning, Verdict::Blocked], *Verdict::ALL);
     assert_eq!([Edge::Lower, Edge::Upper], *Edge::ALL);

@@ -42,7 +42,7 @@ fn figures() {
     reads(range(5_330_600.0, 5_333_450.0), "5330.6 to 5333.450 kHz");
     let segment = Segment { range: range(14_095_000.0, 14_099_500.0), rule: Rule::Table(13) };
     reads(segment, "14095 to 14099.5 kHz (rule 13 of the table)");
-    reads(Version { major: 0, minor: 4, patch: 0 }, "0.4.0");
+    reads(Version { major: 0, minor: 5, patch: 0 }, "0.5.0");
     reads(Version::from_number(123_456), "12.34.56");
 }
 
@@ -109,6 +109,7 @@ fn settings() {
     reads(Direction::Originate, "this station calls");
     reads(Direction::Respond, "this station answers");
     reads(Direction::Operator, "an operator acts");
+    reads(Direction::RespondToAutomatic, "this station answers one under automatic control");
     reads(Kind::Data, "data");
     reads(Kind::Cw, "CW");
     reads(Kind::Test, "a test emission");
@@ -146,7 +147,7 @@ fn codes() {
         "it lies in a segment for automatic control",
         "automatic control is not allowed outside its segments",
         "it is too wide for automatic control outside its segments",
-        "outside its segments an automatic station may only answer",
+        "outside its segments an automatic station may only answer one under local or remote control",
         "it keeps to the rule for automatic control outside its segments",
         "this kind of emission is not allowed on 60 m",
         "on 60 m it lies neither on a channel nor in the segment",
