@@ -560,6 +560,9 @@ fn brushed_by_cw(run: &mut Run) {
         let air = (dial - 10.0, dial + 10.0);
         let was = by_channel(channel, audio, air);
         changed(&mut a, "23: CW by its centre", dial, was, by_segment(LEGAL, audio, air));
+        (a.s.power_known, a.s.power_w) = (1, 50.0);
+        changed(&mut a, "23: the same at 50 W", dial, was, by_segment(WARNING, audio, air));
+        a.s.power_known = 0;
     }
     // a channel that holds the range decides, and so does one where no segment holds it
     a.edges = (-5.0, 5.0);
@@ -588,8 +591,10 @@ fn first_channel(run: &mut Run) {
     let want = Decision { air_low: 86.0, air_high: 91.0, ..channel(85.0).0 };
     verdict(&mut a, "20: held by both", 86.0, Answer(want));
     let mut a = on(run, fifty(), 0.0, SHORT);
-    for dial in [45.0, 46.875, 49.125, 50.0] {
-        let want = by_channel(BLOCKED, SHORT, (dial, dial + 5.0));
+    for dial in [45.0, 46.875, 47.0, 49.0, 49.125, 50.0] {
+        let on_carrier = (47.0..=49.0).contains(&dial);
+        let there = if on_carrier { LEGAL } else { BLOCKED };
+        let want = by_channel(there, SHORT, (dial, dial + 5.0));
         verdict(&mut a, "20: held by both, to the channel's ends", dial, want);
     }
     for dial in [44.875, 50.125, 55.0] {
