@@ -77,7 +77,7 @@ def plant_all(args, rust, work):
     place["stub.rs"] = os.path.join(driver, "src/stub.rs")
     text["stub.rs"] = open(os.path.join(HERE, "src/stub.rs"), encoding="utf-8").read()
     os.makedirs(os.path.join(work, "own"), exist_ok=True)
-    for name in ["expect.rs", "adapter.rs", "distance.rs"]:
+    for name in ["expect.rs", "adapter.rs", "distance.rs", "sixty.rs"]:
         place[name] = os.path.join(driver, "src", name)
         text[name] = open(os.path.join(HERE, "src", name), encoding="utf-8").read()
         put(os.path.join(work, "own", name), text[name])

@@ -2,10 +2,10 @@
 file), new text. `same` says why a mistake changes no answer inside document 01's limits: such a one
 must survive, every other must be noticed.
 
-Files: profile.rs, occupancy.rs and mod.rs are the Rust; expect.rs, adapter.rs and distance.rs are the
-driver's own part, written from documents 01 and 02 (refusals 1 to 6, 15, 16, 20 to 24 and their order,
-where a table is wrong, tidy, the distance of a dial, and what the Rust says only in words); stub.rs, with
---stub, stands for a wrong library.
+Files: profile.rs, occupancy.rs and mod.rs are the Rust; expect.rs, adapter.rs, distance.rs and sixty.rs
+are the driver's own part, written from documents 01 and 02 (refusals 1 to 6, 15, 16, 20 to 24 and their
+order, where a table is wrong, tidy, the distance of a dial, channel against segment, and what the Rust
+says only in words); stub.rs, with --stub, stands for a wrong library.
 """
 
 MUTATIONS = []
@@ -879,14 +879,14 @@ TIDY = "    Tidiness { tidy, refusal }\n"
 at(S, TIDY, "    " + WRITE + TIDY)
 at(S, TIDY, "    Tidiness { tidy: tidy | u8::from(refusal != 0), refusal }\n")
 at(S, TIDY, "    Tidiness { tidy, refusal: 0 }\n")
-for call in ["adapter::evaluate(&p, &s, kind, direction, &e)", "adapter::unmeasured(&p, &s)"]:
-    old = "    %s.expect(\"the Rust's words\")\n" % call
+for call, end in [("sixty::evaluate(&p, &s, kind, direction, &e)", ".0"), ("adapter::unmeasured(&p, &s)", "")]:
+    old = "    %s.expect(\"the Rust's words\")%s\n" % (call, end)
     at(S, old, "    " + WRITE + old)
     at(S, old, "    " + WRITE.replace("n - 1", "0") + old)
-at(S, "    let c = adapter::ceiling(", "    " + WRITE + "    let c = adapter::ceiling(")
-at(S, "    let c = adapter::ceiling(", "    if figures > 0 { unsafe { *rungs.as_ptr().cast_mut().add(figures - 1) += 1.0 } }\n    let c = adapter::ceiling(")
-at(S, "    let c = adapter::ceiling(", "    if figures > 0 { unsafe { *rungs.as_ptr().cast_mut() = -*rungs.as_ptr() } }\n    let c = adapter::ceiling(")
-at(S, "    let c = adapter::ceiling(", "    if floor_count > 0 { unsafe { *floors.as_ptr().cast_mut().add(floor_count - 1) ^= 1 } }\n    let c = adapter::ceiling(")
+at(S, "    let (c, _) = sixty::ceiling(", "    " + WRITE + "    let (c, _) = sixty::ceiling(")
+at(S, "    let (c, _) = sixty::ceiling(", "    if figures > 0 { unsafe { *rungs.as_ptr().cast_mut().add(figures - 1) += 1.0 } }\n    let (c, _) = sixty::ceiling(")
+at(S, "    let (c, _) = sixty::ceiling(", "    if figures > 0 { unsafe { *rungs.as_ptr().cast_mut() = -*rungs.as_ptr() } }\n    let (c, _) = sixty::ceiling(")
+at(S, "    let (c, _) = sixty::ceiling(", "    if floor_count > 0 { unsafe { *floors.as_ptr().cast_mut().add(floor_count - 1) ^= 1 } }\n    let (c, _) = sixty::ceiling(")
 at(S, "    let (refusal, bytes) =", "    " + WRITE + "    let (refusal, bytes) =")
 LIMIT = "        limit: c.limit_or_none(),"
 for part in ["verdict: 0", "code: 16", "width: -0.0", "refusal: 0"]:
@@ -1024,3 +1024,40 @@ at(A, "&air, direction_of(direction), &|i|", "&air, %s, &|i|" % RESPOND)
 at(A, "edges(e), direction_of(direction));", "edges(e), %s);" % RESPOND)
 at(E, "&& direction <= 3", "&& direction <= 2")
 at(E, "&& direction <= 3", "&& (direction <= 2 || (direction == 3 && s.control == 2))")
+
+# ------------------------------------------------------------------- channel against segment
+N = "sixty.rs"
+FIRST = "let first = t.tables[CHANNELS].iter().find(|r| channel(t, r).overlaps(x.guarded))?;"
+at(N, FIRST, FIRST.replace(".iter()", ".iter().rev()"))
+at(N, FIRST, FIRST.replace("x.guarded", "x.air"))
+at(N, FIRST, "let first = t.tables[CHANNELS].first().filter(|r| channel(t, r).overlaps(x.guarded))?;")
+HELD = "if channel(t, first).holds(x.guarded) {"
+at(N, HELD, "if t.tables[CHANNELS].iter().any(|r| channel(t, r).holds(x.guarded)) {")
+at(N, HELD, "if false {")
+at(N, HELD, "if channel(t, first).holds(x.air) {")
+at(N, HELD, "if kind != 1 && channel(t, first).holds(x.guarded) {")
+OF_BAND = "r.band == t.channel_band && span(r).holds(x.guarded);"
+at(N, OF_BAND, "span(r).holds(x.guarded);")
+at(N, OF_BAND, "r.band == t.channel_band && span(r).holds(x.air);")
+at(N, OF_BAND, "r.band == t.channel_band && span(r).overlaps(x.guarded);")
+at(N, "t.tables[SEGMENTS].iter().find(of_band)?;", "t.tables[SEGMENTS].iter().rev().find(of_band)?;")
+WIDE = "if kind == 0 && x.audio.high - x.audio.low > t.data_limit {"
+at(N, WIDE, "if x.audio.high - x.audio.low > t.data_limit {")
+at(N, WIDE, "if kind != 1 && x.audio.high - x.audio.low > t.data_limit {")
+at(N, WIDE, "if kind == 0 && x.audio.high - x.audio.low >= t.data_limit {")
+at(N, WIDE, "if kind == 0 && x.audio.high - x.audio.low > (if r.flags & 1 == 1 { r.figure } else { t.data_limit }) {")
+at(N, WIDE, "if false {")
+at(N, "drafted(t, x, 12, t.rules[0], (span(r), r.rule))", "drafted(t, x, 12, r.rule, (span(r), r.rule))")
+at(N, "drafted(t, x, 25, r.rule, (span(r), r.rule))", "drafted(t, x, 25, t.rules[3], (span(r), r.rule))")
+at(N, "expect::above_segment_watts(watts(s))", "expect::above_channel_watts(watts(s))")
+at(N, "if kind != 1 || (middle - r.low).abs() > t.tolerance {", "if (middle - r.low).abs() > t.tolerance {")
+at(N, "if kind != 1 || (middle - r.low).abs() > t.tolerance {", "if kind != 1 || (middle - r.low).abs() >= t.tolerance {")
+at(N, "note_shared: 1, ..blocked", "note_shared: 0, ..blocked")
+at(N, " && !excluded && privileged && kind != 3 && emission", " && privileged && kind != 3 && emission")
+at(N, " && !excluded && privileged && kind != 3 && emission", " && !excluded && kind != 3 && emission")
+at(N, " && !excluded && privileged && kind != 3 && emission", " && !excluded && privileged && emission")
+at(N, " && !excluded && privileged && kind != 3 && emission", " && !excluded && privileged && kind != 3")
+at(N, "p.class == s.license && span(p).holds(x.air)", "p.class == s.license && span(p).holds(x.guarded)")
+at(N, "envelope.map_or(own, |before| union(before, own))", "envelope.map_or(own, |_| own)")
+at(N, "if floors[i] == 1 { floor } else { ordinary }", "if floors[i] == 0 { floor } else { ordinary }")
+at(N, "            None => adapter::evaluate(p, s, 0, direction, &e)?,\n", "            None => break,\n")

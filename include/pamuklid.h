@@ -28,8 +28,8 @@
 extern "C" {
 #endif
 
-/* The version of this header, 0.5.0: major * 10000 + minor * 100 + patch. */
-#define PAMUKLID_VERSION 500
+/* The version of this header, 0.6.0: major * 10000 + minor * 100 + patch. */
+#define PAMUKLID_VERSION 600
 
 /* Refusals, by number. A call that is refused has answered nothing: send nothing. */
 #define PAMUKLID_ACCEPTED 0                 /* none: the image is accepted, the call was answered */
@@ -162,8 +162,11 @@ typedef struct {
 #define PAMUKLID_CODE_SIXTY_EMISSION 22       /* blocked: not an emission for 60 m */
 #define PAMUKLID_CODE_SIXTY_OFF_CHANNEL 23    /* blocked: on no channel of 60 m, and not in its segment */
 #define PAMUKLID_CODE_SIXTY_CHANNEL 24        /* legal or a warning on a channel of 60 m; blocked where the
-                                                 signal touches one and does not fit it */
-#define PAMUKLID_CODE_SIXTY_SEGMENT 25        /* legal or a warning: in the segment of 60 m */
+                                                 signal touches one and does not fit it. By the first that
+                                                 it touches, unless that one does not hold it and the
+                                                 segment does */
+#define PAMUKLID_CODE_SIXTY_SEGMENT 25        /* legal or a warning: in the segment of 60 m, and not held by
+                                                 the first channel that it touches, if any */
 
 /* rule, segment_rule: numbers that mean the same in every table */
 #define PAMUKLID_RULE_EMPTY 0        /* no rule is named */

@@ -10,6 +10,7 @@ use crate::expect;
 use crate::ffi::{self, Decision, Edges, Fault, Figures, Parts, Station, StationParts};
 use crate::image;
 use crate::oracle::adapter::{self, Prepared};
+use crate::oracle::sixty::{self, Change, Climb};
 
 pub type Told<T> = Result<T, String>;
 
@@ -73,12 +74,13 @@ pub fn verdict(
     kind: u8,
     direction: u8,
     e: &Edges,
-) -> Told<Decision> {
+) -> Told<(Decision, Option<Change>)> {
     let lent = image.to_vec();
     let got = ffi::evaluate(*s, kind, direction, *e, &lent);
-    let want = agreed(adapter::evaluate(p, s, kind, direction, e), &got)?;
+    let (want, change) = sixty::evaluate(p, s, kind, direction, e)?;
+    let want = agreed(Ok(want), &got)?;
     unchanged(image, &lent, "image")?;
-    Ok(want)
+    Ok((want, change))
 }
 
 pub fn unmeasured(image: &[u8], p: &Prepared, s: &Station) -> Told<Decision> {
@@ -95,10 +97,11 @@ pub fn ceiling(
     s: &Station,
     direction: u8,
     l: &Ladder,
-) -> Told<adapter::Ceiling> {
+) -> Told<(adapter::Ceiling, Option<Climb>)> {
     let (lent, rungs, floors) = (image.to_vec(), l.rungs.clone(), l.floors.clone());
     let got = ffi::ceiling(*s, direction, l.ordinary, l.floor, &lent, &rungs, &floors);
-    let want = adapter::ceiling(p, s, direction, &l.ordinary, &l.floor, &l.rungs, &l.floors)?;
+    let (want, climb) =
+        sixty::ceiling(p, s, direction, &l.ordinary, &l.floor, &l.rungs, &l.floors)?;
     equal("refusal", got.refusal, want.refusal)?;
     equal("rung", got.rung, want.rung_number())?;
     equal("limit_known", got.limit_known, want.limit.is_some().into())?;
@@ -107,7 +110,7 @@ pub fn ceiling(
     unchanged(&l.floors, &floors, "floor bytes")?;
     let bits = |x: &[f64]| x.iter().flat_map(|x| x.to_bits().to_le_bytes()).collect::<Vec<u8>>();
     unchanged(&bits(&l.rungs), &bits(&rungs), "rungs")?;
-    Ok(want)
+    Ok((want, climb))
 }
 
 /// How many bytes are lent for the rows of a list, and what they hold before.

@@ -1,6 +1,7 @@
 //! docs/DIFFERENCES.md on both sides: each item's input, and the whole answer that the Rust gives,
 //! worked out by hand from document 01 and that page's table. Rust and library are compared on each
-//! as on every other case; then the agreed answer must be the one written here, every part of it.
+//! as on every other case; then the agreed answer must be the one written here, every part of it. Where
+//! document 02 changed an answer, the Rust's and the library's are both written here.
 
 use crate::Run;
 use crate::distance::Asked as Asking;
@@ -74,9 +75,26 @@ impl Answer {
 }
 
 fn verdict(a: &mut Asked, what: &str, dial: f64, want: Answer) {
-    let got = a.verdict(dial);
+    let (got, change) = a.judged(dial);
     if let Some(part) = got.difference(&want.0) {
         wrong(what, &format!("{part} (where \"library\" is the agreed answer)"));
+    }
+    if change.is_some() {
+        wrong(what, "changed by document 02, 4");
+    }
+}
+
+/// An answer that document 02, 4 changed: the Rust's, and the library's.
+fn changed(a: &mut Asked, what: &str, dial: f64, was: Answer, now: Answer) {
+    let (got, change) = a.judged(dial);
+    let Some(change) = change else {
+        wrong(what, "not changed by document 02, 4");
+    };
+    if let Some(part) = change.was.difference(&was.0) {
+        wrong(what, &format!("{part} (where \"library\" is the Rust)"));
+    }
+    if let Some(part) = got.difference(&now.0) {
+        wrong(what, &part);
     }
 }
 
@@ -139,6 +157,14 @@ pub fn run(run: &mut Run) {
     data_alone(run);
     region(run);
     demand_3(run);
+}
+
+/// 20 to 24, what document 02, 4 changed: behind the drawn cases, so that a seed's draws stay as they were.
+pub fn changes(run: &mut Run) {
+    brushed(run);
+    brushed_by_cw(run);
+    first_channel(run);
+    brushed_rungs(run);
 }
 
 /// 1 and 2.
@@ -304,10 +330,9 @@ fn more_on_sixty(run: &mut Run) {
     verdict(&mut a, "12: a privilege's emissions aren't read", 88.0, on_channel(LEGAL));
     list(&mut a, "12: the list reads them", &[]);
 
-    let mut a = on(run, sixty(), 0.0, SHORT);
-    a.table.tables[CHANNELS][0] = centre(50.0);
-    let want = answer(BLOCKED, 24, 10, SHORT, (40.0, 45.0)).band(1).segment(45.0, 55.0, 10);
-    verdict(&mut a, "13: a channel in the segment comes first", 40.0, want);
+    let mut a = on(run, fifty(), 0.0, SHORT);
+    let want = by_channel(BLOCKED, SHORT, (46.0, 51.0));
+    verdict(&mut a, "13: a channel that holds the signal comes first", 46.0, want);
     let channel = (45.0, 55.0, 48.0, 48.0, 1, 10);
     list(&mut a, "13: the segment's row isn't cut", &[SEGMENT_ROW, channel]);
 
@@ -428,4 +453,215 @@ fn demand_3(run: &mut Run) {
     let rows = list(&mut a, "channel band: listed", &[SEGMENT_ROW, CHANNEL_ROW]);
     distance(&mut a, "channel band: its rows don't count", &rows, 88.0, None);
     a.gives("channel band: but allowed", 88.0, 0, 24);
+}
+
+/// "Sixty" with its channel at 50 instead of 90, inside the segment 20–80: 45–55, its carrier 48.
+pub fn fifty() -> Table {
+    let mut t = sixty();
+    t.tables[CHANNELS][0] = centre(50.0);
+    t
+}
+
+/// By the channel 45–55.
+fn by_channel(verdict: u8, audio: (f64, f64), air: (f64, f64)) -> Answer {
+    let a = answer(verdict, 24, 10, audio, air).band(1).segment(45.0, 55.0, 10);
+    if verdict == BLOCKED { a } else { a.shared() }
+}
+
+/// By the segment 20–80.
+fn by_segment(verdict: u8, audio: (f64, f64), air: (f64, f64)) -> Answer {
+    let a = answer(verdict, 25, 13, audio, air).band(1).segment(20.0, 80.0, 13);
+    if verdict == WARNING { a.above_segment_watts() } else { a }
+}
+
+/// 20 to 22: data and test emissions that brush a channel.
+fn brushed(run: &mut Run) {
+    let air = (40.0, 45.0);
+    let mut a = on(run, fifty(), 0.0, SHORT);
+    let (was, now) = (by_channel(BLOCKED, SHORT, air), by_segment(LEGAL, SHORT, air));
+    changed(&mut a, "20: data that touches a channel", 40.0, was, now);
+    let off = by_segment(LEGAL, SHORT, (39.875, 44.875));
+    verdict(&mut a, "20: data beside a channel", 39.875, off);
+    a.kind = 2;
+    changed(&mut a, "20: a test emission", 40.0, was, now);
+    a.s.control = 2;
+    changed(&mut a, "20: under automatic control", 40.0, was, now);
+    // privilege, kind nothing and the emission test come before
+    a.kind = 3;
+    let keyed = answer(LEGAL, 16, 1, SHORT, air).band(1);
+    verdict(&mut a, "20: keying alone comes before", 40.0, keyed);
+    a.kind = 0;
+    a.table.tables[PRIVILEGES][0].low = 40.125;
+    let want = answer(BLOCKED, 15, 1, SHORT, air).band(1);
+    verdict(&mut a, "20: the privilege comes before", 40.0, want);
+    // it holds the signal, 40–43, not the guarded range, 38–45
+    (a.table.tables[PRIVILEGES][0].low, a.s.margin_hz, a.edges) = (40.0, 2.0, (0.0, 3.0));
+    let short = (40.0, 43.0);
+    let (old, new) = (by_channel(BLOCKED, a.edges, short), by_segment(LEGAL, a.edges, short));
+    changed(&mut a, "20: the privilege holds the signal alone", 40.0, old, new);
+    (a.table.tables[PRIVILEGES][0].low, a.s.margin_hz, a.edges) = (0.0, 0.0, SHORT);
+    a.table.flags |= HAS_EMISSIONS;
+    (a.table.emissions, a.table.rules[4]) = (2, 11);
+    let want = answer(BLOCKED, 22, 11, SHORT, air).band(1);
+    verdict(&mut a, "20: the emission test comes before", 40.0, want);
+    a.table.tables[EXCLUDED].push(Record { band: 1, rule: 20, ..Record::default() });
+    let want = answer(BLOCKED, 11, 20, SHORT, air).band(1);
+    verdict(&mut a, "20: an excluded band comes before", 40.0, want);
+
+    let mut a = on(run, fifty(), 0.0, SHORT);
+    a.s.power_known = 1;
+    for (watts, verdict) in [(9.15, LEGAL), (9.150000000000002, WARNING), (200.0, WARNING)] {
+        a.s.power_w = watts;
+        for kind in [0, 2] {
+            a.kind = kind;
+            let now = by_segment(verdict, SHORT, air);
+            changed(&mut a, "21: above 9.15 W", 40.0, was, now);
+        }
+    }
+
+    let (audio, air) = ((0.0, 15.0), (30.0, 45.0));
+    let mut a = on(run, fifty(), 0.0, audio);
+    let was = by_channel(BLOCKED, audio, air);
+    let wide = answer(BLOCKED, 12, 7, audio, air).band(1).segment(20.0, 80.0, 13);
+    changed(&mut a, "22: wider than the general limit", 30.0, was, wide);
+    // the general limit alone, and data alone
+    (a.table.tables[SEGMENTS][0].flags, a.table.tables[SEGMENTS][0].figure) = (1, 20.0);
+    changed(&mut a, "22: an own limit isn't read", 30.0, was, wide);
+    a.kind = 2;
+    changed(&mut a, "22: a test emission", 30.0, was, by_segment(LEGAL, audio, air));
+}
+
+/// 23: a CW carrier on a channel's centre, wider than the channel; and off the centre.
+fn brushed_by_cw(run: &mut Run) {
+    let (audio, air) = ((-10.0, 10.0), (40.0, 60.0));
+    let mut a = on(run, fifty(), 0.0, audio);
+    a.kind = 1;
+    let (was, now) = (by_channel(LEGAL, audio, air), by_segment(LEGAL, audio, air));
+    changed(&mut a, "23: CW on the centre", 50.0, was, now);
+    a.s.power_known = 1;
+    for (watts, channel, segment) in [
+        (9.15, LEGAL, LEGAL),
+        (9.150000000000002, LEGAL, WARNING),
+        (50.0, LEGAL, WARNING),
+        (100.0, LEGAL, WARNING),
+        (100.00000000000001, WARNING, WARNING),
+    ] {
+        a.s.power_w = watts;
+        let mut was = by_channel(channel, audio, air);
+        if channel == WARNING {
+            was = was.above_channel_watts();
+        }
+        let now = by_segment(segment, audio, air);
+        changed(&mut a, "23: CW on the centre, by its watts", 50.0, was, now);
+    }
+    a.s.power_known = 0;
+    // tolerance 1, and the next figure of the grid off it
+    for (dial, channel) in [(51.0, LEGAL), (51.125, BLOCKED), (48.875, BLOCKED)] {
+        let air = (dial - 10.0, dial + 10.0);
+        let was = by_channel(channel, audio, air);
+        changed(&mut a, "23: CW by its centre", dial, was, by_segment(LEGAL, audio, air));
+        (a.s.power_known, a.s.power_w) = (1, 50.0);
+        changed(&mut a, "23: the same at 50 W", dial, was, by_segment(WARNING, audio, air));
+        a.s.power_known = 0;
+    }
+    // a channel that holds the range decides, and so does one where no segment holds it
+    a.edges = (-5.0, 5.0);
+    let held = by_channel(LEGAL, a.edges, (45.0, 55.0));
+    verdict(&mut a, "23: CW that the channel holds", 50.0, held);
+    a.edges = (-40.0, 40.0);
+    let want = by_channel(LEGAL, a.edges, (10.0, 90.0));
+    verdict(&mut a, "23: CW that no segment holds", 50.0, want);
+}
+
+/// 20: which channel counts, and which segment.
+fn first_channel(run: &mut Run) {
+    let mut t = sixty();
+    t.tables[SEGMENTS][0].high = 95.0;
+    t.tables[CHANNELS] = vec![centre(80.0), centre(90.0)];
+    let mut a = on(run, t.clone(), 0.0, SHORT);
+    let air = (85.0, 90.0);
+    let at = |code, rule| answer(LEGAL, code, rule, SHORT, air).band(1);
+    let channel =
+        |low| Answer(Decision { verdict: BLOCKED, ..at(24, 10).segment(low, low + 10.0, 10).0 });
+    let now = at(25, 13).segment(20.0, 95.0, 13);
+    changed(&mut a, "20: the first overlapping channel", 85.0, channel(75.0), now);
+    a.table.tables[CHANNELS].swap(0, 1);
+    verdict(&mut a, "20: the two channels swapped", 85.0, channel(85.0));
+    a.table.tables[CHANNELS] = vec![centre(90.0)];
+    let want = Decision { air_low: 86.0, air_high: 91.0, ..channel(85.0).0 };
+    verdict(&mut a, "20: held by both", 86.0, Answer(want));
+    let mut a = on(run, fifty(), 0.0, SHORT);
+    for dial in [45.0, 46.875, 47.0, 49.0, 49.125, 50.0] {
+        let on_carrier = (47.0..=49.0).contains(&dial);
+        let there = if on_carrier { LEGAL } else { BLOCKED };
+        let want = by_channel(there, SHORT, (dial, dial + 5.0));
+        verdict(&mut a, "20: held by both, to the channel's ends", dial, want);
+    }
+    for dial in [44.875, 50.125, 55.0] {
+        let air = (dial, dial + 5.0);
+        let (was, now) = (by_channel(BLOCKED, SHORT, air), by_segment(LEGAL, SHORT, air));
+        changed(&mut a, "20: past the channel's ends", dial, was, now);
+    }
+    let off = by_segment(LEGAL, SHORT, (55.125, 60.125));
+    verdict(&mut a, "20: beside the channel", 55.125, off);
+
+    // of the channel band's number, the first that holds the guarded range
+    let other = Record { band: 2, rule: 14, ..span(20.0, 80.0) };
+    let more = Record { band: 1, rule: 15, ..span(30.0, 80.0) };
+    let air = (40.0, 45.0);
+    let was = by_channel(BLOCKED, SHORT, air);
+    let mut a = on(run, fifty(), 0.0, SHORT);
+    a.table.tables[SEGMENTS][0] = other;
+    verdict(&mut a, "20: a segment of another number", 40.0, was);
+    a.table.tables[SEGMENTS].push(more);
+    let now = answer(LEGAL, 25, 15, SHORT, air).band(1).segment(30.0, 80.0, 15);
+    changed(&mut a, "20: behind one of another number", 40.0, was, now);
+    a.table.tables[SEGMENTS].insert(0, Record { band: 1, rule: 13, ..span(40.0, 45.0) });
+    let now = answer(LEGAL, 25, 13, SHORT, air).band(1).segment(40.0, 45.0, 13);
+    changed(&mut a, "20: the first that holds the range", 40.0, was, now);
+    // the guarded range, not the signal
+    a.s.margin_hz = 0.125;
+    let now = answer(LEGAL, 25, 15, SHORT, air).band(1).segment(30.0, 80.0, 15);
+    changed(&mut a, "20: the guarded range", 40.0, was, now);
+}
+
+/// 24: ceilings that judge such a signal.
+fn brushed_rungs(run: &mut Run) {
+    let mut a = on(run, fifty(), 0.0, SHORT);
+    let was = by_channel(BLOCKED, SHORT, (40.0, 45.0));
+    let wide = answer(BLOCKED, 12, 7, (0.0, 15.0), (40.0, 55.0)).band(1).segment(20.0, 80.0, 13);
+    let past = by_channel(BLOCKED, (0.0, 45.0), (40.0, 85.0));
+    for (limit, highs, rung, want) in [
+        (10.0, vec![2.0, 5.0, 8.0], 2, None),
+        (10.0, vec![2.0, 5.0, 15.0], 1, Some(wide)),
+        (100.0, vec![2.0, 5.0, 45.0], 1, Some(past)),
+    ] {
+        a.table.data_limit = limit;
+        let (got, climb) = a.climbed(40.0, &highs);
+        let Some(climb) = climb else {
+            wrong("24: a changed ceiling", &format!("{highs:?}"));
+        };
+        let same = |d: Option<Decision>, want: Option<Answer>| match (d, want) {
+            (Some(d), Some(want)) => d.difference(&want.0).is_none(),
+            (d, want) => d.is_none() && want.is_none(),
+        };
+        if climb.was.rung != Some(0) || !same(climb.was.limit, Some(was)) {
+            wrong("24: the Rust's rung 0, limit 24", &format!("{:?}", climb.was.rung));
+        }
+        if got.rung != Some(rung) || !same(got.limit, want) {
+            wrong("24: the rungs", &format!("{highs:?}: {:?}", got.rung));
+        }
+    }
+    // rung 0 itself; and one that nothing changes
+    let wide = answer(BLOCKED, 12, 7, (0.0, 15.0), (30.0, 45.0)).band(1).segment(20.0, 80.0, 13);
+    a.table.data_limit = 10.0;
+    let (got, climb) = a.climbed(30.0, &[15.0]);
+    let limit = got.limit.and_then(|d| d.difference(&wide.0));
+    if got.rung.is_some() || got.limit.is_none() || limit.is_some() || climb.is_none() {
+        wrong("24: no rung, too_wide", &format!("{:?} {limit:?}", got.rung));
+    }
+    let (got, climb) = a.climbed(46.0, &[2.0, 5.0]);
+    if got.rung.is_some() || got.limit.is_none_or(|d| d.code != 24) || climb.is_some() {
+        wrong("24: held by both, as before", &format!("{:?}", got.rung));
+    }
 }

@@ -13,6 +13,8 @@ use crate::draw::Rng;
 use crate::expect;
 use crate::ffi::{Decision, Edges, Figures, Parts, Station};
 use crate::image::*;
+use crate::oracle::adapter::Ceiling;
+use crate::oracle::sixty::{Change, Climb};
 use crate::tables;
 
 pub fn span(low: f64, high: f64) -> Record {
@@ -93,11 +95,27 @@ impl Asked<'_> {
     }
 
     pub fn verdict(&mut self, dial: f64) -> Decision {
+        self.judged(dial).0
+    }
+
+    /// A verdict, and what of it document 02, 4 changed.
+    pub fn judged(&mut self, dial: f64) -> (Decision, Option<Change>) {
         let image = self.table.encode();
         let p = self.run.image(&image);
         self.s.dial_hz = dial;
         let e = self.edges();
-        self.run.verdict(&image, &p, &self.s, self.kind, self.direction, &e)
+        self.run.judged(&image, &p, &self.s, self.kind, self.direction, &e)
+    }
+
+    /// A ceiling of rungs from 0 up to these, all with ordinary control frames of no width.
+    pub fn climbed(&mut self, dial: f64, highs: &[f64]) -> (Ceiling, Option<Climb>) {
+        let image = self.table.encode();
+        let p = self.run.image(&image);
+        self.s.dial_hz = dial;
+        let control = Edges::of([0.0; 4]);
+        let rungs = highs.iter().flat_map(|&high| [0.0, high, 0.0, high]).collect();
+        let l = Ladder { ordinary: control, floor: control, rungs, floors: vec![0; highs.len()] };
+        self.run.climbed(&image, &p, &self.s, self.direction, &l)
     }
 
     /// The verdict's number (0 legal, 1 warning, 2 blocked) and the code.

@@ -38,6 +38,7 @@ use compare::{Call, Case, Found, Room, Told};
 use draw::Rng;
 use ffi::{Decision, Edges, Figures, Parts, Station, StationParts};
 use oracle::adapter::{self, Prepared};
+use oracle::sixty::{self, Change, Climb};
 use reach::Reach;
 use tables::{Signal, World};
 
@@ -90,6 +91,10 @@ pub struct Run {
     pub demand_3: (u64, u64),
     pub images: u64,
     pub refused: u64,
+    /// Verdicts and ceilings that document 02, 4 changes, for which the Rust is no yardstick; and how many
+    /// of them came before the cases made for it.
+    pub changed: (u64, u64),
+    pub left: (u64, u64),
     pub texts: texts::Met,
     directions: Directions,
     brief: bool,
@@ -110,6 +115,8 @@ impl Run {
             demand_3: (0, 0),
             images: 0,
             refused: 0,
+            changed: (0, 0),
+            left: (0, 0),
             texts: texts::Met::default(),
             directions: Directions::new(only),
             brief,
@@ -172,8 +179,25 @@ impl Run {
         direction: u8,
         e: &Edges,
     ) -> Decision {
+        self.judged(image, p, s, kind, direction, e).0
+    }
+
+    /// A verdict, and what of it document 02, 4 changed.
+    pub fn judged(
+        &mut self,
+        image: &[u8],
+        p: &Prepared,
+        s: &Station,
+        kind: u8,
+        direction: u8,
+        e: &Edges,
+    ) -> (Decision, Option<Change>) {
         let told = compare::verdict(image, p, s, kind, direction, e);
-        let d = self.or_end(told, image, s, Call::Verdict { kind, direction, e: *e });
+        let (d, change) = self.or_end(told, image, s, Call::Verdict { kind, direction, e: *e });
+        if let Some(change) = &change {
+            self.changed.0 += 1;
+            self.reach.add(reach::change_key(change, Some(kind)), 1);
+        }
         if d.refusal == 0 {
             self.verdicts += 1;
             self.reach.decision(&d, kind);
@@ -183,7 +207,7 @@ impl Run {
             self.reach.count("verdict refused", u16::from(d.refusal), 0);
             self.reach.no_direction("no direction, verdict", direction, d.refusal);
         }
-        d
+        (d, change)
     }
 
     pub fn unmeasured(&mut self, image: &[u8], p: &Prepared, s: &Station) -> Decision {
@@ -206,11 +230,30 @@ impl Run {
         direction: u8,
         l: &Ladder,
     ) -> adapter::Ceiling {
+        self.climbed(image, p, s, direction, l).0
+    }
+
+    /// A ceiling, and what of it document 02, 4 changed.
+    pub fn climbed(
+        &mut self,
+        image: &[u8],
+        p: &Prepared,
+        s: &Station,
+        direction: u8,
+        l: &Ladder,
+    ) -> (adapter::Ceiling, Option<Climb>) {
         let told = compare::ceiling(image, p, s, direction, l);
-        let c = match told {
-            Ok(c) => c,
+        let (c, climb) = match told {
+            Ok(told) => told,
             told => self.or_end(told, image, s, Call::Ceiling { direction, ladder: l.clone() }),
         };
+        if let Some(climb) = &climb {
+            self.changed.1 += 1;
+            self.reach.add(reach::climb_key(&c, climb), 1);
+            for change in &climb.changes {
+                self.reach.add(reach::change_key(change, None), 1);
+            }
+        }
         if c.refusal == 0 {
             self.ceilings += 1;
             let known = |x: bool| u16::from(x);
@@ -234,7 +277,7 @@ impl Run {
             self.reach.count("ceiling refused", u16::from(c.refusal), 0);
             self.reach.no_direction("no direction, ceiling", direction, c.refusal);
         }
-        c
+        (c, climb)
     }
 
     #[allow(clippy::too_many_arguments)]
@@ -451,6 +494,42 @@ fn one_list(run: &mut Run, rng: &mut Rng, w: &World, (image, p): (&[u8], &Prepar
     }
 }
 
+/// Document 02, 4, channel against segment, behind all other cases: stated ones, then tables made for it by a
+/// stream of their own, most of whose cases it changes. A fiftieth of the verdicts and of the ceilings.
+fn brushes(run: &mut Run, wanted: &Wanted) {
+    run.left = run.changed;
+    differences::changes(run);
+    let (verdicts, ceilings) =
+        (run.verdicts + wanted.verdicts / 50, run.ceilings + wanted.ceilings / 50);
+    let changes = |p: &Prepared, s: &Station, kind, direction, e: &Edges| {
+        sixty::change(p, s, kind, direction, e).is_some()
+    };
+    while run.verdicts < verdicts || run.ceilings < ceilings {
+        run.place += 1;
+        let rng = &mut Rng::new(run.seed, run.place + (1 << 36));
+        run.directions.begin(run.seed, run.place);
+        let w = tables::brush(rng);
+        let p = run.image(&w.image);
+        if p.refusal != 0 {
+            run.reach.count("worlds refused", u16::from(p.refusal), 0);
+            continue;
+        }
+        for _ in 0..20 {
+            let turn = |drawn| run.directions.turn(drawn);
+            let (_, s, e, kind, direction) =
+                draw(rng, &w, turn, |_, s, e, kind, direction| !changes(&p, s, kind, direction, e));
+            run.verdict(&w.image, &p, &s, kind, direction, &e);
+        }
+        for _ in 0..2 {
+            let turn = |drawn| run.directions.turn(drawn);
+            let (signal, s, _, _, direction) =
+                draw(rng, &w, turn, |_, s, e, _, direction| !changes(&p, s, 0, direction, e));
+            let l = cases::ladder(rng, &w, &signal);
+            run.ceiling(&w.image, &p, &s, direction, &l);
+        }
+    }
+}
+
 struct Wanted {
     verdicts: u64,
     ceilings: u64,
@@ -561,6 +640,7 @@ fn run_all(run: &mut Run, wanted: &Wanted) {
         }
         run.image(&damage::several(&mut Rng::new(run.seed, run.place + (1 << 33)), &w));
     }
+    brushes(run, &wanted);
 }
 
 /// Every bit of the sample images turned over, one at a time: the check, the tidy question, and where
@@ -633,6 +713,14 @@ fn main() {
         by("dial list by direction"),
         by("list by direction, Respond's is another")
     );
+    println!(
+        "changed by document 02, 4, and held to its words: {} of the verdicts, {} of the ceilings; {} and {} \
+         of them not on tables made for it",
+        run.changed.0, run.changed.1, run.left.0, run.left.1
+    );
+    for (key, what) in reach::CHANGES {
+        println!("  {what}: {}", run.reach.met(key));
+    }
     let (met, nought) = run.demand_3;
     println!(
         "fault: {}",

@@ -4,3 +4,5 @@ use crate::expect;
 include!(concat!(env!("OUT_DIR"), "/oracle.rs"));
 #[path = "adapter.rs"]
 pub mod adapter;
+#[path = "sixty.rs"]
+pub mod sixty;

@@ -3,6 +3,8 @@
 use std::collections::BTreeMap;
 
 use crate::ffi::{Decision, Station};
+use crate::oracle::adapter::Ceiling;
+use crate::oracle::sixty::{Change, Climb};
 use crate::texts;
 
 pub type Key = (&'static str, u16, u16);
@@ -129,6 +131,52 @@ const FAULTS: [(u16, bool, &[u16]); 8] = [
     (13, false, &[1]),
 ];
 
+/// What document 02, 4 changes: verdicts by the kind of emission and the rungs of ceilings, each with the
+/// verdict before and after, and how a ceiling with such a rung ends.
+pub const CHANGES: [(Key, &str); 16] = [
+    (("changed data 24 to 25", 2, 0), "data, blocked 24 to legal 25"),
+    (("changed data 24 to 25", 2, 1), "data, blocked 24 to warning 25"),
+    (("changed data 24 to 12", 2, 2), "data, blocked 24 to too_wide"),
+    (("changed test 24 to 25", 2, 0), "test, blocked 24 to legal 25"),
+    (("changed test 24 to 25", 2, 1), "test, blocked 24 to warning 25"),
+    (("changed CW 24 to 25", 2, 0), "CW, blocked 24 to legal 25"),
+    (("changed CW 24 to 25", 2, 1), "CW, blocked 24 to warning 25"),
+    (("changed CW 24 to 25", 0, 0), "CW, legal 24 to legal 25"),
+    (("changed CW 24 to 25", 0, 1), "CW, legal 24 to warning 25"),
+    (("changed CW 24 to 25", 1, 1), "CW, warning 24 to warning 25"),
+    (("changed rung 24 to 25", 2, 0), "rung, blocked 24 to legal 25"),
+    (("changed rung 24 to 25", 2, 1), "rung, blocked 24 to warning 25"),
+    (("changed rung 24 to 12", 2, 2), "rung, blocked 24 to too_wide"),
+    (("changed ceiling", 0, 0), "ceiling, limit 24 to none"),
+    (("changed ceiling", 1, 0), "ceiling, limit 24 to too_wide at the changed rung"),
+    (("changed ceiling", 2, 0), "ceiling, limit 24 to a later rung's"),
+];
+
+/// The kind of a changed answer; no emission: a rung.
+pub fn change_key(change: &Change, kind: Option<u8>) -> Key {
+    let what = match (kind, change.now.code) {
+        (Some(0), 25) => "changed data 24 to 25",
+        (Some(0), _) => "changed data 24 to 12",
+        (Some(1), 25) => "changed CW 24 to 25",
+        (Some(2), 25) => "changed test 24 to 25",
+        (None, 25) => "changed rung 24 to 25",
+        (None, _) => "changed rung 24 to 12",
+        // none can be: reached, it shows in the counts
+        _ => "changed otherwise",
+    };
+    (what, change.was.verdict.into(), change.now.verdict.into())
+}
+
+/// The kind of a changed ceiling.
+pub fn climb_key(now: &Ceiling, climb: &Climb) -> Key {
+    let end = match &now.limit {
+        None => 0,
+        Some(_) if climb.changes.last().is_some_and(|change| change.now.verdict == 2) => 1,
+        Some(_) => 2,
+    };
+    ("changed ceiling", end, 0)
+}
+
 /// What each direction must meet: 0 originate, 1 respond, 2 operator, 3 respond to automatic. Code 20 is met
 /// under automatic control outside automatic segments, by what isn't a plain Respond.
 const BY_DIRECTION: [(&str, &[u16], &[u16]); 7] = [
@@ -206,6 +254,7 @@ impl Reach {
         }
     }
 
+    /// How often this was reached.
     pub fn met(&self, key: Key) -> u64 {
         self.counts.get(&key).copied().unwrap_or(0)
     }
@@ -213,6 +262,7 @@ impl Reach {
     /// `only`: the one direction that was drawn.
     fn required(only: Option<u8>) -> Vec<Key> {
         let mut out = OTHER.to_vec();
+        out.extend(CHANGES.map(|(key, _)| key));
         for (what, directions, cases) in BY_DIRECTION {
             for &d in directions.iter().filter(|d| only.is_none_or(|only| u16::from(only) == **d)) {
                 out.extend(cases.iter().map(|&case| (what, d, case)));

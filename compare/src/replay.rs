@@ -1,8 +1,8 @@
 //! Writes the replay list: some thousand cases with their answers, for a program of the gate that
 //! needs no Rust (crates/run_replay). Verdicts, ceilings and dial lists are the Rust's own (those of
-//! direction 3, which it has not, are its Originate's); refusals, and the parts that the Rust has only as
-//! text, are worked out from document 01 (expect.rs); texts are the Rust's own. Every answer was compared
-//! with the linked library's on the way.
+//! direction 3, which it has not, are its Originate's; those that document 02, 4 changed are worked out from
+//! it, sixty.rs); refusals, and the parts that the Rust has only as text, are worked out from document 01
+//! (expect.rs); texts are the Rust's own. Every answer was compared with the linked library's on the way.
 //!
 //! All numbers are little-endian; f64 means its 64 bits. No padding. The list is u32 number of
 //! pages, then those:
@@ -46,9 +46,12 @@ use crate::distance::{self, Asked};
 use crate::draw::{Rng, Scale};
 use crate::expect;
 use crate::ffi::{Decision, Edges, Figures, Parts, Station, StationParts};
-use crate::oracle::adapter::{self, Prepared};
+use crate::image::{CHANNELS, SEGMENTS};
+use crate::oracle::adapter::{self, Ceiling, Prepared};
+use crate::oracle::sixty::{Change, Climb};
+use crate::reach::{self, CHANGES, Key};
 use crate::tables::{self, World};
-use crate::{Run, fixed, texts};
+use crate::{Run, differences, fixed, texts};
 
 #[derive(Default)]
 struct List {
@@ -60,6 +63,8 @@ struct List {
     seen: BTreeSet<(u8, u8, u8)>,
     /// How often each thing worth having is there.
     have: BTreeMap<(u8, u16, u16, u16), u32>,
+    /// How many answers of each kind document 02, 4 changed.
+    changed: BTreeMap<Key, u32>,
 }
 
 impl List {
@@ -71,6 +76,10 @@ impl List {
         }
         *n += 1;
         true
+    }
+
+    fn changes(&mut self, key: Key) {
+        *self.changed.entry(key).or_default() += 1;
     }
 }
 
@@ -163,18 +172,21 @@ impl<'a> Page<'a> {
         e: &Edges,
         most: u32,
     ) {
-        let d = run.verdict(self.image, self.p, s, kind, direction, e);
-        let shape = u16::from(d.overshoot * 2 + d.edge) * 4 + u16::from(d.guidance);
-        let code = u16::from(d.code) * 4 + u16::from(d.verdict);
-        let (key, most) = match (d.refusal, d.code) {
+        let (d, change) = run.judged(self.image, self.p, s, kind, direction, e);
+        // taken by the Rust's answer, so that a changed one stands where it stood
+        let was = change.map_or(d, |change| change.was);
+        let shape = u16::from(was.overshoot * 2 + was.edge) * 4 + u16::from(was.guidance);
+        let code = u16::from(was.code) * 4 + u16::from(was.verdict);
+        let (key, most) = match (was.refusal, was.code) {
             (0, 1..=9) => ((1, code, 0, 0), most),
             (0, _) => {
-                ((1, code, shape, u16::from(kind) * 2 + u16::from(d.notes.contains(&1))), most * 2)
+                let marked = was.notes.contains(&1);
+                ((1, code, shape, u16::from(kind) * 2 + u16::from(marked)), most * 2)
             }
             (r, _) => ((2, u16::from(r), 0, 0), most / 2),
         };
         if list.wants(key, most) {
-            self.add_verdict(list, s, (kind, direction), e, &d);
+            self.add_verdict(list, s, (kind, direction), e, &(d, change));
         }
     }
 
@@ -184,7 +196,7 @@ impl<'a> Page<'a> {
         s: &Station,
         (kind, direction): (u8, u8),
         e: &Edges,
-        d: &Decision,
+        (d, change): &(Decision, Option<Change>),
     ) {
         let mut out = Vec::new();
         station(&mut out, s);
@@ -192,6 +204,9 @@ impl<'a> Page<'a> {
         edges(&mut out, e);
         decision(&mut out, d);
         self.add(list, (1, d.refusal, d.code), &out);
+        if let Some(change) = change {
+            list.changes(reach::change_key(change, Some(kind)));
+        }
     }
 
     fn unmeasured(&mut self, run: &mut Run, list: &mut List, s: &Station, most: u32) {
@@ -216,14 +231,15 @@ impl<'a> Page<'a> {
         if l.rungs.len() > 48 && !list.wants((4, 0, 0, 0), 2) {
             return;
         }
-        let c = run.ceiling(self.image, self.p, s, direction, l);
-        let limit = c.limit.map_or(0, |d| u16::from(d.code));
-        let key = match c.refusal {
-            0 => (5, limit, u16::from(c.rung.is_some()), u16::from(l.rungs.is_empty())),
+        let found = run.climbed(self.image, self.p, s, direction, l);
+        let was = rusts(&found);
+        let limit = was.limit.map_or(0, |d| u16::from(d.code));
+        let key = match was.refusal {
+            0 => (5, limit, u16::from(was.rung.is_some()), u16::from(l.rungs.is_empty())),
             r => (6, u16::from(r), 0, 0),
         };
         if list.wants(key, most) {
-            self.add_ceiling(list, s, direction, l, &c);
+            self.add_ceiling(list, s, direction, l, &found);
         }
     }
 
@@ -233,7 +249,7 @@ impl<'a> Page<'a> {
         s: &Station,
         direction: u8,
         l: &Ladder,
-        c: &adapter::Ceiling,
+        (c, climb): &(Ceiling, Option<Climb>),
     ) {
         let mut out = Vec::new();
         station(&mut out, s);
@@ -251,6 +267,9 @@ impl<'a> Page<'a> {
         out.push(u8::from(c.limit.is_some()));
         decision(&mut out, &c.limit_or_none());
         self.add(list, (3, c.refusal, 0), &out);
+        if let Some(climb) = climb {
+            list.changes(reach::climb_key(c, climb));
+        }
     }
 
     fn dials(
@@ -364,6 +383,8 @@ pub fn write(run: &mut Run, file: &str) {
     last.texts(run, &mut list);
     last.end(&mut list);
     to_automatic(run, &mut list);
+    let before = list.changed.clone();
+    brushed(run, &mut list);
     let missing: Vec<_> = wanted().into_iter().filter(|k| !list.seen.contains(k)).collect();
     assert!(missing.is_empty(), "every code and every refusal: {missing:?}");
     let mut out = list.images.to_le_bytes().to_vec();
@@ -381,6 +402,12 @@ pub fn write(run: &mut Run, file: &str) {
         list.images,
         run.seed
     );
+    println!("changed by document 02, 4, where they stood, and added at the end:");
+    for (key, what) in CHANGES.into_iter().filter(|(key, _)| !of_rung(key)) {
+        let stood = before.get(&key).copied().unwrap_or(0);
+        let all = list.changed.get(&key).copied().unwrap_or(0);
+        println!("  {what}: {stood}, {}", all - stood);
+    }
 }
 
 /// The codes of a verdict under automatic control.
@@ -407,18 +434,20 @@ fn to_automatic(run: &mut Run, list: &mut List) {
             let (signal, s, e, kind, _) =
                 crate::draw(rng, &w, |drawn| drawn, |_, _, _, _, _| false);
             let (s, direction) = (Station { control: 2, ..s }, 3);
-            let d = run.verdict(page.image, &p, &s, kind, direction, &e);
-            let most = if d.code == 20 { 3 } else { 1 };
-            if d.refusal == 0 && list.wants((11, d.code.into(), d.verdict.into(), 0), most) {
-                page.add_verdict(list, &s, (kind, direction), &e, &d);
+            let (d, change) = run.judged(page.image, &p, &s, kind, direction, &e);
+            let was = change.map_or(d, |change| change.was);
+            let most = if was.code == 20 { 3 } else { 1 };
+            if was.refusal == 0 && list.wants((11, was.code.into(), was.verdict.into(), 0), most) {
+                page.add_verdict(list, &s, (kind, direction), &e, &(d, change));
             }
             let l = cases::ladder(rng, &w, &signal);
-            let c = run.ceiling(page.image, &p, &s, direction, &l);
-            let limit = c.limit.map_or(0, |d| d.code);
-            let short = c.refusal == 0 && (1..=12).contains(&l.floors.len());
-            let key = (12, limit.into(), u16::from(c.rung.is_some()), 0);
+            let climbed = run.climbed(page.image, &p, &s, direction, &l);
+            let was = rusts(&climbed);
+            let limit = was.limit.map_or(0, |d| d.code);
+            let short = was.refusal == 0 && (1..=12).contains(&l.floors.len());
+            let key = (12, limit.into(), u16::from(was.rung.is_some()), 0);
             if short && LIMITS.contains(&limit) && list.wants(key, 1) {
-                page.add_ceiling(list, &s, direction, &l, &c);
+                page.add_ceiling(list, &s, direction, &l, &climbed);
             }
             let found = run.dials(page.image, &p, &s, direction, &e, Room::More(36), 0);
             let respond = adapter::safe_dials(&p, &s, 1, &e).map_or(0, |(_, rows)| rows.len());
@@ -459,22 +488,111 @@ fn on_practice(run: &mut Run, list: &mut List) {
     let e = Edges::of(pair(1750.0));
     for (dial_hz, direction) in [(14_098_000.0, 3), (14_098_000.0, 1), (14_097_700.0, 3)] {
         let s = Station { dial_hz, ..s };
-        let d = run.verdict(&image, &p, &s, 0, direction, &e);
-        page.add_verdict(list, &s, (0, direction), &e, &d);
+        let judged = run.judged(&image, &p, &s, 0, direction, &e);
+        page.add_verdict(list, &s, (0, direction), &e, &judged);
     }
-    let d = run.verdict(&image, &p, &s, 0, 4, &e);
-    page.add_verdict(list, &s, (0, 4), &e, &d);
+    let judged = run.judged(&image, &p, &s, 0, 4, &e);
+    page.add_verdict(list, &s, (0, 4), &e, &judged);
     let control = Edges::of(pair(1700.0));
     let rungs = [pair(1700.0), pair(1750.0)].concat();
     let l = Ladder { ordinary: control, floor: control, rungs, floors: vec![0, 0] };
     let there = Station { dial_hz: 14_097_750.0, ..s };
     for direction in [3, 1, 4] {
-        let c = run.ceiling(&image, &p, &there, direction, &l);
-        page.add_ceiling(list, &there, direction, &l, &c);
+        let climbed = run.climbed(&image, &p, &there, direction, &l);
+        page.add_ceiling(list, &there, direction, &l, &climbed);
         let found = run.dials(&image, &p, &s, direction, &e, Room::Rows(4), 0);
         page.add_dials(list, &s, direction, &e, &found);
     }
     page.end(list);
+}
+
+/// Document 02, 4, channel against segment, behind all else: two of its stated cases with what stands beside
+/// them, then each kind of change, and answers by a channel that stay.
+fn brushed(run: &mut Run, list: &mut List) {
+    let (mut two, mut swapped) = (fixed::sixty(), fixed::sixty());
+    for (t, centres) in [(&mut two, [80.0, 90.0]), (&mut swapped, [90.0, 80.0])] {
+        t.tables[SEGMENTS][0].high = 95.0;
+        t.tables[CHANNELS] = centres.map(fixed::centre).to_vec();
+    }
+    let s = Station {
+        margin_hz: 0.0,
+        policy: 2,
+        control: 0,
+        license: 4,
+        sideband: 0,
+        itu_region: 0,
+        dial_known: 1,
+        ..expect::FRESH
+    };
+    let e = Edges::of([0.0, 5.0, 0.0, 5.0]);
+    for (table, dials) in [
+        (differences::fifty(), vec![39.875, 40.0, 44.875, 45.0, 48.0, 50.0, 50.125, 55.0]),
+        (two, vec![85.0]),
+        (swapped, vec![85.0]),
+    ] {
+        let image = table.encode();
+        let p = run.image(&image);
+        let mut page = Page::new(&image, &p);
+        for dial_hz in dials {
+            let s = Station { dial_hz, ..s };
+            let judged = run.judged(&image, &p, &s, 0, 0, &e);
+            page.add_verdict(list, &s, (0, 0), &e, &judged);
+        }
+        page.end(list);
+    }
+    for place in 8001..=9000 {
+        run.place = place;
+        let rng = &mut Rng::new(run.seed, place + (1 << 36));
+        let w = tables::brush(rng);
+        if w.image.len() > 1000 {
+            continue;
+        }
+        let p = run.image(&w.image);
+        let mut page = Page::new(&w.image, &p);
+        for _ in 0..if p.refusal == 0 { 24 } else { 0 } {
+            let (signal, s, e, kind, direction) =
+                crate::draw(rng, &w, |drawn| drawn, |_, _, _, _, _| false);
+            let (d, change) = run.judged(&w.image, &p, &s, kind, direction, &e);
+            let key = match &change {
+                Some(change) => kind_of(reach::change_key(change, Some(kind))),
+                None => (15, kind.into(), d.verdict.into(), 0),
+            };
+            if (change.is_some() || d.code == 24) && list.wants(key, 3) {
+                page.add_verdict(list, &s, (kind, direction), &e, &(d, change));
+            }
+            let l = cases::ladder(rng, &w, &signal);
+            let climbed = run.climbed(&w.image, &p, &s, direction, &l);
+            if let (c, Some(climb)) = &climbed
+                && l.floors.len() <= 12
+                && list.wants(kind_of(reach::climb_key(c, climb)), 3)
+            {
+                page.add_ceiling(list, &s, direction, &l, &climbed);
+            }
+        }
+        page.end(list);
+    }
+    let all = CHANGES.iter().filter(|(key, _)| !of_rung(key));
+    let missing: Vec<_> = all
+        .filter(|(key, _)| !list.have.contains_key(&kind_of(*key)))
+        .map(|(_, what)| what)
+        .collect();
+    assert!(missing.is_empty(), "every kind of change: {missing:?}");
+}
+
+/// Whether a kind of change is one of rungs: a ceiling is taken by how it ends.
+fn of_rung(key: &Key) -> bool {
+    key.0.starts_with("changed rung")
+}
+
+/// A kind of change as a thing worth having.
+fn kind_of(key: Key) -> (u8, u16, u16, u16) {
+    let at = CHANGES.iter().position(|(known, _)| *known == key);
+    (14, at.expect("a kind of change") as u16, 0, 0)
+}
+
+/// The ceiling that the Rust gave, by which a case is taken, so that a changed one stands where it stood.
+fn rusts((c, climb): &(Ceiling, Option<Climb>)) -> &Ceiling {
+    climb.as_ref().map_or(c, |climb| &climb.was)
 }
 
 /// Every code of a verdict (4 is `unmeasured`'s alone), and every refusal that a call's inputs can

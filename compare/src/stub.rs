@@ -8,7 +8,7 @@ use crate::ffi::{
     Ceiling, Decision, Dials, Distance, Edges, Fault, Station, Text, Tidiness, VERSION,
 };
 use crate::original::adapter::{self, Prepared};
-use crate::original::{distance, expect};
+use crate::original::{distance, expect, sixty};
 use crate::texts::Line;
 
 thread_local! {
@@ -67,7 +67,7 @@ extern "C" fn pamuklid_evaluate(
     n: usize,
 ) -> Decision {
     let p = prepared(unsafe { slice(image, n) });
-    adapter::evaluate(&p, &s, kind, direction, &e).expect("the Rust's words")
+    sixty::evaluate(&p, &s, kind, direction, &e).expect("the Rust's words").0
 }
 
 #[unsafe(no_mangle)]
@@ -91,7 +91,7 @@ extern "C" fn pamuklid_ceiling_of(
 ) -> Ceiling {
     let p = prepared(unsafe { slice(image, n) });
     let (rungs, floors) = unsafe { (slice(rungs, figures), slice(floors, floor_count)) };
-    let c = adapter::ceiling(&p, &s, direction, &ordinary, &floor, rungs, floors)
+    let (c, _) = sixty::ceiling(&p, &s, direction, &ordinary, &floor, rungs, floors)
         .expect("the Rust's words");
     Ceiling {
         limit: c.limit_or_none(),

@@ -610,6 +610,94 @@ pub fn world(rng: &mut Rng) -> World {
     settle(table, scale, base, class)
 }
 
+/// A world for channel against segment: on the channel band, a segment about a signal's guarded range, and
+/// channels that touch, cross or hold it, and stand off it.
+pub fn brush(rng: &mut Rng) -> World {
+    let scale = rng.pick(&[
+        Scale::Eighths,
+        Scale::Eighths,
+        Scale::Hf,
+        Scale::Decimal,
+        Scale::Wild,
+        Scale::Huge,
+        Scale::Tiny,
+        Scale::Mixed,
+    ]);
+    let base = base_signal(rng, scale);
+    let class = rng.below(5) as u8;
+    let mut t = small_table(rng, scale, Some(base), class);
+    let (lo, hi) = base.air();
+    let (glo, ghi) = (lo - base.margin, hi + base.margin);
+    let (low, high) = (glo.min(ghi), glo.max(ghi));
+    let u = unit(rng, scale);
+    let far = u * (4 + rng.below(60)) as f64;
+    let number = rng.pick(&t.tables[BANDS]).band;
+    let whole = Record { low: plain(low - far), high: plain(high + far), ..Record::default() };
+    t.tables[BANDS].insert(0, Record { band: number, ..whole });
+    let at = rng.below(t.tables[PRIVILEGES].len() + 1);
+    t.tables[PRIVILEGES].insert(at, Record { class, ..whole });
+    // segments: of the band or of another number, each about the range or up to one of its ends
+    for _ in 0..1 + rng.below(3) {
+        let mut r = Record { band: number, rule: rule(rng), ..whole };
+        if rng.chance(60) {
+            (r.low, r.high) = (plain(low - u * rng.below(4) as f64), plain(high));
+        }
+        if rng.chance(40) {
+            r.high = plain(high + u * rng.below(4) as f64);
+        }
+        (r.low, r.high) = (r.low.max(whole.low), r.high.min(whole.high));
+        if rng.chance(25) {
+            r.band = number.wrapping_add(1);
+        }
+        let at = rng.below(t.tables[SEGMENTS].len() + 1);
+        t.tables[SEGMENTS].insert(at, r);
+    }
+    t.flags |= HAS_CHANNELS;
+    (t.channel_band, t.sideband, t.rules[3]) = (number, rng.below(2) as u8, rule(rng));
+    let long = high - low;
+    t.width = match rng.below(6) {
+        0 => long,
+        1 => long / 2.0,
+        2 => long * 2.0,
+        3 => long - u,
+        _ => u * (1 + rng.below(30)) as f64,
+    };
+    t.width = plain(nudge(rng, scale, t.width, 20));
+    let half = t.width / 2.0;
+    t.tables[CHANNELS].clear();
+    for _ in 0..1 + rng.below(4) {
+        let x = match rng.below(8) {
+            0 => low - half,
+            1 => high + half,
+            2 | 3 => (low + high) / 2.0,
+            4 => low,
+            5 => high,
+            6 => low - half + u * rng.below(9) as f64,
+            _ => high + t.width,
+        };
+        let low = plain(nudge(rng, scale, x, 20));
+        t.tables[CHANNELS].push(Record { low, ..Record::default() });
+    }
+    let centre = t.tables[CHANNELS][0].low;
+    t.offset = if rng.chance(60) { centre - base.dial } else { u * rng.below(20) as f64 };
+    t.tolerance = match rng.below(4) {
+        0 => BIG,
+        1 => u * rng.below(4) as f64,
+        2 => ((lo + hi) / 2.0 - centre).abs(),
+        _ => far,
+    };
+    t.tolerance = nudge(rng, scale, t.tolerance, 20);
+    (t.offset, t.tolerance) = (plain(t.offset), plain(t.tolerance));
+    if rng.chance(75) {
+        t.flags &= !HAS_EMISSIONS;
+        (t.emissions, t.rules[4]) = (0, 0);
+    }
+    if rng.chance(75) {
+        t.tables[EXCLUDED].clear();
+    }
+    settle(t, scale, Some(base), class)
+}
+
 /// A world whose dial list is longer than 16 bits can count: 256 segments, 257 or more pieces each.
 pub fn long_list(rng: &mut Rng) -> World {
     let wide = |high: f64| Record { low: 0.0, high, ..Record::default() };

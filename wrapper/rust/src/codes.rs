@@ -246,9 +246,11 @@ numbered! {
         SixtyEmission = 22 "sixty_emission",
         /// 60 m: on no channel and not in the segment.
         SixtyOffChannel = 23 "sixty_off_channel",
-        /// 60 m: on a channel: legal, a warning, or blocked where the signal doesn't fit it.
+        /// 60 m: on a channel: legal, a warning, or blocked where the signal doesn't fit it. By the
+        /// first channel that the signal touches, unless that one doesn't hold it and the segment does.
         SixtyChannel = 24 "sixty_channel",
-        /// 60 m: in the segment: legal or a warning.
+        /// 60 m: in the segment, and not held by the first channel that it touches, if any: legal or a
+        /// warning.
         SixtySegment = 25 "sixty_segment",
     }
 }

@@ -9,7 +9,7 @@
 use std::mem::size_of;
 
 /// The version of the library that this crate was written for: major * 10000 + minor * 100 + patch.
-pub const VERSION: u32 = 500;
+pub const VERSION: u32 = 600;
 /// A control, license or sideband that is not known.
 pub const ABSENT: u8 = 255;
 /// The rung of a ceiling that has none.

@@ -280,6 +280,66 @@ fn sixty_metres() {
     assert_eq!((d.verdict, d.code), (Verdict::Blocked, Code::SixtyEmission));
 }
 
+/// On 60 m a segment that holds the signal with its margin goes before a channel that doesn't (document
+/// 02, 4). The practice table's channel stands off its segment: here it is moved to 5,353,000, so it is
+/// 5,351,600 to 5,354,400, its carrier 5,351,500, and the segment 5,351,500 to 5,366,500.
+#[test]
+fn channel_against_segment() {
+    let image = with(192, &5_353_000f64.to_le_bytes());
+    let at = |kind, dial_hz, power_w, edges: &Edges| {
+        let s = Station { power_w, ..station(dial_hz) };
+        evaluate(&s, kind, Direction::Originate, edges, &image).unwrap()
+    };
+    let segment = Segment { range: range(5_351_500.0, 5_366_500.0), rule: Rule::Table(14) };
+    let channel = Segment { range: range(5_351_600.0, 5_354_400.0), rule: Rule::Table(10) };
+    let none = SixtyNotes { channel_power: false, shared: false, segment_power: false };
+    let above = SixtyNotes { segment_power: true, ..none };
+
+    // 5,351,500 to 5,352,100 with the margin; the last two reach past the channel's upper end
+    for dial_hz in [5_350_300.0, 5_350_399.875, 5_352_600.125, 5_353_200.0] {
+        let d = at(Kind::Data, dial_hz, None, &EDGES);
+        assert_eq!((d.verdict, d.code), (Verdict::Legal, Code::SixtySegment));
+        assert_eq!((d.rule, d.segment, d.sixty), (Rule::Table(14), Some(segment), none));
+        assert_eq!(d.air, Some(range(dial_hz + 1_250.0, dial_hz + 1_750.0)));
+        let d = at(Kind::Data, dial_hz, Some(50.0), &EDGES);
+        assert_eq!((d.verdict, d.code, d.sixty), (Verdict::Warning, Code::SixtySegment, above));
+    }
+    // held by both: the channel decides, on its carrier and off it
+    for dial_hz in [5_350_400.0, 5_351_500.0, 5_352_600.0] {
+        let d = at(Kind::Data, dial_hz, None, &EDGES);
+        let fits = dial_hz == 5_351_500.0;
+        let verdict = if fits { Verdict::Legal } else { Verdict::Blocked };
+        assert_eq!((d.verdict, d.code), (verdict, Code::SixtyChannel));
+        assert_eq!((d.rule, d.segment), (Rule::Table(10), Some(channel)));
+    }
+    // wider than the general limit of 2,800
+    let d = at(Kind::Data, 5_352_000.0, None, &Edges::both(100.0, 2_900.125));
+    assert_eq!((d.verdict, d.code), (Verdict::Blocked, Code::TooWide));
+    assert_eq!((d.rule, d.segment), (Rule::Table(7), Some(segment)));
+    // a CW carrier on the centre, wider than the channel; and one that it holds
+    let wide = Edges::both(-1_450.0, 1_450.0);
+    let d = at(Kind::Cw, 5_353_000.0, None, &wide);
+    assert_eq!((d.verdict, d.code, d.sixty), (Verdict::Legal, Code::SixtySegment, none));
+    let d = at(Kind::Cw, 5_353_000.0, Some(50.0), &wide);
+    assert_eq!((d.verdict, d.code, d.sixty), (Verdict::Warning, Code::SixtySegment, above));
+    let d = at(Kind::Cw, 5_353_000.0, Some(50.0), &Edges::both(-1_350.0, 1_350.0));
+    let shared = SixtyNotes { shared: true, ..none };
+    assert_eq!((d.verdict, d.code, d.sixty), (Verdict::Legal, Code::SixtyChannel, shared));
+
+    // the rungs reach into the channel, and the last is 2,850 wide
+    let s = station(5_350_300.0);
+    let rungs = [EDGES, Edges::both(1_250.0, 2_750.0), Edges::both(1_250.0, 4_100.0)];
+    let climb = |rungs: &[Edges]| {
+        let floors = vec![false; rungs.len()];
+        ceiling(&s, Direction::Originate, &EDGES, &EDGES, &image, rungs, &floors).unwrap()
+    };
+    let c = climb(&rungs[..2]);
+    assert_eq!((c.rung, c.limit), (Some(1), None));
+    let c = climb(&rungs);
+    let limit = c.limit.unwrap();
+    assert_eq!((c.rung, limit.code, limit.segment), (Some(1), Code::TooWide, Some(segment)));
+}
+
 #[test]
 fn unmeasured_signal() {
     let d = unmeasured(&station(14_100_000.0), IMAGE).unwrap();
