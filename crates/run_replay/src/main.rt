@@ -1,8 +1,8 @@
 // A program of the gate: it replays the cases of its input, each with its answer, and writes a line for each that the
 // calls answer otherwise, then how many there were. The input, the file `stdin` beside src/, was written by
-// `compare/run --replay crates/run_replay/stdin --seed 1`: verdicts, ceilings, dial lists and texts as the Rust answers them,
-// refusals, distances and the parts that the Rust has only as words as document 01 gives them. compare/src/replay.rs says what the
-// bytes mean, and makes sure that every code and every refusal of each call is there. It uses figures, layout,
+// `compare/run --replay crates/run_replay/stdin --seed 1`: verdicts, ceilings, dial lists and texts as the Rust answers them, but for
+// those on 60 m that document 02, 4 changed, refusals, distances and the parts that the Rust has only as words as the papers give
+// them. compare/src/replay.rs says what the bytes mean, and makes sure that every code and every refusal of each call is there. It uses figures, layout,
 // flat and pamuklid.
 use flat::FlatCeiling;
 use flat::FlatDecision;
