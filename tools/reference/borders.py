@@ -288,11 +288,11 @@ def lengths():
     refused(4, "93 bytes, distance 65", bytes(65) + build.trailer([0] * 9, distance=65))
     refused(2, "65,535 bytes of zero", bytes(65535))
     refused(2, "65,536 bytes of zero", bytes(65536))
-    refused(1, "65,537 bytes of zero", bytes(65537))
+    refused(2, "65,537 bytes of zero", bytes(65537))
     refused(1, "65,600 bytes of zero", bytes(65600))
     tail = build.trailer([256] * 7 + [253, 0])
     refused(4, "65,536 bytes, letters and edition right", bytes(65508) + tail)
-    refused(1, "65,537 bytes, letters and edition right", bytes(65509) + tail)
+    refused(4, "65,537 bytes, letters and edition right", bytes(65509) + tail)
     long = build.trailer([256] * 7 + [254, 0])
     refused(1, "65,564 bytes, 2,046 records, agreeing", bytes(65536) + long)
     tidy("the smallest accepted image", MINIMAL)
@@ -316,7 +316,7 @@ def letters():
 
 def editions():
     for edition in (0, 2, 3, 256, 257, 255, 32769, 65535):
-        refused(3, "edition %d" % edition,
+        refused(4 if edition == 2 else 3, "edition %d, of edition 1's length" % edition,
                 image(bands=[BAND], segments=[SEGMENT], edition=edition))
 
 
@@ -821,7 +821,7 @@ def faulty(*faults):
     if 4 in faults:
         whole = whole[:at + 18] + bytes([whole[at + 18] ^ 1]) + whole[at + 19:]
     if 3 in faults:
-        whole = whole[:at + 22] + b"\x02" + whole[at + 23:]
+        whole = whole[:at + 22] + b"\x03" + whole[at + 23:]
     if 2 in faults:
         whole = whole[:-1] + b"Y"
     return whole
@@ -1233,6 +1233,77 @@ def large():
 
 
 # ---------------------------------------------------------------------------------------------
+# Edition 2 (document 02, 6)
+
+def second_edition():
+    second = build.raised(MINIMAL)
+    front = len(second) - 28
+    tidy("edition 2, the smallest", second)
+    tidy("edition 2 with everything", build.raised(EVERYTHING))
+    tidy("edition 2 with every usable byte set", build.raised(FULL, ONE, TWO))
+    tidy("edition 2 of the practice table", build.raised(PRACTICE))
+    untidy("edition 2, two alike bands", build.raised(with_table(BANDS, [BAND] * 2)))
+
+    # "Its length is 108 to 65,552 bytes", "a length wrong for the edition meets 4"
+    for length in (92, 93, 106, 107):
+        refused(4, "edition 2 in %d bytes" % length,
+                bytes(length - 28) + build.trailer([0] * 9, distance=length - 28, edition=2))
+    refused(11, "edition 2 in 108 bytes, no records",
+            bytes(80) + build.trailer([0] * 9, distance=80, edition=2))
+    refused(4, "edition 2 in 108 bytes, distance 64",
+            bytes(80) + build.trailer([0] * 9, distance=64, edition=2))
+    refused(4, "edition 2, distance 16 short", second, (front + 18, struct.pack("<I", front - 16)))
+    refused(4, "edition 2, distance 16 long", second, (front + 18, struct.pack("<I", front + 16)))
+    refused(4, "edition 1 in edition 2's length", second, (front + 22, [1]))
+    refused(3, "edition 3 in edition 2's length", second, (front + 22, [3]))
+    refused(2, "edition 2, a letter", second, (front + 27, [64]))
+    refused(4, "edition 2, one band more than there are", second, (front, [2]))
+    refused(4, "edition 2, 257 automatic", build.raised(with_table(AUTOMATIC, [PLAIN[AUTOMATIC]] * 257)))
+    untidy("edition 2, 256 bands", build.raised(with_table(BANDS, [BAND] * 256)))
+    refused(2, "65,552 bytes of zero", bytes(65552))
+    refused(1, "65,553 bytes of zero", bytes(65553))
+    for edition in (1, 2):
+        tail = build.trailer([256] * 7 + [253, 0], edition=edition)
+        for length in (65533, 65536, 65537, 65549, 65552):
+            refused(4, "edition %d in %d bytes, 2,045 records counted" % (edition, length),
+                    bytes(length - 28) + tail)
+        refused(1, "edition %d in 65,553 bytes, 2,045 records counted" % edition, bytes(65525) + tail)
+    even = [227] * 8 + [229]
+    alike = build.raised(image(general(flags=CHANNEL_PART | PLAN),
+                               **dict((NAMES[t], [PLAIN[t]] * even[t]) for t in range(9))))
+    assert len(alike) == 65548
+    untidy("edition 2, 2,045 records in nine tables", alike)
+    refused(6, "edition 2, 2,045 records, NaN in the last", alike, (len(alike) - 60 + 8, f64(QUIET_NAN)),
+            at=(PLAN_AVOID, 228))
+    refused(1, "edition 2, 2,046 records, agreeing",
+            bytes(80 + 32 * 2046) + build.trailer([256] * 7 + [254, 0], distance=80 + 32 * 2046, edition=2))
+
+    # The watts meet 6 alone, "with channels or without".
+    for base in (second, build.raised(EVERYTHING)):
+        for at, name in ((64, "channel watts"), (72, "segment watts")):
+            for what, bits in BAD_FIGURES:
+                refused(6, "edition 2, %s %s" % (name, what), base, (at, f64(bits)), at=GENERAL)
+            for what, bits in (("zero", 0), ("2^40", TWO40), ("-2^40", MINUS_TWO40), ("-1", f64(-1.0)),
+                               ("the smallest", SMALLEST), ("-the smallest", MINUS_SMALLEST)):
+                tidy("edition 2, %s %s" % (name, what), base,
+                     (at, bits if isinstance(bits, bytes) else f64(bits)))
+    refused(5, "edition 2, watts a NaN and an unused byte of the last record", second,
+            (64, f64(QUIET_NAN)), (front - 1, [1]), at=(SEGMENTS, 0))
+    refused(6, "edition 2, watts a NaN and a band of no width", second,
+            (72, f64(INFINITY)), (80 + 8, f64(-1024.0)), at=GENERAL)
+    refused(6, "edition 2, a record's figure", second, (80, f64(QUIET_NAN)), at=(BANDS, 0))
+    refused(7, "edition 2, a band of no width", second, (80 + 8, f64(-1024.0)), at=(BANDS, 0))
+    refused(14, "edition 2, no general limit", second, (0, f64(0.0)))
+    for byte in range(58, 64):
+        refused(5, "edition 2, general byte %d is not zero" % byte, second, (byte, [1]), at=GENERAL)
+
+    # Every bit of a small image of either edition, turned over.
+    for name, data in (("edition 1", MINIMAL), ("edition 2", second)):
+        for bit in range(8 * len(data)):
+            free("%s, bit %d turned" % (name, bit), data, (bit // 8, [data[bit // 8] ^ 1 << bit % 8]))
+
+
+# ---------------------------------------------------------------------------------------------
 # Random images (fixed seed); no expectation by hand
 
 class Dice:
@@ -1503,7 +1574,7 @@ def main():
     for section in (lengths, letters, editions, counts, general_codes, record_codes,
                     general_figures, record_figures, ranges, bands_and_segments, limits,
                     faults_together, first_places, tidy_ranges, tidy_classes, tidy_homes, tidy_leaves_alone,
-                    practice_table, large, random_tables, random_damage):
+                    practice_table, large, random_tables, random_damage, second_edition):
         section()
     station_cases()
     image_lines = ["%d check %d tidy %d fault %s" % (n, check, answer, at)

@@ -18,14 +18,18 @@ BANDS, SEGMENTS, CHANNELS, PRIVILEGES, AUTOMATIC, EXCLUDED, POWER, PLAN_DATA, PL
 TABLES = 9
 
 # "A 64-byte general block, nine tables of 32-byte records, and a 28-byte trailer at the end that
-# points back."
-GENERAL_BYTES = 64
+# points back." "Edition 2 has two more f64 in the general block" (document 02, 6).
+GENERAL_BYTES = {1: 64, 2: 80}
 RECORD_BYTES = 32
 TRAILER_BYTES = 28
 
-# "1 image under 92 or over 65,536 bytes"
+# "1 now means under 92 or over 65,552"
 SHORTEST = 92
-LONGEST = 65536
+LONGEST = 65552
+
+# "going up always fills in 100 and 9.15": what edition 1 goes by
+CHANNEL_WATTS = 100.0
+SEGMENT_WATTS = 9.15
 
 # "6 a figure not finite, above 2^40 in size", and the same size in 21.
 SIZE = 2.0 ** 40
@@ -82,15 +86,24 @@ def general_block(image):
     """"General: 0 data limit, 8 elsewhere limit, 16 channel width, 24 carrier offset, 32 carrier
     tolerance (f64 each); bytes 40 region, 41 reading [...], 42 flags [...], 43 channel band,
     44 sideband [...], 45 emission bits; u16 rules at 46 data, 48 elsewhere, 50 automatic
-    segments, 52 channels, 54 emissions, 56 privileges." """
-    return bytes(image[0:GENERAL_BYTES])
+    segments, 52 channels, 54 emissions, 56 privileges." "channel watts at 64 and segment watts at
+    72" in edition 2. Only asked of an image that 1 to 4 let pass."""
+    return bytes(image[0:GENERAL_BYTES[trailer(image)["edition"]]])
+
+
+def watts(image):
+    """The two 60 m power limits, channel and segment: edition 2's own, else "100 and 9.15"."""
+    general = general_block(image)
+    if trailer(image)["edition"] == 2:
+        return figure_of(bits_at(general, 64)), figure_of(bits_at(general, 72))
+    return CHANNEL_WATTS, SEGMENT_WATTS
 
 
 def table_records(image):
     """The nine tables, each a list of its 32-byte records; "nine tables of 32-byte records"
     follow the general block, one after another. Only asked of an image that 1 to 4 let pass."""
     tables = []
-    at = GENERAL_BYTES
+    at = GENERAL_BYTES[trailer(image)["edition"]]
     for count in trailer(image)["counts"]:
         tables.append([bytes(image[at + RECORD_BYTES * i:at + RECORD_BYTES * (i + 1)])
                        for i in range(count)])
@@ -138,7 +151,8 @@ def has_bit(byte, bit):
 def used_general_bytes(general):
     """The bytes of the general block that hold something, by the flags of byte 42.
 
-    "Unused bytes and fields of absent parts are zero". Bytes 58 to 63 have no field."""
+    "Unused bytes and fields of absent parts are zero". Bytes 58 to 63 have no field. "Neither
+    field belongs to an absent part, with channels or without" (of the two watts)."""
     used = set(range(0, 8))                              # data limit
     used |= {40, 41, 42}                                 # region, reading, flags
     used |= {46, 47}                                     # data rule
@@ -151,6 +165,7 @@ def used_general_bytes(general):
         used |= {43, 44, 52, 53}                         # band, sideband, rule
     if has_bit(general[42], 3):                          # "3 60 m emissions"
         used |= {45, 54, 55}                             # emission bits, rule
+    used |= set(range(64, 80))                           # the watts, where there are any
     return used
 
 
@@ -250,7 +265,7 @@ def unused_are_zero(data, used):
 # The checks, one function for each refusal; each says whether the refusal is met
 
 def refusal_1(image):
-    """"1 image under 92 or over 65,536 bytes"."""
+    """"1 now means under 92 or over 65,552"."""
     return len(image) < SHORTEST or len(image) > LONGEST
 
 
@@ -260,17 +275,17 @@ def refusal_2(image):
 
 
 def refusal_3(image):
-    """"3 edition": "u16 edition 1"."""
-    return trailer(image)["edition"] != 1
+    """"3 edition": "3 now passes both editions"."""
+    return trailer(image)["edition"] not in (1, 2)
 
 
 def refusal_4(image):
     """"4 a count over 256, or a length or distance that disagrees". The sum is over whole
-    numbers here: nothing overflows."""
+    numbers here: nothing overflows. "a length wrong for the edition meets 4"."""
     end = trailer(image)
     if any(count > 256 for count in end["counts"]):
         return True
-    front = GENERAL_BYTES + RECORD_BYTES * sum(end["counts"])
+    front = GENERAL_BYTES[end["edition"]] + RECORD_BYTES * sum(end["counts"])
     return len(image) != front + TRAILER_BYTES or end["distance"] != front
 
 
@@ -296,11 +311,16 @@ def refusal_5(image):
     return False
 
 
+def general_figures(general):
+    """Where the figures of the general block stand: five, and edition 2's two watts."""
+    return [0, 8, 16, 24, 32] + ([64, 72] if len(general) == 80 else [])
+
+
 def refusal_6(image):
-    """"6 a figure not finite, above 2^40 in size, or negative zero". All five of the general
-    block and all three of every record: one that is unused is zero by now, and zero is right."""
+    """"6 a figure not finite, above 2^40 in size, or negative zero". All of the general block and
+    all three of every record: one that is unused is zero by now, and zero is right."""
     general = general_block(image)
-    figures = [bits_at(general, 8 * i) for i in range(5)]
+    figures = [bits_at(general, at) for at in general_figures(general)]
     for records in table_records(image):
         for record in records:
             figures += [bits_at(record, 0), bits_at(record, 8), bits_at(record, 16)]
@@ -422,7 +442,7 @@ def place_of(image):
         def wrong(data, offsets):
             return any(bits_at(data, at) == NEGATIVE_ZERO or not in_size(bits_at(data, at))
                        for at in offsets)
-        if wrong(general, (0, 8, 16, 24, 32)):
+        if wrong(general, general_figures(general)):
             return GENERAL
         return first_place(tables, lambda table, record: wrong(record, (0, 8, 16)))
     ranges = {7: BANDS, 8: SEGMENTS, 9: AUTOMATIC, 10: PRIVILEGES}

@@ -166,14 +166,14 @@ module _ (table : Table) (c : Case) where
   on-channel-same ch centre Test = refl
   on-channel-same ch centre NoEmission = refl
 
-  channel-same : (ch : Channels) (centre : Float) → sixtyChannel answering ch centre ≡ sixtyChannel calling ch centre
+  channel-same : (ch : Channels) (centre : Float) → sixtyChannel table answering ch centre ≡ sixtyChannel table calling ch centre
   unfolding sixtyChannel draftInside
   channel-same ch centre =
       let draft = draftInside calling (ch .band) (channelRangeOf (ch .«width_hz») centre) (ch .rule) in
-      let marks : SixtyNotes = record { «channel_power» = exceeds (c .power) channelWatts; shared = true; «segment_power» = false } in
+      let marks : SixtyNotes = record { «channel_power» = exceeds (c .power) (channelWatts table); shared = true; «segment_power» = false } in
       ap
       (λ (b : Bool).
-      cond b (allowedOnSixty draft (exceeds (c .power) channelWatts) SixtyChannel (ch .rule) marks) (simpleOf draft Blocked SixtyChannel (ch .rule)))
+      cond b (allowedOnSixty draft (exceeds (c .power) (channelWatts table)) SixtyChannel (ch .rule) marks) (simpleOf draft Blocked SixtyChannel (ch .rule)))
       (on-channel-same ch centre (c .kind))
 
   overlap-same : (ch : Channels) (centre : Float) → sixtyOverlap table answering ch centre ≡ sixtyOverlap table calling ch centre

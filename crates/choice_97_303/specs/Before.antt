@@ -29,7 +29,7 @@ use Rattle.part97.specs.declared.Case.{Case}
 unfoldable pub placeBefore : Table → Case → Channels → Decision
 placeBefore table c ch =
     onFound (firstIn table channels (ChannelOverlaps (ch .«width_hz») (c .guarded)))
-    (λ i. sixtyChannel c ch (centreOf (table .at channels i)))
+    (λ i. sixtyChannel table c ch (centreOf (table .at channels i)))
     (inSixtySegment table c ch (simpleOf (draftOf c (Band (ch .band))) Blocked SixtyOffChannel (ch .rule)))
 
 -- what stands around it, as Part97 has it around `sixtyPlace`

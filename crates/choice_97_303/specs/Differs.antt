@@ -70,15 +70,15 @@ Differs table c old new = (new ≡ old) ⊎ Changed table c old new
 
 -- ---- the two judgements
 
-module _ (c : Case) (ch : Channels) (centre : Float) where
+module _ (table : Table) (c : Case) (ch : Channels) (centre : Float) where
   abbrev onIt : Bool → Decision
   onIt b =
       cond b
-      (allowedOnSixty (draftInside c (ch .band) (channelRangeOf (ch .«width_hz») centre) (ch .rule)) (exceeds (c .power) channelWatts) SixtyChannel
-      (ch .rule) (record { «channel_power» = exceeds (c .power) channelWatts; shared = true; «segment_power» = false }))
+      (allowedOnSixty (draftInside c (ch .band) (channelRangeOf (ch .«width_hz») centre) (ch .rule)) (exceeds (c .power) (channelWatts table)) SixtyChannel
+      (ch .rule) (record { «channel_power» = exceeds (c .power) (channelWatts table); shared = true; «segment_power» = false }))
       (simpleOf (draftInside c (ch .band) (channelRangeOf (ch .«width_hz») centre) (ch .rule)) Blocked SixtyChannel (ch .rule))
 
-  channel-24 : sixtyChannel c ch centre .code ≡ SixtyChannel
+  channel-24 : sixtyChannel table c ch centre .code ≡ SixtyChannel
   unfolding sixtyChannel allowedOnSixty simpleOf finishOf
   channel-24 = go (onChannel c ch centre (c .kind))
     where
@@ -86,7 +86,7 @@ module _ (c : Case) (ch : Channels) (centre : Float) where
       go true = refl
       go false = refl
 
-  sent-on : sent (sixtyChannel c ch centre .verdict) ≡ true → onChannel c ch centre (c .kind) ≡ true
+  sent-on : sent (sixtyChannel table c ch centre .verdict) ≡ true → onChannel c ch centre (c .kind) ≡ true
   unfolding sixtyChannel simpleOf finishOf
   sent-on = go (onChannel c ch centre (c .kind))
     where
@@ -115,8 +115,8 @@ module _ (table : Table) (c : Case) (band : ℕ) (s : Segment) where
   abbrev inIt : Bool → Decision
   inIt b =
       cond b (simpleOf (draftInside c band (s .range) (s .rule)) Blocked TooWide (generalLimit table .rule))
-      (allowedOnSixty (draftInside c band (s .range) (s .rule)) (exceeds (c .power) segmentWatts) SixtySegment (s .rule)
-      (record { «channel_power» = false; shared = false; «segment_power» = exceeds (c .power) segmentWatts }))
+      (allowedOnSixty (draftInside c band (s .range) (s .rule)) (exceeds (c .power) (segmentWatts table)) SixtySegment (s .rule)
+      (record { «channel_power» = false; shared = false; «segment_power» = exceeds (c .power) (segmentWatts table) }))
 
   allowed-sent : (b : Bool) → sent (warned b) ≡ true
   allowed-sent true = refl
@@ -139,7 +139,7 @@ module _ (table : Table) (c : Case) (band : ℕ) (s : Segment) where
           → ((inIt b .code ≡ SixtySegment) × (sent (inIt b .verdict) ≡ true))
           ⊎ ((c .kind ≡ Data) × (inIt b .code ≡ TooWide) × (inIt b .verdict ≡ Blocked))
       go true e = inr (data-only (c .kind) (wider (c .width) (generalLimit table .«max_bandwidth_hz»)) e, refl, refl)
-      go false e = inl (refl, allowed-sent (exceeds (c .power) segmentWatts))
+      go false e = inl (refl, allowed-sent (exceeds (c .power) (segmentWatts table)))
 
 -- ---- the place
 
@@ -153,12 +153,12 @@ module _ (table : Table) (c : Case) where
 
       over : Float → Bool → Found → Decision
       over centre b f =
-          cond b (sixtyChannel c ch centre) (onFound f (λ i. sixtySegment table c (ch .band) (segmentAt table i)) (sixtyChannel c ch centre))
+          cond b (sixtyChannel table c ch centre) (onFound f (λ i. sixtySegment table c (ch .band) (segmentAt table i)) (sixtyChannel table c ch centre))
 
       at : (i : ℕ) → firstIn table channels (ChannelOverlaps (ch .«width_hz») (c .guarded)) ≡ At i
           → (b : Bool) → holdsOf (channelRangeOf (ch .«width_hz») (centreOf (table .at channels i))) (c .guarded) ≡ b
           → (f : Found) → firstIn table segments (BandHolds (ch .band) (c .guarded)) ≡ f
-          → Differs table c (sixtyChannel c ch (centreOf (table .at channels i))) (over (centreOf (table .at channels i)) b f)
+          → Differs table c (sixtyChannel table c ch (centreOf (table .at channels i))) (over (centreOf (table .at channels i)) b f)
       at i o true h f g = inl refl
       at i o false h Nothing g = inl refl
       at i o false h (At k) g =
@@ -170,15 +170,15 @@ module _ (table : Table) (c : Case) where
             not-held = h;
             segment = k;
             held = g;
-            was = channel-24 c ch (centreOf (table .at channels i));
+            was = channel-24 table c ch (centreOf (table .at channels i));
             was-allowed =
-                λ e. only-cw c ch (centreOf (table .at channels i)) h (c .kind) (sent-on c ch (centreOf (table .at channels i)) e);
+                λ e. only-cw table c ch (centreOf (table .at channels i)) h (c .kind) (sent-on table c ch (centreOf (table .at channels i)) e);
             is = segment-25 table c (ch .band) (segmentAt table k);
           })
 
       go :
           (f : Found) → firstIn table channels (ChannelOverlaps (ch .«width_hz») (c .guarded)) ≡ f
-          → Differs table c (onFound f (λ i. sixtyChannel c ch (centreOf (table .at channels i))) off)
+          → Differs table c (onFound f (λ i. sixtyChannel table c ch (centreOf (table .at channels i))) off)
           (onFound f
           (λ i.
           over (centreOf (table .at channels i)) (holdsOf (channelRangeOf (ch .«width_hz») (centreOf (table .at channels i))) (c .guarded))

@@ -13,7 +13,7 @@ use Rattle.figures.specs.Figure.{zeroHz, readHz}
 use Rattle.scan.specs.First.{firstFrom}
 use Rattle.codes.specs.Refusal.{refusalOf}
 use Rattle.layout.specs.Bytes.{u16At, u32At, u64At}
-use Rattle.layout.specs.Layout.{recordsBefore, recordAt, generalOf}
+use Rattle.layout.specs.Layout.{wattsAt, tablesFrom, recordsBefore, recordAt, generalOf}
 use Rattle.coded.specs.Coded.{codedOf, codedGeneral}
 use Rattle.find.specs.Question.{asks, soundBits, soundRecord}
 use Rattle.profile.specs.Range.{range}
@@ -224,7 +224,7 @@ unfolding
     allowedOnSixty judgeData insideSegment outsideSegments overshootOf nearestUpTo considered automaticData automaticElsewhere advised
     adviceWarns adviceOf guidanceOf planSays wantsPlan notesUpTo anyNote noted privilegedOf draftAutomatic draftInside draftOf refusedOf
     simpleOf finishOf noAdvice edgesRead edgesValid situationOf codesValid figuresValid checkOf codedBlock miscoded soundBlock unsound bare
-    unlimited asks soundBits soundRecord codedOf codedGeneral recordsBefore recordAt generalOf u16At u32At u64At firstFrom lt le eq ne neg add
+    unlimited asks soundBits soundRecord codedOf codedGeneral tablesFrom recordsBefore recordAt wattsAt generalOf u16At u32At u64At firstFrom lt le eq ne neg add
     sub mul div ofInt ofBits recordIn tidyTable twoShare inEighths recordInEighths blockInEighths tableInEighths edgesInEighths stationInEighths
     tuned prerequisitesMet guardedWidth positiveWidth channelBandHolds onChannelBand isOutside consideredAt leastUpTo
     distanceOf

@@ -25,11 +25,13 @@ miscodedIn table t = someIn table t (Miscoded t)
 unfoldable pub miscoded : Table → Bool
 miscoded table = not (codedBlock table) || some (miscodedIn table) tables
 
--- 6 "a figure not finite, above 2^40 in size, or negative zero": the five of the general block, then those of each table's records
+-- 6 "a figure not finite, above 2^40 in size, or negative zero": those of the general block, its watts with them, then those of each
+-- table's records
 unfoldable pub soundBlock : General → Bool
 soundBlock g =
     soundBits (g .«data_limit») && (soundBits (g .«elsewhere_limit») && (soundBits (g .«channel_width»)
-    && (soundBits (g .«carrier_offset») && soundBits (g .«carrier_tolerance»))))
+    && (soundBits (g .«carrier_offset») && (soundBits (g .«carrier_tolerance»)
+    && (soundBits (g .«channel_watts») && soundBits (g .«segment_watts»))))))
 
 abbrev pub unsoundIn : Table → ℕ → Bool
 unsoundIn table t = someIn table t Unsound

@@ -49,7 +49,9 @@ pub fn sound_block(g: General) -> bool
     find::sound_bits(g.data_limit)
         && (find::sound_bits(g.elsewhere_limit)
             && (find::sound_bits(g.channel_width)
-                && (find::sound_bits(g.carrier_offset) && find::sound_bits(g.carrier_tolerance))))
+                && (find::sound_bits(g.carrier_offset)
+                    && (find::sound_bits(g.carrier_tolerance)
+                        && (find::sound_bits(g.channel_watts) && find::sound_bits(g.segment_watts))))))
 }
 
 // 6: the general block's figures, then those of each table's records.
@@ -79,7 +81,7 @@ fn is_bare(s: &[u8]) -> bool
 }
 
 // 14
-fn is_unlimited(g: General) -> bool
+pub fn is_unlimited(g: General) -> bool
     ensures { λ r. ⌜ r ≡ unlimited g ⌝ }
 {
     figures::figure(g.data_limit) <= 0.0

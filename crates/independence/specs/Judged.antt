@@ -236,15 +236,15 @@ module _ (table : Table) (c : Case) (power : Figure) (plan : Bool) where
   on-channel-same ch centre Test = refl
   on-channel-same ch centre NoEmission = refl
 
-  channel-same : (ch : Channels) (centre : Float) → Same (sixtyChannel (other c power plan) ch centre) (sixtyChannel c ch centre)
+  channel-same : (ch : Channels) (centre : Float) → Same (sixtyChannel table (other c power plan) ch centre) (sixtyChannel table c ch centre)
   unfolding sixtyChannel allowedOnSixty finishOf draftInside
   channel-same ch centre =
       rw (on-channel-same ch centre (c .kind))
       (on-cond (onChannel c ch centre (c .kind))
-      (allowed-same (draftInside c (ch .band) (channelRangeOf (ch .«width_hz») centre) (ch .rule)) (exceeds power channelWatts)
-      (exceeds (c .power) channelWatts) SixtyChannel (ch .rule)
-      (record { «channel_power» = exceeds power channelWatts; shared = true; «segment_power» = false })
-      (record { «channel_power» = exceeds (c .power) channelWatts; shared = true; «segment_power» = false }))
+      (allowed-same (draftInside c (ch .band) (channelRangeOf (ch .«width_hz») centre) (ch .rule)) (exceeds power (channelWatts table))
+      (exceeds (c .power) (channelWatts table)) SixtyChannel (ch .rule)
+      (record { «channel_power» = exceeds power (channelWatts table); shared = true; «segment_power» = false })
+      (record { «channel_power» = exceeds (c .power) (channelWatts table); shared = true; «segment_power» = false }))
       (leaf (draftInside c (ch .band) (channelRangeOf (ch .«width_hz») centre) (ch .rule)) Blocked SixtyChannel (ch .rule)))
 
   segment-same : (band : ℕ) (s : Segment) → Same (sixtySegment table (other c power plan) band s) (sixtySegment table c band s)
@@ -252,9 +252,9 @@ module _ (table : Table) (c : Case) (power : Figure) (plan : Bool) where
   segment-same band s =
       on-cond (isData (c .kind) && lt (generalLimit table .«max_bandwidth_hz») (c .width))
       (leaf (draftInside c band (s .range) (s .rule)) Blocked TooWide (generalLimit table .rule))
-      (allowed-same (draftInside c band (s .range) (s .rule)) (exceeds power segmentWatts) (exceeds (c .power) segmentWatts) SixtySegment (s .rule)
-      (record { «channel_power» = false; shared = false; «segment_power» = exceeds power segmentWatts })
-      (record { «channel_power» = false; shared = false; «segment_power» = exceeds (c .power) segmentWatts }))
+      (allowed-same (draftInside c band (s .range) (s .rule)) (exceeds power (segmentWatts table)) (exceeds (c .power) (segmentWatts table)) SixtySegment (s .rule)
+      (record { «channel_power» = false; shared = false; «segment_power» = exceeds power (segmentWatts table) })
+      (record { «channel_power» = false; shared = false; «segment_power» = exceeds (c .power) (segmentWatts table) }))
 
   in-segment-same : (ch : Channels) {a b : Decision} → Same a b → Same (inSixtySegment table (other c power plan) ch a) (inSixtySegment table c ch b)
   in-segment-same ch s =

@@ -12,9 +12,9 @@ use Rattle.layout.specs.Bytes.{byteAt}
 use Rattle.layout.specs.Layout.{generalSize, tablesFrom, recordSize, trailerSize, tables, trailerOf, countOf}
 use Rattle.layout.specs.Layout.{distanceBack, editionOf, lettersOf, recordsBefore}
 
--- 1 "image under 92 or over 65,536 bytes"
+-- 1 "image under 92 or over …": "over 65,552" since document 02 (6)
 abbrev pub sizeWrong : List ℕ → Bool
-sizeWrong l = ltb (length l) (generalSize + trailerSize) || ltb 65536 (length l)
+sizeWrong l = ltb (length l) (generalSize + trailerSize) || ltb 65552 (length l)
 
 -- "the ASCII letters EDGE", the trailer's last bytes
 abbrev pub letters : List ℕ
@@ -27,9 +27,9 @@ letterRight l i = eqb (byteAt l (lettersOf l + i)) (byteAt letters i)
 abbrev pub lettersWrong : List ℕ → Bool
 lettersWrong l = not (letterRight l 0 && (letterRight l 1 && (letterRight l 2 && letterRight l 3)))
 
--- 3 "edition"
+-- 3 "edition": "3 now passes both editions"
 abbrev pub editionWrong : List ℕ → Bool
-editionWrong l = not (eqb (editionOf l) 1)
+editionWrong l = not (eqb (editionOf l) 1) && not (eqb (editionOf l) 2)
 
 -- a count over 256
 abbrev pub overfullAt : List ℕ → ℕ → Bool
@@ -38,7 +38,7 @@ overfullAt l t = ltb 256 (countOf l t)
 abbrev pub overfull : List ℕ → Bool
 overfull l = some (overfullAt l) tables
 
--- 4 "a count over 256, or a length or distance that disagrees"
+-- 4 "a count over 256, or a length or distance that disagrees"; "a length wrong for the edition meets 4"
 abbrev pub lengthWrong : List ℕ → Bool
 lengthWrong l = not (eqb (trailerOf l) (tablesFrom l + recordSize * recordsBefore l tables))
 
@@ -54,6 +54,6 @@ formTests l = test 1 (sizeWrong l) ∷ test 2 (lettersWrong l) ∷ test 3 (editi
 -- Whole: refused by none of 1 to 4. Every record of every table lies between the general block and the trailer.
 pub record Whole (l : List ℕ) : Type 0 where
   pub sized : generalSize + trailerSize ≤ length l
-  pub small : length l ≤ 65536
+  pub small : length l ≤ 65552
   pub few : (t : ℕ) → t < tables → countOf l t ≤ 256
   pub filled : length l ≡ tablesFrom l + recordSize * recordsBefore l tables + trailerSize

@@ -1,7 +1,10 @@
 -- The table image, from document 01: "A 64-byte general block, nine tables of 32-byte records, and a 28-byte trailer at the end that
--- points back." Offsets and sizes stand here alone.
+-- points back." Document 02 (6) adds an edition with a longer general block. Offsets and sizes stand here alone, and nothing outside this
+-- crate knows an edition but who writes an image.
 use Prim.Native.Nat.{ℕ, zero, suc, _+_, _*_, _-_}
+use mathlib.Core.Bool.{Bool, cond}
 use mathlib.Core.List.{List}
+use lib.Dec.{eqb}
 use lib.ListN.{length}
 use Rattle.layout.specs.Bytes.{byteAt, u16At, u32At, u64At}
 use Rattle.layout.specs.declared.Record.{Record}
@@ -9,6 +12,10 @@ use Rattle.layout.specs.declared.General.{General}
 
 abbrev pub generalSize : ℕ
 generalSize = 64
+
+-- the two figures more of edition 2
+abbrev pub wattsSize : ℕ
+wattsSize = 16
 
 abbrev pub recordSize : ℕ
 recordSize = 32
@@ -69,9 +76,32 @@ listsOf r = r .band + 256 * r .class + 65536 * r .emissions + 16777216 * r .flag
 abbrev pub rulesOf : Record → ℕ
 rulesOf r = r .rule + 65536 * r .«second_rule»
 
+-- where the trailer begins
+abbrev pub trailerOf : List ℕ → ℕ
+trailerOf l = length l - trailerSize
+
+-- "u16 edition 1", or 2
+abbrev pub editionOf : List ℕ → ℕ
+editionOf l = u16At l (trailerOf l + 22)
+
+abbrev pub isSecond : List ℕ → Bool
+isSecond l = eqb (editionOf l) 2
+
+-- the 60 m power limits that were "fixed figures in the gate", by their bits: 100 W and 9.15 W
+abbrev pub fixedChannelWatts : ℕ
+fixedChannelWatts = 0x4059_0000_0000_0000
+
+abbrev pub fixedSegmentWatts : ℕ
+fixedSegmentWatts = 0x4022_4ccc_cccc_cccd
+
+-- "Edition 2 has two more f64 in the general block": the figure at a place, or the fixed one of edition 1
+unfoldable pub wattsAt : List ℕ → ℕ → ℕ → ℕ
+wattsAt l at fixed = cond (isSecond l) (u64At l at) fixed
+
 -- "General: 0 data limit, 8 elsewhere limit, 16 channel width, 24 carrier offset, 32 carrier tolerance (f64 each); bytes 40 region,
 -- 41 reading …, 42 flags …, 43 channel band, 44 sideband …, 45 emission bits; u16 rules at 46 data, 48 elsewhere,
--- 50 automatic segments, 52 channels, 54 emissions, 56 privileges." The six bytes from 58 are unused.
+-- 50 automatic segments, 52 channels, 54 emissions, 56 privileges." The six bytes from 58 are unused. "channel watts at 64 and segment
+-- watts at 72"
 unfoldable pub generalOf : List ℕ → General
 generalOf l =
     record {
@@ -94,11 +124,9 @@ generalOf l =
       «privileges_rule» = u16At l 56;
       unused = u16At l 58;
       «unused_rest» = u32At l 60;
+      «channel_watts» = wattsAt l 64 fixedChannelWatts;
+      «segment_watts» = wattsAt l 72 fixedSegmentWatts;
     }
-
--- where the trailer begins
-abbrev pub trailerOf : List ℕ → ℕ
-trailerOf l = length l - trailerSize
 
 -- "nine u16 counts"
 abbrev pub countOf : List ℕ → ℕ → ℕ
@@ -107,10 +135,6 @@ countOf l t = u16At l (trailerOf l + 2 * t)
 -- "a u32 distance from the trailer's start back to the first byte"
 abbrev pub distanceBack : List ℕ → ℕ
 distanceBack l = u32At l (trailerOf l + 18)
-
--- "u16 edition 1"
-abbrev pub editionOf : List ℕ → ℕ
-editionOf l = u16At l (trailerOf l + 22)
 
 -- "and the ASCII letters EDGE"
 abbrev pub lettersOf : List ℕ → ℕ
@@ -121,9 +145,9 @@ unfoldable pub recordsBefore : List ℕ → ℕ → ℕ
 recordsBefore l zero = 0
 recordsBefore l (suc t) = recordsBefore l t + countOf l t
 
--- where the tables begin: after the general block
-abbrev pub tablesFrom : List ℕ → ℕ
-tablesFrom l = generalSize
+-- where the tables begin: after the general block, of 64 bytes or of 80
+unfoldable pub tablesFrom : List ℕ → ℕ
+tablesFrom l = cond (isSecond l) (generalSize + wattsSize) generalSize
 
 -- where table t begins, and record i of it
 abbrev pub startOf : List ℕ → ℕ → ℕ

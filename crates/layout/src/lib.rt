@@ -6,18 +6,28 @@ ghost use Prim.Native.Nat.{_+_, _*_, _≤_, _<_};
 ghost use lib.ListN.{length};
 ghost use Rattle.codes.specs.Refusal.{refusalOf};
 ghost use Rattle.layout.specs.Bytes.{byteAt, u16At, u32At, u64At};
-ghost use Rattle.layout.specs.Layout.{recordAt, listsOf, rulesOf, generalOf, countOf, distanceBack, editionOf, recordsBefore, tablesFrom, startOf};
-ghost use Rattle.layout.specs.Form.{lettersWrong, overfull, countsWrong, formTests};
+ghost use Rattle.layout.specs.Layout.{recordAt, listsOf, rulesOf, editionOf, wattsAt, generalOf, countOf, recordsBefore, tablesFrom, startOf};
+ghost use Rattle.layout.specs.Form.{lettersWrong, editionWrong, overfull, countsWrong, formTests};
 
 pub const GENERAL_SIZE: usize = 64;
+
+// The two figures more of edition 2.
+pub const WATTS_SIZE: usize = 16;
 
 pub const RECORD_SIZE: usize = 32;
 
 pub const TRAILER_SIZE: usize = 28;
 
-pub const LARGEST: usize = 65536;
+pub const LARGEST: usize = 65552;
 
-pub const EDITION: u16 = 1;
+pub const FIRST_EDITION: u16 = 1;
+
+pub const SECOND_EDITION: u16 = 2;
+
+// The 60 m power limits of edition 1, 100 W and 9.15 W, by their bits.
+pub const CHANNEL_WATTS: u64 = 0x4059_0000_0000_0000;
+
+pub const SEGMENT_WATTS: u64 = 0x4022_4ccc_cccc_cccd;
 
 // The trailer's last bytes.
 pub const LETTERS: [u8; 4] = *b"EDGE";
@@ -77,6 +87,8 @@ pub struct General {
     pub privileges_rule: u16,
     pub unused: u16,
     pub unused_rest: u32,
+    pub channel_watts: u64,
+    pub segment_watts: u64,
 }
 
 pub fn byte_at(s: &[u8], at: usize) -> u8
@@ -176,8 +188,28 @@ pub fn record_at(s: &[u8], at: usize) -> Record
     }
 }
 
+// The edition that the trailer names.
+pub fn edition_of(s: &[u8]) -> u16
+    requires { ⌜ 28 ≤ length (now s) ⌝ }
+    ensures { λ r. ⌜ r ≡ editionOf (now (s .entry)) ⌝ }
+{
+    let at = s.len() - TRAILER_SIZE + 22;
+    u16_at(s, at)
+}
+
+// A figure that edition 2 has at a place, or the fixed one of edition 1.
+fn watts_at(s: &[u8], at: usize, fixed: u64) -> u64
+    requires { ⌜ (28 ≤ length (now s)) × (at + 8 ≤ length (now s)) ⌝ }
+    ensures { λ r. ⌜ r ≡ wattsAt (now (s .entry)) at fixed ⌝ }
+{
+    if edition_of(s) == SECOND_EDITION {
+        return u64_at(s, at);
+    }
+    fixed
+}
+
 pub fn general_of(s: &[u8]) -> General
-    requires { ⌜ 64 ≤ length (now s) ⌝ }
+    requires { ⌜ 92 ≤ length (now s) ⌝ }
     ensures { λ r. ⌜ r ≡ generalOf (now (s .entry)) ⌝ }
 {
     General {
@@ -200,6 +232,8 @@ pub fn general_of(s: &[u8]) -> General
         privileges_rule: u16_at(s, 56),
         unused: u16_at(s, 58),
         unused_rest: u32_at(s, 60),
+        channel_watts: watts_at(s, 64, CHANNEL_WATTS),
+        segment_watts: watts_at(s, 72, SEGMENT_WATTS),
     }
 }
 
@@ -226,10 +260,14 @@ pub fn records_before(s: &[u8], t: usize) -> u32
     sum
 }
 
-// Where the tables begin: after the general block, in every image.
+// Where the tables begin: after the general block, which is longer in edition 2.
 pub fn tables_from(s: &[u8]) -> usize
+    requires { ⌜ 28 ≤ length (now s) ⌝ }
     ensures { λ r. ⌜ r ≡ tablesFrom (now (s .entry)) ⌝ }
 {
+    if edition_of(s) == SECOND_EDITION {
+        return GENERAL_SIZE + WATTS_SIZE;
+    }
     GENERAL_SIZE
 }
 
@@ -273,6 +311,15 @@ fn letters_wrong(s: &[u8]) -> bool
     true
 }
 
+// Whether the edition is neither of the two.
+fn edition_wrong(s: &[u8]) -> bool
+    requires { ⌜ 28 ≤ length (now s) ⌝ }
+    ensures { λ r. ⌜ r ≡ editionWrong (now (s .entry)) ⌝ }
+{
+    let edition = edition_of(s);
+    edition != FIRST_EDITION && edition != SECOND_EDITION
+}
+
 // Whether a count is over 256, or the length or the distance disagrees with the counts.
 fn counts_wrong(s: &[u8]) -> bool
     requires { ⌜ 28 ≤ length (now s) ⌝ }
@@ -301,8 +348,7 @@ pub fn form(s: &[u8]) -> Checked
     if letters_wrong(s) {
         return Checked::Refused(2);
     }
-    let trailer = s.len() - TRAILER_SIZE;
-    if u16_at(s, trailer + 22) != EDITION {
+    if edition_wrong(s) {
         return Checked::Refused(3);
     }
     if counts_wrong(s) {

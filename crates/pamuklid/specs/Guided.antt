@@ -194,7 +194,7 @@ module _ (l : List ℕ) (w : Whole l) (c : Case) where
   off-sixty band TestKind = by-privilege (privilegedOf table c TestKind) _ (simple _ _ _ _)
   off-sixty band NoEmission = by-test (somePrivilege table c (range (c .«dial_hz») (c .«dial_hz»))) (simple _ _ _ _) (simple _ _ _ _)
 
-  channel : (ch : Channels) (centre : Float) → Settled (sixtyChannel c ch centre)
+  channel : (ch : Channels) (centre : Float) → Settled (sixtyChannel table c ch centre)
   unfolding sixtyChannel
   channel ch centre = by-test (onChannel c ch centre (c .kind)) (on-sixty _ _ _ _ _) (simple _ _ _ _)
 

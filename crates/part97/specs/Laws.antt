@@ -98,12 +98,12 @@ module _ (table : Table) (c : Case) (band : ℕ) (found : Found) where
 
 module _ (table : Table) (c : Case) (ch : Channels) (centre : Float) where
   abbrev overlapped : Bool → Decision
-  overlapped b = cond b (sixtyChannel c ch centre) (inSixtySegment table c ch (sixtyChannel c ch centre))
+  overlapped b = cond b (sixtyChannel table c ch centre) (inSixtySegment table c ch (sixtyChannel table c ch centre))
 
   abbrev chosen : Found → Decision
-  chosen f = onFound f (λ i. sixtySegment table c (ch .band) (segmentAt table i)) (sixtyChannel c ch centre)
+  chosen f = onFound f (λ i. sixtySegment table c (ch .band) (segmentAt table i)) (sixtyChannel table c ch centre)
 
-  pub overlap-held : holdsOf (channelRangeOf (ch .«width_hz») centre) (c .guarded) ≡ true → sixtyChannel c ch centre ≡ sixtyOverlap table c ch centre
+  pub overlap-held : holdsOf (channelRangeOf (ch .«width_hz») centre) (c .guarded) ≡ true → sixtyChannel table c ch centre ≡ sixtyOverlap table c ch centre
   unfolding sixtyOverlap
   overlap-held h = sym (ap overlapped h)
 
@@ -115,6 +115,6 @@ module _ (table : Table) (c : Case) (ch : Channels) (centre : Float) where
     overlap-segment i f = sym (ap overlapped h ∙ ap chosen f)
 
     pub overlap-channel :
-        firstIn table segments (BandHolds (ch .band) (c .guarded)) ≡ Nothing → sixtyChannel c ch centre ≡ sixtyOverlap table c ch centre
+        firstIn table segments (BandHolds (ch .band) (c .guarded)) ≡ Nothing → sixtyChannel table c ch centre ≡ sixtyOverlap table c ch centre
     unfolding sixtyOverlap
     overlap-channel f = sym (ap overlapped h ∙ ap chosen f)

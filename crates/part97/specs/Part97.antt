@@ -6,8 +6,8 @@ use mathlib.Core.Bool.{Bool, true, false, not, cond, _&&_, _||_}
 use mathlib.Core.List.{List}
 use lib.Dec.{eqb, ltb}
 use lib.ListN.{set}
-use lib.Ieee.{Float, binary64, add, sub, lt, le, ofBits}
-use Rattle.figures.specs.Figure.{zeroHz, maxOf, absOf, midpointOf, totalLess}
+use lib.Ieee.{Float, binary64, add, sub, lt, le}
+use Rattle.figures.specs.Figure.{zeroHz, maxOf, absOf, midpointOf, totalLess, figureOf}
 use Rattle.codes.specs.Code.{kindCode, classCode, bitOf}
 use Rattle.codes.specs.declared.EmissionKind.{EmissionKind}
 use Rattle.codes.specs.declared.EmissionKind.the-variants.{Data, Cw, Test, Nothing as NoEmission}
@@ -345,13 +345,13 @@ offSixty table c band NoEmission = keyed table c band
 
 -- ---- 60 m (97.303(h)(3), 97.305(c), 97.307(f)(14), 97.313(i)), from document 01
 
--- "Warnings are strictly above 100 W and 9.15 W.": on a channel 100
-abbrev pub channelWatts : Float
-channelWatts = ofBits binary64 0x4059_0000_0000_0000
+-- "Warnings are strictly above 100 W and 9.15 W.": figures of the table since document 02 (6), on a channel
+abbrev pub channelWatts : Table → Float
+channelWatts table = figureOf (table .general .«channel_watts»)
 
--- in the segment 9.15
-abbrev pub segmentWatts : Float
-segmentWatts = ofBits binary64 0x4022_4ccc_cccc_cccd
+-- in the segment
+abbrev pub segmentWatts : Table → Float
+segmentWatts table = figureOf (table .general .«segment_watts»)
 
 -- allowed on 60 m, with its notes
 unfoldable pub allowedOnSixty : Draft → Bool → Code → ℕ → SixtyNotes → Decision
@@ -385,11 +385,11 @@ onChannel c ch centre Test = dataOnChannel c ch centre
 onChannel c ch centre NoEmission = dataOnChannel c ch centre
 
 -- on a channel: set up for it, or blocked
-unfoldable pub sixtyChannel : Case → Channels → Float → Decision
-sixtyChannel c ch centre =
+unfoldable pub sixtyChannel : Table → Case → Channels → Float → Decision
+sixtyChannel table c ch centre =
     cond (onChannel c ch centre (c .kind))
-    (allowedOnSixty (draftInside c (ch .band) (channelRangeOf (ch .«width_hz») centre) (ch .rule)) (exceeds (c .power) channelWatts)
-    SixtyChannel (ch .rule) (record { «channel_power» = exceeds (c .power) channelWatts; shared = true; «segment_power» = false }))
+    (allowedOnSixty (draftInside c (ch .band) (channelRangeOf (ch .«width_hz») centre) (ch .rule)) (exceeds (c .power) (channelWatts table))
+    SixtyChannel (ch .rule) (record { «channel_power» = exceeds (c .power) (channelWatts table); shared = true; «segment_power» = false }))
     (simpleOf (draftInside c (ch .band) (channelRangeOf (ch .«width_hz») centre) (ch .rule)) Blocked SixtyChannel (ch .rule))
 
 -- data, whose width is tested; here too the case for keying alone is never reached
@@ -404,8 +404,8 @@ unfoldable pub sixtySegment : Table → Case → ℕ → SegmentRecord → Decis
 sixtySegment table c band s =
     cond (isData (c .kind) && wider (c .width) (generalLimit table .«max_bandwidth_hz»))
     (simpleOf (draftInside c band (s .range) (s .rule)) Blocked TooWide (generalLimit table .rule))
-    (allowedOnSixty (draftInside c band (s .range) (s .rule)) (exceeds (c .power) segmentWatts) SixtySegment (s .rule)
-    (record { «channel_power» = false; shared = false; «segment_power» = exceeds (c .power) segmentWatts }))
+    (allowedOnSixty (draftInside c band (s .range) (s .rule)) (exceeds (c .power) (segmentWatts table)) SixtySegment (s .rule)
+    (record { «channel_power» = false; shared = false; «segment_power» = exceeds (c .power) (segmentWatts table) }))
 
 -- the first data segment of the band that holds the guarded range, or else
 abbrev pub inSixtySegment : Table → Case → Channels → Decision → Decision
@@ -416,8 +416,8 @@ inSixtySegment table c ch otherwise =
 -- (document 02, 4): by that channel
 unfoldable pub sixtyOverlap : Table → Case → Channels → Float → Decision
 sixtyOverlap table c ch centre =
-    cond (holdsOf (channelRangeOf (ch .«width_hz») centre) (c .guarded)) (sixtyChannel c ch centre)
-    (inSixtySegment table c ch (sixtyChannel c ch centre))
+    cond (holdsOf (channelRangeOf (ch .«width_hz») centre) (c .guarded)) (sixtyChannel table c ch centre)
+    (inSixtySegment table c ch (sixtyChannel table c ch centre))
 
 -- the first channel that the guarded range overlaps, or else the segment. Neither: off channel
 unfoldable pub sixtyPlace : Table → Case → Channels → Decision

@@ -27,11 +27,6 @@ ghost use Rattle.part97.specs.Finding.{concluded};
 ghost use Rattle.part97.specs.Part97.{cwOnChannel, sameSideband, dataOnChannel, onChannel, sixtyChannel};
 ghost use Rattle.part97.specs.Part97.{isData, sixtySegment, sixtyOverlap, sixtyPlace, sixtyEmission, sixtyKind, sixty};
 
-// The watts above which the operator is warned, on a channel and in the segment (97.313(i)).
-const CHANNEL_WATTS: f64 = 100.0;
-
-const SEGMENT_WATTS: f64 = 9.15;
-
 // Whether a CW carrier is on a channel's centre, within the tolerance.
 fn cw_on_channel(c: Case, ch: Channels, centre: f64) -> bool
     ensures { λ r. ⌜ r ≡ cwOnChannel c ch centre ⌝ }
@@ -80,15 +75,15 @@ fn on_channel(c: Case, ch: Channels, centre: f64, kind: EmissionKind) -> bool
     }
 }
 
-// On a channel: set up for it, or blocked.
-fn sixty_channel(c: Case, ch: Channels, centre: f64) -> Finding
-    ensures { λ r. ⌜ ((table : Table) → concluded table c r ≡ sixtyChannel c ch centre) ⌝ }
+// On a channel: set up for it, or blocked. Above the table's watts the operator is warned, here and in the segment (97.313(i)).
+fn sixty_channel(g: General, c: Case, ch: Channels, centre: f64) -> Finding
+    ensures { λ r. ⌜ ((table : Table) → g ≡ table .general → concluded table c r ≡ sixtyChannel table c ch centre) ⌝ }
 {
     let kind = c.kind;
     let power = c.power;
     let range = profile::channel_range(ch.width_hz, centre);
     if on_channel(c, ch, centre, kind) {
-        let warn = advice_97_313::above(power, CHANNEL_WATTS);
+        let warn = advice_97_313::above(power, figures::figure(g.channel_watts));
         let marks = SixtyNotes {
             channel_power: warn,
             shared: true,
@@ -128,7 +123,7 @@ fn sixty_segment(g: General, c: Case, band: u8, place: Segment) -> Finding
     if too_wide(kind, c.width, general.max_bandwidth_hz) {
         return findings::in_segment(band, range, place.rule, Code::TooWide, general.rule);
     }
-    let warn = advice_97_313::above(power, SEGMENT_WATTS);
+    let warn = advice_97_313::above(power, figures::figure(g.segment_watts));
     let marks = SixtyNotes {
         channel_power: false,
         shared: false,
@@ -145,11 +140,11 @@ fn sixty_overlap(s: &[u8], g: General, c: Case, ch: Channels, centre: f64) -> Fi
 {
     let guarded = c.guarded;
     if profile::channel_range(ch.width_hz, centre).holds(guarded) {
-        return sixty_channel(c, ch, centre);
+        return sixty_channel(g, c, ch, centre);
     }
     match find::pick_in(s, layout::SEGMENTS, Question::BandHolds(ch.band, guarded)) {
         Pick::Picked(k, segment) => sixty_segment(g, c, ch.band, table::segment_of(segment)),
-        Pick::Missing => sixty_channel(c, ch, centre),
+        Pick::Missing => sixty_channel(g, c, ch, centre),
     }
 }
 

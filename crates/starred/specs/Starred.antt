@@ -11,7 +11,7 @@ use Rattle.codes.specs.declared.Checked.the-variants.{Accepted}
 use lib.Ieee.{Float, ofBits, toBits, ofInt, lt, le, eq, ne, neg, add, sub, mul, div}
 use Rattle.scan.specs.First.{firstFrom}
 use Rattle.layout.specs.Bytes.{u16At, u32At, u64At}
-use Rattle.layout.specs.Layout.{recordsBefore, recordAt, generalOf}
+use Rattle.layout.specs.Layout.{wattsAt, tablesFrom, recordsBefore, recordAt, generalOf}
 use Rattle.table.specs.Table.{recordIn, tableOf}
 use Rattle.coded.specs.Coded.{codedOf, codedGeneral}
 use Rattle.find.specs.Question.{asks, soundBits, soundRecord}
@@ -164,8 +164,8 @@ pub record Starred : Type 0 where
 -- the definitions that computing from the bytes opens: to unfold `opened` is to unfold them all
 unfoldable pub opened : Unit {0}
 unfolding
-    recordIn checkOf codedBlock miscoded soundBlock unsound bare unlimited asks soundBits soundRecord codedOf codedGeneral recordsBefore recordAt
-    generalOf u16At u32At u64At firstFrom lt le eq ne neg add sub mul div ofInt ofBits decideOf unruledOf underRulesOf readyOf caseOf signalOf
+    recordIn checkOf codedBlock miscoded soundBlock unsound bare unlimited asks soundBits soundRecord codedOf codedGeneral tablesFrom recordsBefore
+    recordAt wattsAt generalOf u16At u32At u64At firstFrom lt le eq ne neg add sub mul div ofInt ofBits decideOf unruledOf underRulesOf readyOf caseOf signalOf
     airOf judge touching judgeInBand judgeOnBand sixty sixtyKind sixtyEmission sixtyPlace sixtyOverlap sixtySegment sixtyChannel allowedOnSixty judgeData
     insideSegment outsideSegments overshootOf nearestUpTo considered automaticData automaticElsewhere advised adviceWarns adviceOf guidanceOf
     planSays wantsPlan notesUpTo anyNote noted privilegedOf draftAutomatic draftInside draftOf refusedOf simpleOf finishOf noAdvice edgesRead

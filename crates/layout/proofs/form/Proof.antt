@@ -1,5 +1,5 @@
 -- `layout::form` meets its contract: on each way to a return, the tests and what the calls ensure say which case of the definition holds.
-use borrow.Author.Tests.{lt-ltb, le-ltb, eq-eqb, ne-eqb}
+use borrow.Author.Tests.{lt-ltb, le-ltb}
 use borrow.Author.Needs.{needs}
 use Rattle.layout.proofs.form.Statement.{statement}
 use Rattle.layout.proofs.form.Tie as tie
@@ -26,14 +26,8 @@ returns-3 c =
     (rw (← c .before .letters-wrong .ensures)
     (rw (c .if3 .taken))))
 
-sub-trailer : tie.Need-sub-trailer
-sub-trailer c = search needs
-
-add-u16-at : tie.Need-add-u16-at
-add-u16-at c = search needs
-
-u16-at-requires : tie.Need-u16-at-requires
-u16-at-requires c κs = search needs
+edition-wrong-requires : tie.Need-edition-wrong-requires
+edition-wrong-requires c κs = search needs
 
 returns-4 : tie.Need-returns-4
 returns-4 c =
@@ -41,8 +35,8 @@ returns-4 c =
     (rw (le-ltb _ _ (c .before .before .before .before .if2 .left))
     (rw (← c .before .before .before .letters-wrong .ensures)
     (rw (c .before .before .if3 .left)
-    (rw (← c .before .u16-at .ensures)
-    (rw (ne-eqb _ _ (c .if4 .taken)))))))
+    (rw (← c .before .edition-wrong .ensures)
+    (rw (c .if4 .taken))))))
 
 counts-wrong-requires : tie.Need-counts-wrong-requires
 counts-wrong-requires c κs = search needs
@@ -53,8 +47,8 @@ returns-5 c =
     (rw (le-ltb _ _ (c .before .before .before .before .before .before .if2 .left))
     (rw (← c .before .before .before .before .before .letters-wrong .ensures)
     (rw (c .before .before .before .before .if3 .left)
-    (rw (← c .before .before .before .u16-at .ensures)
-    (rw (eq-eqb _ _ (c .before .before .if4 .left))
+    (rw (← c .before .before .before .edition-wrong .ensures)
+    (rw (c .before .before .if4 .left)
     (rw (← c .before .counts-wrong .ensures)
     (rw (c .if5 .taken))))))))
 
@@ -64,8 +58,8 @@ returns-6 c =
     (rw (le-ltb _ _ (c .before .before .before .before .before .before .if2 .left))
     (rw (← c .before .before .before .before .before .letters-wrong .ensures)
     (rw (c .before .before .before .before .if3 .left)
-    (rw (← c .before .before .before .u16-at .ensures)
-    (rw (eq-eqb _ _ (c .before .before .if4 .left))
+    (rw (← c .before .before .before .edition-wrong .ensures)
+    (rw (c .before .before .if4 .left)
     (rw (← c .before .counts-wrong .ensures)
     (rw (c .if5 .left))))))))
 
@@ -78,9 +72,7 @@ form-spec =
     returns-2
     letters-wrong-requires
     returns-3
-    sub-trailer
-    add-u16-at
-    u16-at-requires
+    edition-wrong-requires
     returns-4
     counts-wrong-requires
     returns-5

@@ -1,5 +1,6 @@
 -- `layout::general_of` meets its contract: on each way to a return, the tests and what the calls ensure say which case of the definition holds.
 use Rattle.layout.specs.Layout.{generalOf}
+use native.Mathlib.Omega.{arith}
 use borrow.Author.Needs.{needs}
 use Rattle.layout.proofs.general_of.Statement.{statement}
 use Rattle.layout.proofs.general_of.Tie as tie
@@ -61,30 +62,46 @@ u16-at-requires-7 c κs = search needs
 u32-at-requires : tie.Need-u32-at-requires
 u32-at-requires c κs = search needs
 
+watts-at-requires : tie.Need-watts-at-requires
+watts-at-requires c κs =
+    let h = c .before .before .before .before .before .before .before .before .before .before
+    .before .before .before .before .before .before .before .before .before .before .pre in
+    (omega arith, omega arith)
+
+watts-at-requires-2 : tie.Need-watts-at-requires-2
+watts-at-requires-2 c κs =
+    let h = c .before .before .before .before .before .before .before .before .before .before .before
+    .before .before .before .before .before .before .before .before .before .before .pre in
+    (omega arith, omega arith)
+
 returns : tie.Need-returns
 unfolding generalOf
 returns c =
-    rw (← c .before .before .before .before .before .before .before
-    .before .before .before .before .before .before .before .before .before .before .before .u64-at .ensures)
-    (rw (← c .before .before .before .before .before .before
-    .before .before .before .before .before .before .before .before .before .before .before .u64-at2 .ensures)
-    (rw (← c .before .before .before .before .before .before .before .before .before .before .before .before .before .before .before .before .u64-at3 .ensures)
-    (rw (← c .before .before .before .before .before .before .before .before .before .before .before .before .before .before .before .u64-at4 .ensures)
-    (rw (← c .before .before .before .before .before .before .before .before .before .before .before .before .before .before .u64-at5 .ensures)
-    (rw (← c .before .before .before .before .before .before .before .before .before .before .before .before .before .byte-at .ensures)
-    (rw (← c .before .before .before .before .before .before .before .before .before .before .before .before .byte-at2 .ensures)
-    (rw (← c .before .before .before .before .before .before .before .before .before .before .before .byte-at3 .ensures)
-    (rw (← c .before .before .before .before .before .before .before .before .before .before .byte-at4 .ensures)
-    (rw (← c .before .before .before .before .before .before .before .before .before .byte-at5 .ensures)
-    (rw (← c .before .before .before .before .before .before .before .before .byte-at6 .ensures)
-    (rw (← c .before .before .before .before .before .before .before .u16-at .ensures)
-    (rw (← c .before .before .before .before .before .before .u16-at2 .ensures)
-    (rw (← c .before .before .before .before .before .u16-at3 .ensures)
-    (rw (← c .before .before .before .before .u16-at4 .ensures)
-    (rw (← c .before .before .before .u16-at5 .ensures)
-    (rw (← c .before .before .u16-at6 .ensures)
-    (rw (← c .before .u16-at7 .ensures)
-    (rw (c .u32-at .ensures)))))))))))))))))))
+    rw (← c .before .before .before .before .before .before .before .before .before .before
+    .before .before .before .before .before .before .before .before .before .before .u64-at .ensures)
+    (rw (← c .before .before .before .before .before .before .before .before .before
+    .before .before .before .before .before .before .before .before .before .before .u64-at2 .ensures)
+    (rw (← c .before .before .before .before .before .before .before .before .before
+    .before .before .before .before .before .before .before .before .before .u64-at3 .ensures)
+    (rw (← c .before .before .before .before .before .before .before .before
+    .before .before .before .before .before .before .before .before .before .u64-at4 .ensures)
+    (rw (← c .before .before .before .before .before .before .before .before .before .before .before .before .before .before .before .before .u64-at5 .ensures)
+    (rw (← c .before .before .before .before .before .before .before .before .before .before .before .before .before .before .before .byte-at .ensures)
+    (rw (← c .before .before .before .before .before .before .before .before .before .before .before .before .before .before .byte-at2 .ensures)
+    (rw (← c .before .before .before .before .before .before .before .before .before .before .before .before .before .byte-at3 .ensures)
+    (rw (← c .before .before .before .before .before .before .before .before .before .before .before .before .byte-at4 .ensures)
+    (rw (← c .before .before .before .before .before .before .before .before .before .before .before .byte-at5 .ensures)
+    (rw (← c .before .before .before .before .before .before .before .before .before .before .byte-at6 .ensures)
+    (rw (← c .before .before .before .before .before .before .before .before .before .u16-at .ensures)
+    (rw (← c .before .before .before .before .before .before .before .before .u16-at2 .ensures)
+    (rw (← c .before .before .before .before .before .before .before .u16-at3 .ensures)
+    (rw (← c .before .before .before .before .before .before .u16-at4 .ensures)
+    (rw (← c .before .before .before .before .before .u16-at5 .ensures)
+    (rw (← c .before .before .before .before .u16-at6 .ensures)
+    (rw (← c .before .before .before .u16-at7 .ensures)
+    (rw (← c .before .before .u32-at .ensures)
+    (rw (← c .before .watts-at .ensures)
+    (rw (c .watts-at2 .ensures)))))))))))))))))))))
 
 pub general-of-spec : {M : Type 1} → statement M
 general-of-spec =
@@ -109,4 +126,6 @@ general-of-spec =
     u16-at-requires-6
     u16-at-requires-7
     u32-at-requires
+    watts-at-requires
+    watts-at-requires-2
     returns)

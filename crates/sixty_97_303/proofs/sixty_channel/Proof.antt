@@ -11,6 +11,9 @@ channel-range-requires c κs = search needs
 on-channel-requires : tie.Need-on-channel-requires
 on-channel-requires c κs = search needs
 
+figure-requires : tie.Need-figure-requires
+figure-requires c κs = search needs
+
 above-requires : tie.Need-above-requires
 above-requires c κs = search needs
 
@@ -19,20 +22,22 @@ on-sixty-requires c κs = search needs
 
 returns : tie.Need-returns
 unfolding sixtyChannel
-returns c table =
-    rw (c .on-sixty .ensures)
+returns c table e =
+    rw (← e)
+    (rw (c .on-sixty .ensures)
     (rw (c .before .above .ensures)
-    (rw (c .before .before .before .before .channel-range .ensures)
-    (rw (← c .before .before .before .on-channel .ensures)
-    (rw (c .before .before .if1 .taken)
-    (on-sixty _ _ _ _ _ _ _ _)))))
+    (rw (c .before .before .figure .ensures)
+    (rw (c .before .before .before .before .before .channel-range .ensures)
+    (rw (← c .before .before .before .before .on-channel .ensures)
+    (rw (c .before .before .before .if1 .taken)
+    (on-sixty _ _ _ _ _ _ _ _)))))))
 
 in-segment-requires : tie.Need-in-segment-requires
 in-segment-requires c κs = search needs
 
 returns-2 : tie.Need-returns-2
 unfolding sixtyChannel
-returns-2 c table =
+returns-2 c table e =
     rw (c .in-segment .ensures)
     (rw (c .before .before .before .channel-range .ensures)
     (rw (← c .before .before .on-channel .ensures)
@@ -45,6 +50,7 @@ sixty-channel-spec =
     (tie.spec
     channel-range-requires
     on-channel-requires
+    figure-requires
     above-requires
     on-sixty-requires
     returns

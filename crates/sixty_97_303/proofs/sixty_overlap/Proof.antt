@@ -24,7 +24,7 @@ sixty-channel-requires c κs = search needs
 returns : tie.Need-returns
 returns c =
     let a = c .before .before .before .before .before .before .args in
-    c .sixty-channel .ensures _
+    c .sixty-channel .ensures (tableOf (a .s .now)) (c .before .before .before .before .before .before .pre .1)
     ∙ overlap-held (tableOf (a .s .now)) (a .c) (a .ch) (a .centre)
     (ap (λ (r : Range). holdsOf r (c .before .before .before .before .before .before .args .c .guarded))
     (sym (c .before .before .before .channel-range .ensures)) ∙ sym (c .before .before .holds .ensures) ∙ c .before .if1 .taken)
@@ -62,7 +62,7 @@ returns-2 c =
 returns-3 : tie.Need-returns-3
 returns-3 c =
     let a = c .before .before .before .before .before .before .before .before .before .args in
-    c .sixty-channel2 .ensures _
+    c .sixty-channel2 .ensures (tableOf (a .s .now)) (c .before .before .before .before .before .before .before .before .before .pre .1)
     ∙ overlap-channel (tableOf (a .s .now)) (a .c) (a .ch) (a .centre)
     (ap (λ (r : Range). holdsOf r (c .before .before .before .before .before .before .before .before .before .args .c .guarded))
     (sym (c .before .before .before .before .before .before .channel-range .ensures)) ∙ sym

@@ -35,6 +35,9 @@ returns c table e =
     (rw (c .before .if1 .taken)
     (in-segment _ _ _ _ _ _ _)))))
 
+figure-requires : tie.Need-figure-requires
+figure-requires c κs = search needs
+
 above-requires : tie.Need-above-requires
 above-requires c κs = search needs
 
@@ -46,9 +49,11 @@ unfolding sixtySegment
 returns-2 c table e =
     rw (c .on-sixty .ensures)
     (rw (c .before .above .ensures)
-    (rw (← asked (c .before .before .before) table e)
-    (rw (c .before .before .if1 .left)
-    (on-sixty _ _ _ _ _ _ _ _))))
+    (rw (c .before .before .figure .ensures)
+    (rw e
+    (rw (← asked (c .before .before .before .before) table e)
+    (rw (c .before .before .before .if1 .left)
+    (on-sixty _ _ _ _ _ _ _ _))))))
 
 pub sixty-segment-spec : {M : Type 1} → statement M
 sixty-segment-spec =
@@ -58,6 +63,7 @@ sixty-segment-spec =
     too-wide-requires
     in-segment-requires
     returns
+    figure-requires
     above-requires
     on-sixty-requires
     returns-2)
