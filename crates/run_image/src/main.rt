@@ -182,7 +182,7 @@ fn cases(s: &[u8]) {
 }
 
 fn main() {
-    let mut input = [0u8; 163840];
+    let mut input = [0u8; 524288];
     let n = io::read_full(0, &mut input);
     cases(&input[..n]);
 }
