@@ -198,13 +198,7 @@ fn some_in(
 }
 
 // 5: the general block, then each table.
-fn is_miscoded(
-    g: General,
-    counts: &[u16; 9],
-    figures: &[f64],
-    codes: &[u8],
-    rules: &[u16],
-) -> bool
+fn is_miscoded(g: General, counts: &[u16; 9], figures: &[f64], codes: &[u8], rules: &[u16]) -> bool
     requires { ⌜ Held (runs (now figures) (now codes) (now rules)) (beforeFrom (now counts) 9) ⌝ }
     ensures { λ r. ⌜ r ≡ miscoded (tableWith g (now (counts .entry)) (runs (now (figures .entry)) (now (codes .entry)) (now (rules .entry)))) ⌝ }
 {
@@ -227,13 +221,7 @@ fn is_miscoded(
 }
 
 // 6: the general block's figures, then those of each table's records.
-fn is_unsound(
-    g: General,
-    counts: &[u16; 9],
-    figures: &[f64],
-    codes: &[u8],
-    rules: &[u16],
-) -> bool
+fn is_unsound(g: General, counts: &[u16; 9], figures: &[f64], codes: &[u8], rules: &[u16]) -> bool
     requires { ⌜ Held (runs (now figures) (now codes) (now rules)) (beforeFrom (now counts) 9) ⌝ }
     ensures { λ r. ⌜ r ≡ unsound (tableWith g (now (counts .entry)) (runs (now (figures .entry)) (now (codes .entry)) (now (rules .entry)))) ⌝ }
 {
@@ -276,13 +264,7 @@ fn is_homeless(counts: &[u16; 9], figures: &[f64], codes: &[u8], rules: &[u16]) 
 }
 
 // Refusals 5 to 14 of the table of what is given, in their order.
-fn content(
-    g: General,
-    counts: &[u16; 9],
-    figures: &[f64],
-    codes: &[u8],
-    rules: &[u16],
-) -> Checked
+fn content(g: General, counts: &[u16; 9], figures: &[f64], codes: &[u8], rules: &[u16]) -> Checked
     requires { ⌜ Held (runs (now figures) (now codes) (now rules)) (beforeFrom (now counts) 9) ⌝ }
     ensures { λ r. ⌜ r ≡ refusalOf (contentTests (tableWith g (now (counts .entry))
         (runs (now (figures .entry)) (now (codes .entry)) (now (rules .entry))))) ⌝ }
@@ -293,16 +275,44 @@ fn content(
     if is_unsound(g, counts, figures, codes, rules) {
         return Checked::Refused(6);
     }
-    if some_in(counts, figures, codes, rules, layout::BANDS, Question::NotLengthy) {
+    if some_in(
+        counts,
+        figures,
+        codes,
+        rules,
+        layout::BANDS,
+        Question::NotLengthy,
+    ) {
         return Checked::Refused(7);
     }
-    if some_in(counts, figures, codes, rules, layout::SEGMENTS, Question::NotLengthy) {
+    if some_in(
+        counts,
+        figures,
+        codes,
+        rules,
+        layout::SEGMENTS,
+        Question::NotLengthy,
+    ) {
         return Checked::Refused(8);
     }
-    if some_in(counts, figures, codes, rules, layout::AUTOMATIC, Question::NotLengthy) {
+    if some_in(
+        counts,
+        figures,
+        codes,
+        rules,
+        layout::AUTOMATIC,
+        Question::NotLengthy,
+    ) {
         return Checked::Refused(9);
     }
-    if some_in(counts, figures, codes, rules, layout::PRIVILEGES, Question::NotLengthy) {
+    if some_in(
+        counts,
+        figures,
+        codes,
+        rules,
+        layout::PRIVILEGES,
+        Question::NotLengthy,
+    ) {
         return Checked::Refused(10);
     }
     if is_bare(counts) {
@@ -311,7 +321,14 @@ fn content(
     if is_homeless(counts, figures, codes, rules) {
         return Checked::Refused(12);
     }
-    if some_in(counts, figures, codes, rules, layout::SEGMENTS, Question::NoLimit) {
+    if some_in(
+        counts,
+        figures,
+        codes,
+        rules,
+        layout::SEGMENTS,
+        Question::NoLimit,
+    ) {
         return Checked::Refused(13);
     }
     if image::is_unlimited(g) {

@@ -51,7 +51,8 @@ pub fn sound_block(g: General) -> bool
             && (find::sound_bits(g.channel_width)
                 && (find::sound_bits(g.carrier_offset)
                     && (find::sound_bits(g.carrier_tolerance)
-                        && (find::sound_bits(g.channel_watts) && find::sound_bits(g.segment_watts))))))
+                        && (find::sound_bits(g.channel_watts)
+                            && find::sound_bits(g.segment_watts))))))
 }
 
 // 6: the general block's figures, then those of each table's records.
