@@ -1,0 +1,5 @@
+pub mod Words
+pub mod Ranges
+pub mod Left
+pub mod Theorem
+pub mod Tidy
