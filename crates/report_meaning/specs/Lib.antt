@@ -3,3 +3,4 @@ pub mod Ranges
 pub mod Left
 pub mod Theorem
 pub mod Tidy
+pub mod Example
