@@ -7,6 +7,8 @@
 //!   include and that aren't to be had. Nothing of the Rust is kept in the repository.
 //! - Where a table is wrong is compared if the library has `pamuklid_fault_of` (cfg `fault`); else the
 //!   driver links without it and says "fault: not compared".
+//! - With the feature `unequal` the copy is no longer the Rust unchanged: it has an upper margin beside its
+//!   own, by the edits of `PARTED` and nothing else.
 //! - `PAMUKLID_STUB_SRC`, `PAMUKLID_STUB_OWN` (feature `stub` only): the Rust, and the folder of the
 //!   `expect.rs`, `adapter.rs`, `distance.rs` and `sixty.rs`, that the stub answers from, where they are
 //!   to differ from the driver's.
@@ -20,10 +22,41 @@ fn folder(name: &str, default: PathBuf) -> PathBuf {
     env::var_os(name).map_or(default, PathBuf::from)
 }
 
+/// "a lower and an upper margin instead of one, each used at its own side everywhere, dial ranges included"
+/// (document 02, 9): the Rust's margin is the lower one, and where it stands at the upper side of the air it
+/// becomes the upper one. Each text, how often it stands in mod.rs, and what it becomes.
+const PARTED: [(&str, usize, &str); 12] = [
+    (
+        "    /// The transmitter's power, watts, when the operator said.\n    pub power_w: Option<f64>,\n}\n",
+        1,
+        "    pub power_w: Option<f64>,\n    pub upper_hz: f64,\n}\n",
+    ),
+    ("    margin: f64,\n) -> Option", 1, "    margin: f64,\n    upper: f64,\n) -> Option"),
+    ("segment.high_hz - audio_high - margin,", 1, "segment.high_hz - audio_high - upper,"),
+    ("segment.high_hz + audio_low - margin,", 1, "segment.high_hz + audio_low - upper,"),
+    ("a_lo, a_hi, s.margin_hz)", 1, "a_lo, a_hi, s.margin_hz, s.upper_hz)"),
+    ("hi + s.margin_hz) {", 1, "hi + s.upper_hz) {"),
+    ("ghi: hi + s.margin_hz,", 1, "ghi: hi + s.upper_hz,"),
+    ("ghi - s.margin_hz),", 2, "ghi - s.upper_hz),"),
+    ("c.s.margin_hz, rf_text)", 1, "(c.s.margin_hz, c.s.upper_hz), rf_text)"),
+    ("    m: f64,\n", 1, "    (m, upper): (f64, f64),\n"),
+    ("(lo - m, hi + m)", 1, "(lo - m, hi + upper)"),
+    ("(c.lo - m, c.hi + m)", 1, "(c.lo - m, c.hi + c.s.upper_hz)"),
+];
+
 fn copy(from: &Path, to: &Path) {
     println!("cargo::rerun-if-changed={}", from.display());
     let bytes = fs::read(from).unwrap_or_else(|e| panic!("{}: {e}", from.display()));
     fs::write(to, bytes).unwrap_or_else(|e| panic!("{}: {e}", to.display()));
+}
+
+fn part(file: &Path) {
+    let mut text = fs::read_to_string(file).unwrap();
+    for (old, times, new) in PARTED {
+        assert_eq!(text.matches(old).count(), times, "{old:?} in {}", file.display());
+        text = text.replace(old, new);
+    }
+    fs::write(file, text).unwrap();
 }
 
 /// The module at `src`, as `OUT_DIR/name.rs` to be included.
@@ -33,6 +66,9 @@ fn place(src: &Path, out: &Path, name: &str) {
     fs::create_dir_all(&module).unwrap();
     for file in ["mod.rs", "profile.rs", "occupancy.rs"] {
         copy(&src.join("core/aetherd/src/regulatory").join(file), &module.join(file));
+    }
+    if env::var_os("CARGO_FEATURE_UNEQUAL").is_some() {
+        part(&module.join("mod.rs"));
     }
     fs::create_dir_all(home.join("data/regulatory")).unwrap();
     fs::write(home.join("data/occupancy.json"), "{\"airs\":{}}").unwrap();

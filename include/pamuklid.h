@@ -108,7 +108,8 @@ extern "C" {
 
 /* The station. Negative zero in a figure reads as zero. */
 typedef struct {
-    double margin_hz;     /* kept free on each side of the signal; may be negative */
+    double margin_lower_hz; /* kept free below the signal on the air, on either sideband; may be negative */
+    double margin_upper_hz; /* kept free above it; may be negative */
     double dial_hz;       /* the radio's dial; not looked at where dial_known is 0 */
     double power_w;       /* the transmit power; not looked at where power_known is 0 */
     uint8_t policy;       /* PAMUKLID_POLICY_... */
@@ -360,7 +361,16 @@ pamuklid_fault pamuklid_fault_of(const uint8_t *image, size_t n);
  * the same; list and verdict may then differ. Reads image[0] to image[n - 1]. */
 pamuklid_tidiness pamuklid_tidy(const uint8_t *image, size_t n);
 
-/* A fresh station: PAMUKLID_POLICY_UNSET, region 2, margin 50, plan off, all else absent. It permits
+/* The calls that take or give a station have other symbols in the library since the station has two margins
+ * (0.11.0), so that what was compiled with an older header, for a station of 32 bytes, does not link: it is
+ * to be compiled again. In a program they have the names that are used below. */
+#define pamuklid_fresh pamuklid_fresh_2
+#define pamuklid_evaluate pamuklid_evaluate_2
+#define pamuklid_unmeasured pamuklid_unmeasured_2
+#define pamuklid_ceiling_of pamuklid_ceiling_of_2
+#define pamuklid_safe_dials pamuklid_safe_dials_2
+
+/* A fresh station: PAMUKLID_POLICY_UNSET, region 2, margins 50 and 50, plan off, all else absent. It permits
  * nothing. A station of zero bytes is not fresh: control, license and sideband 0 are local, Novice and
  * upper. */
 pamuklid_station pamuklid_fresh(void);
@@ -389,7 +399,7 @@ pamuklid_ceiling pamuklid_ceiling_of(pamuklid_station s, uint8_t direction, pamu
                                      const double *rungs, size_t figures, const uint8_t *floors,
                                      size_t floor_count);
 
-/* The dials at which a data signal of these edges stays inside the rules, with the margin to spare, as
+/* The dials at which a data signal of these edges stays inside the rules, with the margins to spare, as
  * rows in the bytes lent, by their lower dial (rows of equal lower dial as the image has them).
  * The station's dial is not asked for. With another policy than PAMUKLID_POLICY_RULES, or where control,
  * license or sideband is absent, the list is empty (count 0, PAMUKLID_ACCEPTED).
@@ -405,7 +415,7 @@ pamuklid_dials pamuklid_safe_dials(pamuklid_station s, uint8_t direction, pamukl
  * flags and channel_band are image[PAMUKLID_IMAGE_FLAGS] and image[PAMUKLID_IMAGE_CHANNEL_BAND] of the list's
  * image; count is the list's. A dial of negative zero reads as zero. Where no row counts, listed is 0 and
  * distance_hz +infinity.
- * For a tidy table whose figures, like edges, margin and dial, are whole eighths of a hertz, distance 0
+ * For a tidy table whose figures, like edges, margins and dial, are whole eighths of a hertz, distance 0
  * says that pamuklid_evaluate allows data at that dial, and anything else that it does not (see README,
  * demand 3, for all that this asks). Rows that no list call wrote: one whose lower dial is not at most its
  * upper, or is no number, does not count.
@@ -450,18 +460,19 @@ pamuklid_text pamuklid_text_hertz(double hz, uint8_t *text, size_t room);
 #define PAMUKLID_SIZE(type, bytes) PAMUKLID_ASSERT(sizeof(type) == (bytes), "size of " #type)
 #define PAMUKLID_AT(type, field, at) PAMUKLID_ASSERT(offsetof(type, field) == (at), "offset of " #type "." #field)
 
-PAMUKLID_SIZE(pamuklid_station, 32);
-PAMUKLID_AT(pamuklid_station, margin_hz, 0);
-PAMUKLID_AT(pamuklid_station, dial_hz, 8);
-PAMUKLID_AT(pamuklid_station, power_w, 16);
-PAMUKLID_AT(pamuklid_station, policy, 24);
-PAMUKLID_AT(pamuklid_station, control, 25);
-PAMUKLID_AT(pamuklid_station, license, 26);
-PAMUKLID_AT(pamuklid_station, sideband, 27);
-PAMUKLID_AT(pamuklid_station, itu_region, 28);
-PAMUKLID_AT(pamuklid_station, band_plan, 29);
-PAMUKLID_AT(pamuklid_station, dial_known, 30);
-PAMUKLID_AT(pamuklid_station, power_known, 31);
+PAMUKLID_SIZE(pamuklid_station, 40);
+PAMUKLID_AT(pamuklid_station, margin_lower_hz, 0);
+PAMUKLID_AT(pamuklid_station, margin_upper_hz, 8);
+PAMUKLID_AT(pamuklid_station, dial_hz, 16);
+PAMUKLID_AT(pamuklid_station, power_w, 24);
+PAMUKLID_AT(pamuklid_station, policy, 32);
+PAMUKLID_AT(pamuklid_station, control, 33);
+PAMUKLID_AT(pamuklid_station, license, 34);
+PAMUKLID_AT(pamuklid_station, sideband, 35);
+PAMUKLID_AT(pamuklid_station, itu_region, 36);
+PAMUKLID_AT(pamuklid_station, band_plan, 37);
+PAMUKLID_AT(pamuklid_station, dial_known, 38);
+PAMUKLID_AT(pamuklid_station, power_known, 39);
 
 PAMUKLID_SIZE(pamuklid_edges, 32);
 PAMUKLID_AT(pamuklid_edges, power_low, 0);

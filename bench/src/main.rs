@@ -105,7 +105,8 @@ fn direction_of(direction: u8) -> Direction {
 
 fn case(dial: f64, license: u8, control: u8, direction: u8, edges: Edges) -> Case {
     let station = Station {
-        margin_hz: 50.0,
+        margin_lower_hz: 50.0,
+        margin_upper_hz: 50.0,
         dial_hz: dial,
         power_w: 100.0,
         policy: 2,

@@ -275,8 +275,12 @@ fn policy(p: &Prepared, s: &Station) -> Policy {
     }
 }
 
+/// The Rust has one margin: it is asked where the two are equal. With the feature `unequal` it has the
+/// second one too (build.rs).
 fn situation(s: &Station) -> rust::Situation {
     use rust::{ControlMode, LicenseClass, Sideband};
+    let margin = expect::margins(s);
+    assert!(cfg!(feature = "unequal") || margin.0 == margin.1, "the Rust has one margin");
     rust::Situation {
         dial_hz: (s.dial_known == 1).then_some(expect::read(s.dial_hz)),
         dial_source: None,
@@ -300,7 +304,9 @@ fn situation(s: &Station) -> rust::Situation {
             _ => None,
         },
         itu_region: s.itu_region,
-        margin_hz: expect::read(s.margin_hz),
+        margin_hz: margin.0,
+        #[cfg(feature = "unequal")]
+        upper_hz: margin.1,
         band_plan: s.band_plan == 1,
         power_w: (s.power_known == 1).then_some(expect::read(s.power_w)),
     }
@@ -376,7 +382,8 @@ fn read(p: &Prepared, s: &Station, kind: u8, d: &rust::Decision) -> Result<Decis
         (out.air_low, out.air_high) = (low, high);
     }
     // from here on, what the Rust says only in words
-    let margin = expect::read(s.margin_hz);
+    let margin = expect::margins(s);
+    let lower = margin.0;
     let watts = (s.power_known == 1).then_some(expect::read(s.power_w));
     let air = (out.air_low, out.air_high);
     let mut notes = Vec::new();
@@ -388,7 +395,7 @@ fn read(p: &Prepared, s: &Station, kind: u8, d: &rust::Decision) -> Result<Decis
                     let band = &table.tables[image::BANDS][i];
                     (out.band_known, out.band) = (1, band.band);
                     format!(
-                        ": it crosses the edge of the {} band ({}), counting {margin:.0} Hz of margin.",
+                        ": it crosses the edge of the {} band ({}), counting {lower:.0} Hz of margin.",
                         band_text(band.band),
                         range(band).khz()
                     )
@@ -424,7 +431,7 @@ fn read(p: &Prepared, s: &Station, kind: u8, d: &rust::Decision) -> Result<Decis
                 (
                     "TX BLOCKED: signal too close to the edge of the FCC data segment".to_owned(),
                     format!(
-                        ": inside the {named} but closer than the {margin:.0} Hz margin to its \
+                        ": inside the {named} but closer than the {lower:.0} Hz margin to its \
                          {edge} edge ({rule})."
                     ),
                 )

@@ -2,10 +2,10 @@
 //! around, or is aimed: one end or both, its middle or its dial on an edge of the table, an eighth
 //! beside it or one unit in the last place.
 
-use crate::draw::{BIG, Rng, nudge, unit};
+use crate::draw::{BIG, Rng, UNEQUAL, nudge, unit};
 use crate::ffi::{Edges, Figures, Station};
 use crate::image::POWER;
-use crate::tables::{Signal, World, some_audio, some_margin, watts};
+use crate::tables::{Signal, World, some_audio, some_margins, watts};
 
 impl World {
     fn target(&self, rng: &mut Rng) -> f64 {
@@ -36,14 +36,20 @@ impl World {
     }
 
     /// Audio edges for a given dial: both ends on targets near it, or one end and a width.
-    fn audio(&self, rng: &mut Rng, dial: f64, margin: f64, sideband: u8) -> (f64, f64) {
-        let m = if rng.chance(75) { margin } else { 0.0 };
+    fn audio(
+        &self,
+        rng: &mut Rng,
+        dial: f64,
+        margin: (f64, f64),
+        sideband: u8,
+    ) -> (f64, f64) {
+        let m = if rng.chance(75) { margin } else { (0.0, 0.0) };
         let (mut x, mut y) = (self.target_near(rng, dial), self.target_near(rng, dial));
         if x > y && rng.chance(90) {
             (x, y) = (y, x);
         }
         let (mut low, mut high) =
-            if sideband == 0 { (x - dial + m, y - dial - m) } else { (dial - y + m, dial - x - m) };
+            if sideband == 0 { (x - dial + m.0, y - dial - m.1) } else { (dial - y + m.1, dial - x - m.0) };
         match rng.below(4) {
             0 => high = low + self.width(rng),
             1 => low = high - self.width(rng),
@@ -62,14 +68,19 @@ impl World {
                 s.dial = nudge(rng, self.scale, s.dial, 50);
                 s.low = nudge(rng, self.scale, s.low, 25);
                 s.high = nudge(rng, self.scale, s.high, 25);
-                s.margin = nudge(rng, self.scale, s.margin, 15);
+                s.margin.0 = nudge(rng, self.scale, s.margin.0, 15);
+                s.margin.1 = if UNEQUAL {
+                    nudge(rng, self.scale, s.margin.1, 15)
+                } else {
+                    s.margin.0
+                };
             }
             return s;
         }
-        let margin = some_margin(rng, self.scale);
+        let margin = some_margins(rng, self.scale);
         let sideband = rng.below(2) as u8;
         // the guarded range on the targets, or the range itself
-        let m = if rng.chance(75) { margin } else { 0.0 };
+        let m = if rng.chance(75) { margin } else { (0.0, 0.0) };
         let near = some_audio(rng, self.scale);
         let mut x = self.target(rng);
         let mut y = if rng.chance(70) { self.target_near(rng, x) } else { self.target(rng) };
@@ -81,17 +92,17 @@ impl World {
         // sideband and its high end on lower
         let (dial, low, high) = match rng.below(10) {
             0..=3 if sideband == 0 => {
-                let dial = x - near + m;
-                (dial, near, y - dial - m)
+                let dial = x - near + m.0;
+                (dial, near, y - dial - m.1)
             }
             0..=3 => {
-                let dial = y + near - m;
-                (dial, near, dial - x - m)
+                let dial = y + near - m.1;
+                (dial, near, dial - x - m.0)
             }
-            4 | 5 if sideband == 0 => (x - near + m, near, near + width),
-            4 | 5 => (y + near - m, near, near + width),
-            6 | 7 if sideband == 0 => (y - near - width - m, near, near + width),
-            6 | 7 => (x + near + width + m, near, near + width),
+            4 | 5 if sideband == 0 => (x - near + m.0, near, near + width),
+            4 | 5 => (y + near - m.1, near, near + width),
+            6 | 7 if sideband == 0 => (y - near - width - m.1, near, near + width),
+            6 | 7 => (x + near + width + m.0, near, near + width),
             8 => (x, near, near + width),
             _ => {
                 let (low, high) = self.audio(rng, x, margin, sideband);
@@ -133,7 +144,8 @@ impl World {
     /// A station record that sends this signal.
     pub fn station(&self, rng: &mut Rng, s: &Signal) -> Station {
         let mut out = Station {
-            margin_hz: s.margin,
+            margin_lower_hz: s.margin.0,
+            margin_upper_hz: s.margin.1,
             dial_hz: s.dial,
             power_w: watts(rng),
             policy: 2,
@@ -172,7 +184,9 @@ impl World {
         if out.power_known == 0 {
             out.power_w = rng.pick(&unread);
         }
-        out.margin_hz = minus_zero(rng, out.margin_hz);
+        out.margin_lower_hz = minus_zero(rng, out.margin_lower_hz);
+        out.margin_upper_hz =
+            if UNEQUAL { minus_zero(rng, out.margin_upper_hz) } else { out.margin_lower_hz };
         out.dial_hz = minus_zero(rng, out.dial_hz);
         out.power_w = minus_zero(rng, out.power_w);
         out

@@ -325,7 +325,7 @@ impl Case {
         let changes: [fn(&mut Station); 5] = [
             |s| (s.power_known, s.power_w) = (0, 0.0),
             |s| s.band_plan = 0,
-            |s| s.margin_hz = 0.0,
+            |s| (s.margin_lower_hz, s.margin_upper_hz) = (0.0, 0.0),
             |s| s.control = 0,
             |s| s.sideband = 0,
         ];

@@ -1,7 +1,7 @@
 //! What is to be refused: damaged images, and stations, edges and rungs outside their values.
 
 use crate::cases::Ladder;
-use crate::draw::{BIG, Rng, nudge, plain};
+use crate::draw::{BIG, Rng, UNEQUAL, nudge, plain};
 use crate::ffi::{Edges, Figures, Station};
 use crate::image::*;
 use crate::tables::{World, whole};
@@ -36,9 +36,19 @@ pub fn spoil_station(rng: &mut Rng, s: &mut Station) {
         4 => s.band_plan = odd_code(rng),
         5 => s.dial_known = odd_code(rng),
         6 => s.power_known = odd_code(rng),
-        7 => s.margin_hz = odd_figure(rng),
+        7 => spoil_margins(rng, s),
         8 => s.dial_hz = odd_figure(rng),
         _ => s.power_w = odd_figure(rng),
+    }
+}
+
+/// Both margins, or, where they may differ, one.
+fn spoil_margins(rng: &mut Rng, s: &mut Station) {
+    let x = odd_figure(rng);
+    match if UNEQUAL { rng.below(3) } else { 2 } {
+        0 => s.margin_lower_hz = x,
+        1 => s.margin_upper_hz = x,
+        _ => (s.margin_lower_hz, s.margin_upper_hz) = (x, x),
     }
 }
 

@@ -274,7 +274,7 @@ fn ends_and_grid(run: &mut Run) {
     let air = (32.199999999999996, 32.6);
     let want = answer(BLOCKED, 13, 13, edges, air).band(1).segment(20.0, 80.0, 13);
     verdict(&mut a, "9: 31.9 is blocked", 31.9, want.too_close(UPPER));
-    a.s.margin_hz = 2.4000000000000004;
+    a.margin(2.4000000000000004);
     // 22.1 is the figure above 22.099999999999998; (22.099999999999998 + 0.3) − m is 20
     list(&mut a, "9: listed from 22.1", &[(20.0, 80.0, 22.1, 76.89999999999999, 1, 13)]);
     let air = (22.4, 22.799999999999997);
@@ -495,11 +495,13 @@ fn brushed(run: &mut Run) {
     let want = answer(BLOCKED, 15, 1, SHORT, air).band(1);
     verdict(&mut a, "20: the privilege comes before", 40.0, want);
     // it holds the signal, 40–43, not the guarded range, 38–45
-    (a.table.tables[PRIVILEGES][0].low, a.s.margin_hz, a.edges) = (40.0, 2.0, (0.0, 3.0));
+    a.margin(2.0);
+    (a.table.tables[PRIVILEGES][0].low, a.edges) = (40.0, (0.0, 3.0));
     let short = (40.0, 43.0);
     let (old, new) = (by_channel(BLOCKED, a.edges, short), by_segment(LEGAL, a.edges, short));
     changed(&mut a, "20: the privilege holds the signal alone", 40.0, old, new);
-    (a.table.tables[PRIVILEGES][0].low, a.s.margin_hz, a.edges) = (0.0, 0.0, SHORT);
+    a.margin(0.0);
+    (a.table.tables[PRIVILEGES][0].low, a.edges) = (0.0, SHORT);
     a.table.flags |= HAS_EMISSIONS;
     (a.table.emissions, a.table.rules[4]) = (2, 11);
     let want = answer(BLOCKED, 22, 11, SHORT, air).band(1);
@@ -620,7 +622,7 @@ fn first_channel(run: &mut Run) {
     let now = answer(LEGAL, 25, 13, SHORT, air).band(1).segment(40.0, 45.0, 13);
     changed(&mut a, "20: the first that holds the range", 40.0, was, now);
     // the guarded range, not the signal
-    a.s.margin_hz = 0.125;
+    a.margin(0.125);
     let now = answer(LEGAL, 25, 15, SHORT, air).band(1).segment(30.0, 80.0, 15);
     changed(&mut a, "20: the guarded range", 40.0, was, now);
 }

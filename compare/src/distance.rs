@@ -123,8 +123,8 @@ pub fn premises(t: &Table, tidy: bool, s: &Station, e: &Edges) -> bool {
         && s.itu_region == t.region
         && [s.control, s.license, s.sideband].iter().all(|&code| code != 255)
         && table_in_eighths(t)
-        && f.into_iter().chain([s.margin_hz]).all(eighths)
-        && high - low + 2.0 * s.margin_hz > 0.0
+        && f.into_iter().chain([s.margin_lower_hz, s.margin_upper_hz]).all(eighths)
+        && high - low + (s.margin_lower_hz + s.margin_upper_hz) > 0.0
 }
 
 fn read(t: &Table, e: &Edges) -> (f64, f64) {
@@ -141,7 +141,7 @@ pub fn dial_premises(t: &Table, s: &Station, e: &Edges, dial: f64) -> bool {
     let (low, high) = read(t, e);
     let (lo, hi) =
         if s.sideband == 0 { (dial + low, dial + high) } else { (dial - high, dial - low) };
-    let (glo, ghi) = (lo - s.margin_hz, hi + s.margin_hz);
+    let (glo, ghi) = (lo - s.margin_lower_hz, hi + s.margin_upper_hz);
     let holds = |b: &Record| b.band == t.channel_band && b.low <= glo && ghi <= b.high;
     eighths(dial)
         && !expect::out_of_size(dial)

@@ -1,5 +1,8 @@
 //! Numbers from a seed, and figures at the borders of what the gate takes.
 
+/// Whether the lower and the upper margin are drawn apart (feature `unequal`); else they are one figure.
+pub const UNEQUAL: bool = cfg!(feature = "unequal");
+
 /// splitmix64.
 pub struct Rng(u64);
 

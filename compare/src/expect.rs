@@ -240,7 +240,8 @@ pub fn station_refusal(s: &Station, direction: u8, kind: u8) -> u8 {
     if !codes_right {
         return 20;
     }
-    if out_of_size(s.margin_hz) {
+    // "a lower and an upper margin instead of one [...] and 21 covers each" (document 02)
+    if out_of_size(s.margin_lower_hz) || out_of_size(s.margin_upper_hz) {
         return 21;
     }
     if s.dial_known == 1 && out_of_size(s.dial_hz) {
@@ -286,10 +287,11 @@ pub fn rows_refused(count: usize, rows_lent_bytes: usize) -> bool {
     count > rows_lent_bytes / 36
 }
 
-/// "A fresh station record now has region 2 and margin 50": document 02. Else it follows
+/// "A fresh station record now has region 2 and margin 50", "50 in each": document 02. Else it follows
 /// `Situation`'s `Default`, which keeps region 0 and margin 0: "plan off, the rest absent".
 pub const FRESH: Station = Station {
-    margin_hz: 50.0,
+    margin_lower_hz: 50.0,
+    margin_upper_hz: 50.0,
     dial_hz: 0.0,
     power_w: 0.0,
     policy: 0,
@@ -309,9 +311,15 @@ fn overlaps(r: &Record, low: f64, high: f64) -> bool {
     r.low <= high && low <= r.high
 }
 
+/// The margins as they are read, lower and upper: "each used at its own side everywhere", "On lower sideband
+/// they still mean the air side." (document 02)
+pub fn margins(s: &Station) -> (f64, f64) {
+    (read(s.margin_lower_hz), read(s.margin_upper_hz))
+}
+
 /// For code 10 the band given is the first that the guarded range touches, if any.
-pub fn touching(table: &Table, (lo, hi): (f64, f64), margin: f64) -> Option<usize> {
-    let (glo, ghi) = (lo - margin, hi + margin);
+pub fn touching(table: &Table, (lo, hi): (f64, f64), (lower, upper): (f64, f64)) -> Option<usize> {
+    let (glo, ghi) = (lo - lower, hi + upper);
     table.tables[BANDS].iter().position(|b| overlaps(b, glo, ghi))
 }
 
@@ -328,8 +336,12 @@ pub struct Overshoot {
 /// (unguarded), first at a tie. The answer is either beyond an edge by a distance or merely too
 /// close to an edge. Above ≥ below names the upper edge." The nearest goes by the sum of both
 /// sides, the distance is the greater side.
-pub fn overshoot(table: &Table, (lo, hi): (f64, f64), margin: f64) -> Option<Overshoot> {
-    let (glo, ghi) = (lo - margin, hi + margin);
+pub fn overshoot(
+    table: &Table,
+    (lo, hi): (f64, f64),
+    (lower, upper): (f64, f64),
+) -> Option<Overshoot> {
+    let (glo, ghi) = (lo - lower, hi + upper);
     let side = |x: f64| if x > 0.0 { x } else { 0.0 };
     let mut best: Option<(f64, Overshoot)> = None;
     for (segment, r) in table.tables[SEGMENTS].iter().enumerate() {
@@ -339,9 +351,8 @@ pub fn overshoot(table: &Table, (lo, hi): (f64, f64), margin: f64) -> Option<Ove
         let (below, above) = (side(r.low - lo), side(hi - r.high));
         let sum = below + above;
         if best.is_none_or(|(least, _)| sum < least) {
-            let upper = above >= below;
-            let by = if upper { above } else { below };
-            best = Some((sum, Overshoot { segment, by, upper }));
+            let by = if above >= below { above } else { below };
+            best = Some((sum, Overshoot { segment, by, upper: above >= below }));
         }
     }
     best.map(|b| b.1)
@@ -356,9 +367,14 @@ pub enum Guidance {
 }
 
 /// "`advise` gets the unguarded range, except in automatic judging, where the margin is taken off
-/// and put back in floats." Taken off the guarded range, that is: (lo − m) + m and (hi + m) − m.
-pub fn advised_range(automatic: bool, (lo, hi): (f64, f64), margin: f64) -> (f64, f64) {
-    if automatic { ((lo - margin) + margin, (hi + margin) - margin) } else { (lo, hi) }
+/// and put back in floats." Taken off the guarded range, that is: (lo − m) + m and (hi + m) − m, each side
+/// by its own.
+pub fn advised_range(
+    automatic: bool,
+    (lo, hi): (f64, f64),
+    (lower, upper): (f64, f64),
+) -> (f64, f64) {
+    if automatic { ((lo - lower) + lower, (hi + upper) - upper) } else { (lo, hi) }
 }
 
 /// The power records whose note is given: those that touch the range, are meant for the class, and

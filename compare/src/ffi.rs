@@ -122,13 +122,18 @@ impl Parts for Decision {
 
 /// A station's record, part by part.
 pub trait StationParts {
-    fn floats(&self) -> [(&'static str, f64); 3];
+    fn floats(&self) -> [(&'static str, f64); 4];
     fn bytes(&self) -> [(&'static str, u8); 8];
 }
 
 impl StationParts for Station {
-    fn floats(&self) -> [(&'static str, f64); 3] {
-        [("margin_hz", self.margin_hz), ("dial_hz", self.dial_hz), ("power_w", self.power_w)]
+    fn floats(&self) -> [(&'static str, f64); 4] {
+        [
+            ("margin_lower_hz", self.margin_lower_hz),
+            ("margin_upper_hz", self.margin_upper_hz),
+            ("dial_hz", self.dial_hz),
+            ("power_w", self.power_w),
+        ]
     }
 
     fn bytes(&self) -> [(&'static str, u8); 8] {

@@ -94,6 +94,11 @@ impl Asked<'_> {
         Edges::of([low, high, low, high])
     }
 
+    /// The same on both sides.
+    pub fn margin(&mut self, hz: f64) {
+        (self.s.margin_lower_hz, self.s.margin_upper_hz) = (hz, hz);
+    }
+
     pub fn verdict(&mut self, dial: f64) -> Decision {
         self.judged(dial).0
     }
@@ -162,7 +167,8 @@ pub fn asked(
     edges: (f64, f64),
 ) -> Asked<'_> {
     let s = Station {
-        margin_hz: margin,
+        margin_lower_hz: margin,
+        margin_upper_hz: margin,
         policy: 2,
         control: 0,
         license,

@@ -594,7 +594,8 @@ fn run_all(run: &mut Run, wanted: &Wanted) {
         }
         if long {
             let s = Station {
-                margin_hz: 0.0,
+                margin_lower_hz: 0.0,
+                margin_upper_hz: 0.0,
                 policy: 2,
                 control: 2,
                 license: 4,

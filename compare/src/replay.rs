@@ -26,7 +26,7 @@
 //!           table, u16 record
 //!         7 text, on a last page without an image: u8 which (0 at, 1 khz, 2 hertz), f64 figure, u8 bytes
 //!           lent; u8 refusal, u8 length, the text's bytes
-//!     STATION   f64 margin, dial, power; u8 policy, control, license, sideband, itu_region,
+//!     STATION   f64 margin (the lower and the upper), dial, power; u8 policy, control, license, sideband, itu_region,
 //!               band_plan, dial_known, power_known (32 bytes)
 //!     EDGES     f64 power low, power high, spectral low, spectral high (32 bytes)
 //!     DECISION  f64 segment_low, segment_high, automatic_low, automatic_high, audio_low,
@@ -84,7 +84,9 @@ impl List {
 }
 
 fn station(out: &mut Vec<u8>, s: &Station) {
-    for (_, x) in s.floats() {
+    let [(_, lower), (_, upper), (_, dial), (_, power)] = s.floats();
+    assert_eq!(lower.to_bits(), upper.to_bits(), "a replayed case has one margin");
+    for x in [lower, dial, power] {
         out.extend(x.to_bits().to_le_bytes());
     }
     out.extend(s.bytes().map(|b| b.1));
@@ -474,7 +476,8 @@ fn on_practice(run: &mut Run, list: &mut List) {
     let p = run.image(&image);
     let mut page = Page::new(&image, &p);
     let s = Station {
-        margin_hz: 50.0,
+        margin_lower_hz: 50.0,
+        margin_upper_hz: 50.0,
         dial_hz: 14_098_000.0,
         policy: 2,
         control: 2,
@@ -515,7 +518,8 @@ fn brushed(run: &mut Run, list: &mut List) {
         t.tables[CHANNELS] = centres.map(fixed::centre).to_vec();
     }
     let s = Station {
-        margin_hz: 0.0,
+        margin_lower_hz: 0.0,
+        margin_upper_hz: 0.0,
         policy: 2,
         control: 0,
         license: 4,

@@ -52,7 +52,7 @@ fn channel(t: &Table, r: &Record) -> Span {
     Span { low: r.low - t.width / 2.0, high: r.low + t.width / 2.0 }
 }
 
-/// A signal: the audio edges that the table reads, on the air, and with the margin.
+/// A signal: the audio edges that the table reads, on the air, and with the margins.
 struct Sent {
     audio: Span,
     air: Span,
@@ -67,12 +67,12 @@ fn sent(t: &Table, s: &Station, e: &Edges) -> Sent {
         1 => Span { low, high },
         _ => Span { low: power_low.min(low), high: power_high.max(high) },
     };
-    let (dial, margin) = (expect::read(s.dial_hz), expect::read(s.margin_hz));
+    let (dial, (lower, upper)) = (expect::read(s.dial_hz), expect::margins(s));
     let air = match s.sideband {
         0 => Span { low: dial + audio.low, high: dial + audio.high },
         _ => Span { low: dial - audio.high, high: dial - audio.low },
     };
-    Sent { audio, air, guarded: Span { low: air.low - margin, high: air.high + margin } }
+    Sent { audio, air, guarded: Span { low: air.low - lower, high: air.high + upper } }
 }
 
 /// Whether a signal comes to the choice between channel and segment: Rules in force, nothing asked of the

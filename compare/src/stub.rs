@@ -53,12 +53,12 @@ extern "C" fn pamuklid_tidy(image: *const u8, n: usize) -> Tidiness {
 }
 
 #[unsafe(no_mangle)]
-extern "C" fn pamuklid_fresh() -> Station {
+extern "C" fn pamuklid_fresh_2() -> Station {
     expect::FRESH
 }
 
 #[unsafe(no_mangle)]
-extern "C" fn pamuklid_evaluate(
+extern "C" fn pamuklid_evaluate_2(
     s: Station,
     kind: u8,
     direction: u8,
@@ -71,13 +71,13 @@ extern "C" fn pamuklid_evaluate(
 }
 
 #[unsafe(no_mangle)]
-extern "C" fn pamuklid_unmeasured(s: Station, image: *const u8, n: usize) -> Decision {
+extern "C" fn pamuklid_unmeasured_2(s: Station, image: *const u8, n: usize) -> Decision {
     let p = prepared(unsafe { slice(image, n) });
     adapter::unmeasured(&p, &s).expect("the Rust's words")
 }
 
 #[unsafe(no_mangle)]
-extern "C" fn pamuklid_ceiling_of(
+extern "C" fn pamuklid_ceiling_of_2(
     s: Station,
     direction: u8,
     ordinary: Edges,
@@ -102,7 +102,7 @@ extern "C" fn pamuklid_ceiling_of(
 }
 
 #[unsafe(no_mangle)]
-extern "C" fn pamuklid_safe_dials(
+extern "C" fn pamuklid_safe_dials_2(
     s: Station,
     direction: u8,
     e: Edges,

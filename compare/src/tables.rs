@@ -2,16 +2,16 @@
 //! ranges touch, overlap and repeat; most are built around one signal, with edges on its own edges,
 //! on its guarded ones, and one unit in the last place beside them.
 
-use crate::draw::{BIG, Rng, Scale, nudge, plain, point, unit};
+use crate::draw::{BIG, Rng, Scale, UNEQUAL, nudge, plain, point, unit};
 use crate::image::*;
 
-/// A signal: what a station with this dial, sideband and margin sends.
+/// A signal: what a station with this dial, sideband and margins, lower and upper, sends.
 #[derive(Clone, Copy, Debug)]
 pub struct Signal {
     pub dial: f64,
     pub low: f64,
     pub high: f64,
-    pub margin: f64,
+    pub margin: (f64, f64),
     pub sideband: u8,
 }
 
@@ -65,7 +65,7 @@ pub fn whole(pool: &[f64]) -> (f64, f64) {
     (low, high)
 }
 
-pub fn some_margin(rng: &mut Rng, scale: Scale) -> f64 {
+fn some_margin(rng: &mut Rng, scale: Scale) -> f64 {
     let u = unit(rng, scale);
     match rng.below(10) {
         0..=2 => 0.0,
@@ -78,6 +78,12 @@ pub fn some_margin(rng: &mut Rng, scale: Scale) -> f64 {
         .abs(),
         _ => rng.pick(&[50.0, 1.0, 0.1, 2.4000000000000004, 0.3]),
     }
+}
+
+/// Lower and upper: the same where the Rust is asked.
+pub fn some_margins(rng: &mut Rng, scale: Scale) -> (f64, f64) {
+    let lower = some_margin(rng, scale);
+    (lower, if UNEQUAL { some_margin(rng, scale) } else { lower })
 }
 
 pub fn some_audio(rng: &mut Rng, scale: Scale) -> f64 {
@@ -104,7 +110,7 @@ fn base_signal(rng: &mut Rng, scale: Scale) -> Signal {
         dial: point(rng, scale),
         low,
         high,
-        margin: some_margin(rng, scale),
+        margin: some_margins(rng, scale),
         sideband: rng.below(2) as u8,
     }
 }
@@ -115,9 +121,9 @@ fn small_table(rng: &mut Rng, scale: Scale, base: Option<Signal>, class: u8) -> 
     let mut lengths = Vec::new();
     if let Some(s) = base {
         let (lo, hi) = s.air();
-        let (glo, ghi) = (lo - s.margin, hi + s.margin);
+        let (glo, ghi) = (lo - s.margin.0, hi + s.margin.1);
         pool.extend([glo, ghi]);
-        for x in [lo, hi, glo + s.margin, ghi - s.margin, s.dial] {
+        for x in [lo, hi, glo + s.margin.0, ghi - s.margin.1, s.dial] {
             if rng.chance(50) {
                 pool.push(x);
             }
@@ -127,7 +133,7 @@ fn small_table(rng: &mut Rng, scale: Scale, base: Option<Signal>, class: u8) -> 
             pool.push(nudge(rng, scale, x, 100));
         }
         let w = s.high - s.low;
-        lengths.extend([w, w, w.next_down(), w + 2.0 * s.margin]);
+        lengths.extend([w, w, w.next_down(), w + (s.margin.0 + s.margin.1)]);
         let far = unit(rng, scale) * (1 + rng.below(200)) as f64;
         pool.push(glo.min(ghi) - far);
         pool.push(glo.max(ghi) + far);
@@ -361,7 +367,7 @@ fn channels(
     };
     if let Some(s) = base {
         let (lo, hi) = s.air();
-        let (glo, ghi) = (lo - s.margin, hi + s.margin);
+        let (glo, ghi) = (lo - s.margin.0, hi + s.margin.1);
         if rng.chance(50) {
             t.width = plain(2.0 * (centre - glo).max(ghi - centre));
         }
@@ -627,7 +633,7 @@ pub fn brush(rng: &mut Rng) -> World {
     let class = rng.below(5) as u8;
     let mut t = small_table(rng, scale, Some(base), class);
     let (lo, hi) = base.air();
-    let (glo, ghi) = (lo - base.margin, hi + base.margin);
+    let (glo, ghi) = (lo - base.margin.0, hi + base.margin.1);
     let (low, high) = (glo.min(ghi), glo.max(ghi));
     let u = unit(rng, scale);
     let far = u * (4 + rng.below(60)) as f64;

@@ -21,7 +21,8 @@ static pamuklid_station station_at(double dial, uint8_t control, double power)
     s.license = PAMUKLID_LICENSE_GENERAL;
     s.sideband = PAMUKLID_SIDEBAND_UPPER;
     s.itu_region = 2;
-    s.margin_hz = 50;
+    s.margin_lower_hz = 50;
+    s.margin_upper_hz = 50;
     s.band_plan = 0;
     s.dial_hz = dial;
     s.dial_known = 1;

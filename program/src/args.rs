@@ -60,8 +60,13 @@ fn not_below_nought(text: &str, what: &str) -> Result<f64, String> {
     }
 }
 
-fn margin(text: &str) -> Result<f64, String> {
-    not_below_nought(text, "a margin")
+/// One figure for both sides, or `LOWER/UPPER`. A comma would not do: 50,100 is a number.
+fn margin(text: &str) -> Result<[f64; 2], String> {
+    let of = |text| not_below_nought(text, "a margin");
+    match text.split_once('/') {
+        Some((lower, upper)) => Ok([of(lower)?, of(upper)?]),
+        None => of(text).map(|both| [both, both]),
+    }
 }
 
 fn power(text: &str) -> Result<Maybe<f64>, String> {
@@ -104,9 +109,9 @@ pub struct StationArgs {
     #[arg(long, value_name = "WORD", value_parser = named(Sideband::NAMES, Sideband::from_name))]
     pub sideband: Option<Maybe<Sideband>>,
 
-    /// Hertz that are kept free on each side of the signal [default: 50]
+    /// Hertz that are kept free on each side of the signal on the air, or below and above it: 50, 40/60 [default: 50]
     #[arg(long, value_name = "HZ", value_parser = margin, allow_negative_numbers = true)]
-    pub margin: Option<f64>,
+    pub margin: Option<[f64; 2]>,
 }
 
 /// What of the station the verdict alone asks for.
@@ -189,7 +194,8 @@ pub const PRACTICE_STATION: Station = Station {
     license: Some(License::General),
     sideband: Some(Sideband::Upper),
     itu_region: 2,
-    margin_hz: 50.0,
+    margin_lower_hz: 50.0,
+    margin_upper_hz: 50.0,
     dial_hz: None,
     power_w: None,
     band_plan: false,
@@ -236,7 +242,7 @@ impl Asked {
             None => assumed.push(("--sideband", "upper")),
         }
         match station.margin {
-            Some(margin) => of.margin_hz = margin,
+            Some([lower, upper]) => (of.margin_lower_hz, of.margin_upper_hz) = (lower, upper),
             None => assumed.push(("--margin", "50")),
         }
         let dial = verdict.and_then(|verdict| verdict.dial.as_ref()).and_then(|dial| dial.0.as_ref());

@@ -93,7 +93,8 @@ struct StationJson {
     license: Option<&'static str>,
     sideband: Option<&'static str>,
     dial_hz: Option<f64>,
-    margin_hz: f64,
+    margin_lower_hz: f64,
+    margin_upper_hz: f64,
     power_w: Option<f64>,
     band_plan: bool,
 }
@@ -107,7 +108,8 @@ impl StationJson {
             license: s.license.map(|x| x.name()),
             sideband: s.sideband.map(|x| x.name()),
             dial_hz: s.dial_hz,
-            margin_hz: s.margin_hz,
+            margin_lower_hz: s.margin_lower_hz,
+            margin_upper_hz: s.margin_upper_hz,
             power_w: s.power_w,
             band_plan: s.band_plan,
         }

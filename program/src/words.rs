@@ -38,6 +38,11 @@ fn or_unknown<T: ToString>(what: &str, part: Option<T>) -> String {
     part.map_or_else(|| format!("{what} not known"), |part| part.to_string())
 }
 
+/// The lower and the upper one.
+fn margins(s: &Station) -> (f64, f64) {
+    (s.margin_lower_hz, s.margin_upper_hz)
+}
+
 fn station(s: &Station, with_dial: bool) -> String {
     let mut parts = vec![
         format!("region {}", s.itu_region),
@@ -48,7 +53,10 @@ fn station(s: &Station, with_dial: bool) -> String {
     if with_dial {
         parts.push(s.dial_hz.map_or_else(|| "dial not known".to_owned(), |dial| format!("dial {}", Kilohertz(dial))));
     }
-    parts.push(format!("margin {}", Hertz(s.margin_hz)));
+    parts.push(match margins(s) {
+        (lower, upper) if lower == upper => format!("margin {}", Hertz(lower)),
+        (lower, upper) => format!("margins {} below and {} above", Hertz(lower), Hertz(upper)),
+    });
     if with_dial {
         parts.extend(s.power_w.map(|watts| format!("{watts} W")));
         parts.extend(s.band_plan.then(|| "with the band plan".to_owned()));
@@ -124,15 +132,18 @@ pub fn reason(d: &Decision) -> String {
     format!("{} (code {}, {})", d.reason(), d.code.number(), d.code.name())
 }
 
-fn overshoot(d: &Decision, margin_hz: f64) -> Option<String> {
+fn overshoot(d: &Decision, s: &Station) -> Option<String> {
     match d.overshoot {
         Overshoot::NoOvershoot => None,
         Overshoot::TooClose { .. } => standing(d).map(|(lower, upper)| {
+            let kept = match margins(s) {
+                (below, above) if below == above => format!("margin of {}", Hertz(below)),
+                (below, above) => format!("margins, {} below and {} above", Hertz(below), Hertz(above)),
+            };
             format!(
-                "It lies inside the segment, {} from its lower edge and {} from its upper edge: closer than the margin of {}.",
+                "It lies inside the segment, {} from its lower edge and {} from its upper edge: closer than the {kept}.",
                 Hertz(lower),
-                Hertz(upper),
-                Hertz(margin_hz)
+                Hertz(upper)
             )
         }),
         beyond => Some(sentence(&beyond.to_string())),
@@ -157,10 +168,10 @@ pub fn remedy(d: &Decision) -> Option<&'static str> {
 }
 
 /// A verdict, why, what to do, and what it rests on.
-pub fn decision(d: &Decision, margin_hz: f64, style: Style) -> String {
+pub fn decision(d: &Decision, s: &Station, style: Style) -> String {
     let mut out = format!("{}: {}.\n", verdict_word(d.verdict, style), reason(d));
     let mut add = |text: String| out.push_str(&(text + "\n"));
-    overshoot(d, margin_hz).map(&mut add);
+    overshoot(d, s).map(&mut add);
     if !d.power.is_empty() {
         add(sentence(&d.power.to_string()));
     }
@@ -242,7 +253,7 @@ pub fn refusal(
 /// Why, by the program's own measure where it is that.
 pub fn refusal_reason(refusal: Refusal) -> &'static str {
     match refusal {
-        Refusal::StationFigure => "the dial, the margin or the power is above 2^40 (1099511627776) in size",
+        Refusal::StationFigure => "the dial, a margin or the power is above 2^40 (1099511627776) in size",
         Refusal::Rungs => "there are more than 256 rungs",
         Refusal::Rows => "the dial list has more than the 10,000 rows that there is room for",
         _ => refusal.reason(),

@@ -15,9 +15,9 @@ a patch is written `times` times, at offset, offset + stride, ..., later patches
 Its stdout: "<case> check <C> tidy <T> fault <F>", C 0 or the refusal, T 0 untidy, 1 tidy,
 100 + refusal, F 0 nowhere, 1 the general block, "2 <table> <record>".
 
-run_station's stdin: u16 cases; each 35 bytes: u8 policy, control, license, sideband, region, plan
-mark, dial presence, power presence, direction, kind; u64 bits of margin, dial, power; u8 image
-flag (0: an image of length 0, 1: an accepted image). Its stdout: see `station_line`.
+run_station's stdin: u16 cases; each 43 bytes: u8 policy, control, license, sideband, region, plan
+mark, dial presence, power presence, direction, kind; u64 bits of lower margin, upper margin, dial,
+power; u8 image flag (0: an image of length 0, 1: an accepted image). Its stdout: see `station_line`.
 """
 
 import os
@@ -1354,12 +1354,13 @@ def random_damage():
 # ---------------------------------------------------------------------------------------------
 # Station cases
 
-STATION_CASES = []                               # (name, 35 bytes, line)
+STATION_CASES = []                               # (name, 43 bytes, line)
+FIGURES = ["lower", "upper", "dial", "power"]
 CODES = ["policy", "control", "license", "sideband", "region", "plan", "dial_here", "power_here",
          "direction", "kind"]
 ORDINARY = dict(policy=2, control=0, license=2, sideband=0, region=2, plan=0, dial_here=1,
-                power_here=1, direction=0, kind=0, margin=50.0, dial=14100000.0, power=100.0,
-                image=1)
+                power_here=1, direction=0, kind=0, lower=50.0, upper=50.0, dial=14100000.0,
+                power=100.0, image=1)
 
 
 def to_bits(value):
@@ -1374,23 +1375,26 @@ def station_line(case):
     """The program's line, without the number."""
     record_part = dict((k, case[k]) for k in ("policy", "control", "license", "sideband", "region",
                                               "plan", "dial_here", "power_here"))
-    for k in ("margin", "dial", "power"):
+    for k in FIGURES:
         record_part[k] = to_bits(case[k])
     refusal, read = reference.read_station(record_part, case["direction"], case["kind"],
                                            len(PRACTICE) if case["image"] else 0)
     if refusal:
         return "refused %d" % refusal
     return ("policy %d control %d license %d sideband %d region %d plan %d dial %s power %s "
-            "margin %s direction %d kind %d"
+            "lower %s upper %s direction %d kind %d"
             % (read["policy"], read["control"], read["license"], read["sideband"], read["region"],
                read["plan"], hex_or_absent(read["dial"]), hex_or_absent(read["power"]),
-               hex_or_absent(read["margin"]), read["direction"], read["kind"]))
+               hex_or_absent(read["lower"]), hex_or_absent(read["upper"]), read["direction"],
+               read["kind"]))
 
 
 def station(name, hand, **changes):
     """`hand` is the expectation: a refusal's number, the pieces of the line that must be there
-    (read; [] for none in particular), or None."""
+    (read; [] for none in particular), or None. A `margin` is both."""
     case = dict(ORDINARY)
+    if "margin" in changes:
+        changes["lower"] = changes["upper"] = changes.pop("margin")
     case.update(changes)
     line = station_line(case)
     if isinstance(hand, int):
@@ -1400,19 +1404,27 @@ def station(name, hand, **changes):
         if line.startswith("refused") or not all(piece in line + " " for piece in hand):
             raise SystemExit("station, %s: by hand %s, reference %s" % (name, hand, line))
     code = bytes(case[k] for k in CODES)
-    code += struct.pack("<QQQ", *(to_bits(case[k]) for k in ("margin", "dial", "power")))
+    code += struct.pack("<QQQQ", *(to_bits(case[k]) for k in FIGURES))
     code += bytes([case["image"]])
-    assert len(code) == 35
+    assert len(code) == 43
     STATION_CASES.append((name, code, line))
+
+
+def read_as(figure, bits):
+    """The piece of a line that has the figure; "margin" is both."""
+    if figure == "margin":
+        return "lower %016x upper %016x " % (bits, bits)
+    return "%s %016x " % (figure, bits)
 
 
 def station_cases():
     station("an ordinary station",
             ["policy 2 control 0 license 2 sideband 0 region 2 plan 0 dial 416ae4c400000000 "
-             "power 4059000000000000 margin 4049000000000000 direction 0 kind 0 "])
+             "power 4059000000000000 lower 4049000000000000 upper 4049000000000000 "
+             "direction 0 kind 0 "])
     station("the fresh record",
             ["policy 0 control 255 license 255 sideband 255 region 2 plan 0 dial absent "
-             "power absent margin 4049000000000000 direction 0 kind 0 "],
+             "power absent lower 4049000000000000 upper 4049000000000000 direction 0 kind 0 "],
             policy=0, control=255, license=255, sideband=255, region=2, plan=0, dial_here=0,
             power_here=0, margin=0x4049000000000000, dial=0, power=0, image=0)
     station("a record of zero bytes isn't fresh",
@@ -1469,9 +1481,8 @@ def station_cases():
         for what, bits in bad:
             station("%s %s" % (figure, what), 21, **{figure: bits})
         for what, bits in good:
-            station("%s %s" % (figure, what), ["%s %016x " % (figure, bits)], **{figure: bits})
-        station("%s negative zero" % figure, ["%s 0000000000000000 " % figure],
-                **{figure: NEG_ZERO})
+            station("%s %s" % (figure, what), [read_as(figure, bits)], **{figure: bits})
+        station("%s negative zero" % figure, [read_as(figure, 0)], **{figure: NEG_ZERO})
     for figure in ("dial", "power"):
         for what, bits in bad + good[:2] + [("negative zero", NEG_ZERO)]:
             station("%s absent, its figure %s" % (figure, what), ["%s absent " % figure],
@@ -1485,10 +1496,10 @@ def station_cases():
     station("power absent and a NaN, dial a NaN", 21, dial=QUIET_NAN, power=QUIET_NAN, power_here=0)
     station("dial and power absent, margin a NaN", 21, margin=QUIET_NAN, dial_here=0, power_here=0)
     station("all figures negative zero",
-            ["dial 0000000000000000 power 0000000000000000 margin 0000000000000000 "],
+            ["dial 0000000000000000 power 0000000000000000 " + read_as("margin", 0)],
             margin=NEG_ZERO, dial=NEG_ZERO, power=NEG_ZERO)
     station("all figures 2^40", ["dial 4270000000000000 power 4270000000000000 "
-                                 "margin 4270000000000000 "], margin=TWO40, dial=TWO40, power=TWO40)
+                                 + read_as("margin", TWO40)], margin=TWO40, dial=TWO40, power=TWO40)
     station("all figures just too great", 21, margin=ABOVE, dial=ABOVE, power=ABOVE)
 
     # Two refusals at once.
@@ -1510,12 +1521,14 @@ def station_cases():
     # Every place with a value of its own, so that no two can be exchanged.
     station("all values different",
             ["policy 3 control 2 license 4 sideband 1 region 77 plan 1 dial 4037000000000000 "
-             "power 4049000000000000 margin c018000000000000 direction 1 kind 3 "],
+             "power 4049000000000000 lower c018000000000000 upper c018000000000000 "
+             "direction 1 kind 3 "],
             policy=3, control=2, license=4, sideband=1, region=77, plan=1, dial=23.0, power=50.0,
             margin=-6.0, direction=1, kind=3)
     station("all values different again",
             ["policy 2 control 1 license 3 sideband 255 region 254 plan 0 dial absent "
-             "power 3fc0000000000000 margin 3fb999999999999a direction 2 kind 1 "],
+             "power 3fc0000000000000 lower 3fb999999999999a upper 3fb999999999999a "
+             "direction 2 kind 1 "],
             policy=2, control=1, license=3, sideband=255, region=254, plan=0, dial_here=0,
             dial=9.0, power=0.125, margin=0.1, direction=2, kind=1)
 
@@ -1535,7 +1548,7 @@ def station_cases():
         station("random station %d" % k, None, **changes)
     station("the fresh record with region 0 and margin 0 passed",
             ["policy 0 control 255 license 255 sideband 255 region 0 plan 0 dial absent "
-             "power absent margin 0000000000000000 direction 0 kind 0 "],
+             "power absent lower 0000000000000000 upper 0000000000000000 direction 0 kind 0 "],
             policy=0, control=255, license=255, sideband=255, region=0, plan=0, dial_here=0,
             power_here=0, margin=0, dial=0, power=0, image=0)
 
@@ -1556,6 +1569,37 @@ def station_cases():
         for figure in ("margin", "dial", "power"):
             changes[figure] = figures[dice.below(len(figures))]
         station("random station %d with direction 3" % k, None, **changes)
+
+    # "The station record has a lower and an upper margin instead of one": "21 covers each", each reads
+    # by itself, and each may be negative.
+    for side, other in (("lower", "upper"), ("upper", "lower")):
+        for what, bits in bad:
+            station("%s margin %s" % (side, what), 21, **{side: bits})
+        for what, bits in good:
+            station("%s margin %s" % (side, what), [read_as(side, bits), read_as(other, to_bits(50.0))],
+                    **{side: bits})
+        station("%s margin negative zero" % side, [read_as(side, 0), read_as(other, to_bits(50.0))],
+                **{side: NEG_ZERO})
+        station("%s margin 2^40, %s just too great" % (side, other), 21, **{side: TWO40, other: ABOVE})
+        station("%s margin a NaN, dial and power absent" % side, 21, dial_here=0, power_here=0,
+                **{side: QUIET_NAN})
+        station("20 and 21 (%s margin)" % side, 20, kind=4, **{side: INFINITY})
+        station("21 (%s margin) and 22" % side, 21, image=0, **{side: SIGNAL_NAN})
+        for policy in range(4):
+            station("policy %d, %s margin just too great" % (policy, side), 21, policy=policy, image=0,
+                    **{side: ABOVE})
+    station("all values different, margins too",
+            ["policy 3 control 2 license 4 sideband 1 region 77 plan 1 dial 4037000000000000 "
+             "power 4049000000000000 lower c018000000000000 upper 401c000000000000 "
+             "direction 1 kind 3 "],
+            policy=3, control=2, license=4, sideband=1, region=77, plan=1, dial=23.0, power=50.0,
+            lower=-6.0, upper=7.0, direction=1, kind=3)
+    drawn["direction"] = (0, 1, 2, 3)
+    for k in range(24):
+        changes = dict((code, drawn[code][dice.below(len(drawn[code]))]) for code in CODES)
+        for figure in FIGURES:
+            changes[figure] = figures[dice.below(len(figures))]
+        station("random station %d with two margins" % k, None, **changes)
 
 
 # ---------------------------------------------------------------------------------------------

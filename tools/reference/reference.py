@@ -498,11 +498,12 @@ ABSENT = 255
 
 
 def fresh_station():
-    """"A fresh station record now has region 2 and margin 50" (document 02). Else it follows
-    `Situation`'s `Default`: "plan off, the rest absent". DECISION: the policy is part of the
+    """"A fresh station record now has region 2 and margin 50"; "A fresh record has 50 in each"
+    (document 02). Else it follows `Situation`'s `Default`: "plan off, the rest absent". DECISION: the policy is part of the
     record; the fresh one is "0 unset"."""
     return {"policy": 0, "control": ABSENT, "license": ABSENT, "sideband": ABSENT, "region": 2,
-            "plan": 0, "dial_here": 0, "power_here": 0, "margin": 50, "dial": 0, "power": 0}
+            "plan": 0, "dial_here": 0, "power_here": 0, "lower": 50, "upper": 50, "dial": 0,
+            "power": 0}
 
 
 def station_codes_right(station, direction, kind):
@@ -528,8 +529,9 @@ def station_codes_right(station, direction, kind):
 
 def station_figures_right(station):
     """"21 a station figure not finite or above 2^40 in size"; "at 0 the figure isn't looked
-    at"."""
-    return (in_size(station["margin"])
+    at"; "a lower and an upper margin instead of one [...] and 21 covers each" (document 02)."""
+    return (in_size(station["lower"])
+            and in_size(station["upper"])
             and (station["dial_here"] == 0 or in_size(station["dial"]))
             and (station["power_here"] == 0 or in_size(station["power"])))
 
@@ -553,7 +555,8 @@ def read_station(station, direction, kind, image_length):
     if station["policy"] == 2 and image_length == 0:
         return 22, None
     read = dict(station)
-    read["margin"] = as_read(station["margin"])
+    read["lower"] = as_read(station["lower"])
+    read["upper"] = as_read(station["upper"])
     read["dial"] = as_read(station["dial"]) if station["dial_here"] == 1 else None
     read["power"] = as_read(station["power"]) if station["power_here"] == 1 else None
     read["direction"] = direction

@@ -5,6 +5,12 @@ use profile::Range;
 ghost use mathlib.Core.Path.{_≡_};
 ghost use Rattle.air.specs.Air.{rfRangeOf, guardedOf, unguardedOf, widthOf, dialEndsOf, dialRangeOf};
 
+// What a range on the air is widened by, hertz: below it and above it. Either may be negative.
+pub struct Margins {
+    pub lower_hz: f64,
+    pub upper_hz: f64,
+}
+
 // The dials that put a signal inside a range, if any does.
 pub enum DialRange {
     Dials(Range),
@@ -27,23 +33,23 @@ pub fn rf_range(dial_hz: f64, sideband: Sideband, audio: Range) -> Range
     }
 }
 
-// A range widened by the margin: what has to fit.
-pub fn guarded(margin_hz: f64, r: Range) -> Range
-    ensures { λ g. ⌜ g ≡ guardedOf «margin_hz» r ⌝ }
+// A range widened by the margins, each on its side: what has to fit.
+pub fn guarded(margin: Margins, r: Range) -> Range
+    ensures { λ g. ⌜ g ≡ guardedOf margin r ⌝ }
 {
     Range {
-        low_hz: r.low_hz - margin_hz,
-        high_hz: r.high_hz + margin_hz,
+        low_hz: r.low_hz - margin.lower_hz,
+        high_hz: r.high_hz + margin.upper_hz,
     }
 }
 
-// A guarded range with the margin taken off again.
-pub fn unguarded(margin_hz: f64, r: Range) -> Range
-    ensures { λ g. ⌜ g ≡ unguardedOf «margin_hz» r ⌝ }
+// A guarded range with the margins taken off again.
+pub fn unguarded(margin: Margins, r: Range) -> Range
+    ensures { λ g. ⌜ g ≡ unguardedOf margin r ⌝ }
 {
     Range {
-        low_hz: r.low_hz + margin_hz,
-        high_hz: r.high_hz - margin_hz,
+        low_hz: r.low_hz + margin.lower_hz,
+        high_hz: r.high_hz - margin.upper_hz,
     }
 }
 
@@ -55,26 +61,26 @@ pub fn width(audio: Range) -> f64
 }
 
 // The lowest and the highest dial for a piece, in whatever order they stand.
-pub fn dial_ends(piece: Range, sideband: Sideband, audio: Range, margin_hz: f64) -> Range
-    ensures { λ r. ⌜ r ≡ dialEndsOf piece sideband audio «margin_hz» ⌝ }
+pub fn dial_ends(piece: Range, sideband: Sideband, audio: Range, margin: Margins) -> Range
+    ensures { λ r. ⌜ r ≡ dialEndsOf piece sideband audio margin ⌝ }
 {
     match sideband {
         Sideband::Usb => Range {
-            low_hz: piece.low_hz - audio.low_hz + margin_hz,
-            high_hz: piece.high_hz - audio.high_hz - margin_hz,
+            low_hz: piece.low_hz - audio.low_hz + margin.lower_hz,
+            high_hz: piece.high_hz - audio.high_hz - margin.upper_hz,
         },
         Sideband::Lsb => Range {
-            low_hz: piece.low_hz + audio.high_hz + margin_hz,
-            high_hz: piece.high_hz + audio.low_hz - margin_hz,
+            low_hz: piece.low_hz + audio.high_hz + margin.lower_hz,
+            high_hz: piece.high_hz + audio.low_hz - margin.upper_hz,
         },
     }
 }
 
-// The dial range that puts an audio range inside a piece with the margin to spare on each side, if any does.
-pub fn dial_range(piece: Range, sideband: Sideband, audio: Range, margin_hz: f64) -> DialRange
-    ensures { λ r. ⌜ r ≡ dialRangeOf piece sideband audio «margin_hz» ⌝ }
+// The dial range that puts an audio range inside a piece with each margin to spare on its side, if any does.
+pub fn dial_range(piece: Range, sideband: Sideband, audio: Range, margin: Margins) -> DialRange
+    ensures { λ r. ⌜ r ≡ dialRangeOf piece sideband audio margin ⌝ }
 {
-    let ends = dial_ends(piece, sideband, audio, margin_hz);
+    let ends = dial_ends(piece, sideband, audio, margin);
     if ends.low_hz <= ends.high_hz {
         DialRange::Dials(ends)
     } else {

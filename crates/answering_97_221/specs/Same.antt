@@ -346,7 +346,7 @@ module _ (table : Table) (s : Situation) (e : Edges) where
         sideband = sideband;
         audio = audio;
         «width_hz» = widthOf audio;
-        «margin_hz» = s .«margin_hz»;
+        margin = s .margin;
         automatic = appliesOf control Originate;
         «elsewhere_ok» = ok;
         «data» = dataOf (table .general);

@@ -11,9 +11,10 @@ use Rattle.codes.specs.declared.Sideband.the-variants.{Usb, Lsb}
 use Rattle.profile.specs.Range.{lengthy}
 use Rattle.profile.specs.declared.Range.{Range}
 use Rattle.air.specs.Air.{rfRangeOf, guardedOf, dialEndsOf}
+use Rattle.air.specs.declared.Margins.{Margins}
 use Rattle.eighths.specs.Grid.{Figure, Eighths, plusEighths, minusEighths}
 use Rattle.eighths.specs.Laws.{zero-eighths, add-eighths, le-eighths}
-use Rattle.exact.specs.Air.{guarded-usb-low, guarded-usb-high, guarded-lsb-low, guarded-lsb-high}
+use Rattle.exact.specs.Air.{MarginFigures, guarded-usb-low, guarded-usb-high, guarded-lsb-low, guarded-lsb-high}
 use Rattle.exact.specs.Air.{width, dial-usb-low, dial-usb-high, dial-lsb-low, dial-lsb-high}
 use Rattle.demand_3.specs.Words.{guardedWidth}
 use Rattle.demand_3.specs.Order.{grid, lt-true, lt-of, Ends, Figures}
@@ -35,7 +36,7 @@ pub record RowEnd (x : Float) : Type 0 where
 row-end : {x : Float} {p q : ℕ} → Eighths x p q → p ≤ 3 * 2 ^ 43 → q ≤ 3 * 2 ^ 43 → RowEnd x
 row-end {x} {p} {q} E h k = record { above = p; below = q; eighths = E; above-le = h; below-le = k }
 
-module _ (dial margin : Float) (audio : Range) (D : Figure dial) (M : Figure margin) (A : Figures audio) where
+module _ (dial : Float) (margin : Margins) (audio : Range) (D : Figure dial) (M : MarginFigures margin) (A : Figures audio) where
   abbrev guarded : Sideband → Range
   guarded sideband = guardedOf margin (rfRangeOf dial sideband audio)
 
@@ -59,12 +60,12 @@ module _ (dial margin : Float) (audio : Range) (D : Figure dial) (M : Figure mar
       }
 
   wide :
-      Eighths (guardedWidth audio margin) (plusEighths high + minusEighths low + (plusEighths margin + plusEighths margin))
-      (minusEighths high + plusEighths low + (minusEighths margin + minusEighths margin))
+      Eighths (guardedWidth audio margin)
+      (plusEighths high + minusEighths low + (plusEighths (margin .«lower_hz») + plusEighths (margin .«upper_hz»)))
+      (minusEighths high + plusEighths low + (minusEighths (margin .«lower_hz») + minusEighths (margin .«upper_hz»)))
   unfolding guardedWidth
   wide =
-      add-eighths (width low low low high margin (A .low) (A .low) (A .low) (A .high) M)
-      (add-eighths (M .eighths) (M .eighths) (omega arith)) (omega arith)
+      add-eighths (width low high (A .low) (A .high)) (add-eighths (M .lower .eighths) (M .upper .eighths) (omega arith)) (omega arith)
 
   -- A positive guarded width: the guarded signal has a positive length.
   pub guarded-lengthy : (sideband : Sideband) → lt zeroHz (guardedWidth audio margin) ≡ true → lengthy (guarded sideband) ≡ true
@@ -102,7 +103,7 @@ module _ (dial margin : Float) (audio : Range) (D : Figure dial) (M : Figure mar
         (guarded-lsb-high dial low high margin D (A .low) (A .high) M) (P .high .eighths) (omega arith) (omega arith)
 
 -- both ends of a row are sums of three figures
-module _ (piece audio : Range) (margin : Float) (P : Figures piece) (A : Figures audio) (M : Figure margin) where
+module _ (piece audio : Range) (margin : Margins) (P : Figures piece) (A : Figures audio) (M : MarginFigures margin) where
   pub end-low : (sideband : Sideband) → RowEnd (dialEndsOf piece sideband audio margin .«low_hz»)
   end-low Usb =
       row-end (dial-usb-low (piece .«low_hz») (piece .«high_hz») (audio .«low_hz») (audio .«high_hz») margin (P .low) (P .high) (A .low) (A .high) M)

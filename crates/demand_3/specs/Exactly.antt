@@ -39,6 +39,7 @@ use Rattle.verdict.specs.Verdict.{caseOf, underRulesOf}
 use Rattle.verdict.specs.Laws.{ready-met, under-met}
 use Rattle.distance.specs.Distance.{isOutside}
 use Rattle.eighths.specs.Grid.{Figure}
+use Rattle.exact.specs.Air.{MarginFigures}
 use Rattle.demand_3.specs.Words.{hasControl, hasLicense, hasSideband, hasDial, prerequisitesMet, positiveWidth}
 use Rattle.demand_3.specs.Words.{channelBandHolds, channelsHold, onChannelBand, tableMet, allows}
 use Rattle.demand_3.specs.Tests.{and-both, same}
@@ -53,7 +54,7 @@ use Rattle.demand_3.specs.Grounds.{spans, tidied-of, comparable}
 -- the rows for a station and an audio range, before they are sorted
 abbrev pub rowsKnown : Table → Situation → Direction → Range → Sideband → LicenseClass → ControlMode → List SafeDial
 rowsKnown table s direction audio sideband class control =
-    rowsOf table (requestOf (table .general) class sideband control direction (s .«margin_hz») audio)
+    rowsOf table (requestOf (table .general) class sideband control direction (s .margin) audio)
 
 abbrev pub rowsFor : Table → Situation → Direction → Range → List SafeDial
 rowsFor table s direction audio =
@@ -108,7 +109,7 @@ prerequisites table s e = go (s .control) (s .license) (s .sideband) refl refl r
 
 module _ (table : Table) (s : Situation) (direction : Direction) (audio : Range) (dial : Float) (P : Prerequisites table s) where
   abbrev pub requested : Request
-  requested = requestOf (table .general) (P .class) (P .sideband) (P .control) direction (s .«margin_hz») audio
+  requested = requestOf (table .general) (P .class) (P .sideband) (P .control) direction (s .margin) audio
 
   abbrev pub judgedCase : Case
   judgedCase = caseOf s (P .control) (P .class) (P .sideband) dial Data direction audio
@@ -144,10 +145,10 @@ module _ (table : Table) (s : Situation) (direction : Direction) (audio : Range)
   off-channels off b found = go (bitOf (table .general .flags) 2) (eqb (bandAt table b .band) (table .general .«channel_band»)) refl refl
     where
       signal : Range
-      signal = guardedOf (s .«margin_hz») (rfRangeOf dial (P .sideband) audio)
+      signal = guardedOf (s .margin) (rfRangeOf dial (P .sideband) audio)
 
       not-held : channelBandHolds table signal ≡ false
-      not-held = sym (ap (channelsHold table audio (s .«margin_hz») dial) (P .has-sideband)) ∙ off
+      not-held = sym (ap (channelsHold table audio (s .margin) dial) (P .has-sideband)) ∙ off
 
       go :
           (x y : Bool) → bitOf (table .general .flags) 2 ≡ x → eqb (bandAt table b .band) (table .general .«channel_band») ≡ y → not (x && y) ≡ true
@@ -164,12 +165,12 @@ module _ (table : Table) (s : Situation) (direction : Direction) (audio : Range)
       go false y p n = refl
 
   module _
-      (T : tableMet table ≡ true) (D : Figure dial) (M : Figure (s .«margin_hz»)) (A : Figures audio) (W : positiveWidth s audio ≡ true)
+      (T : tableMet table ≡ true) (D : Figure dial) (M : MarginFigures (s .margin)) (A : Figures audio) (W : positiveWidth s audio ≡ true)
       (off : onChannelBand table s audio dial ≡ false)
     where
       long : lengthy (guardedAt requested dial) ≡ true
       unfolding requestOf positiveWidth
-      long = guarded-lengthy dial (s .«margin_hz») audio D M A (P .sideband) W
+      long = guarded-lengthy dial (s .margin) audio D M A (P .sideband) W
 
       limit-compares : Comparable (elsewhereOf (table .general)) (judgedCase .width)
       unfolding caseOf
@@ -192,11 +193,11 @@ module _ (table : Table) (s : Situation) (direction : Direction) (audio : Range)
           (judged-of table judgedCase limit-compares (off-channels off) kind-data h)))
           ∙ ap allows (sym ruling)
 
--- For a tidy table in force, in eighths, a station with its prerequisites, a positive guarded width, and a dial off the channel band; margin,
+-- For a tidy table in force, in eighths, a station with its prerequisites, a positive guarded width, and a dial off the channel band; margins,
 -- audio range and dial are in eighths and at most 2^40 in size.
 pub listed-exactly :
     (table : Table) (s : Situation) (direction : Direction) (audio : Range) (dial : Float)
-    → tableMet table ≡ true → prerequisitesMet table s ≡ true → Figure (s .«margin_hz») → Figures audio → Figure dial
+    → tableMet table ≡ true → prerequisitesMet table s ≡ true → MarginFigures (s .margin) → Figures audio → Figure dial
     → positiveWidth s audio ≡ true → onChannelBand table s audio dial ≡ false
     → listedAt table s direction audio dial ≡ allowedAt table s direction audio dial
 listed-exactly table s direction audio dial T P M A D W off = exactly table s direction audio dial (prerequisites table s P) T D M A W off

@@ -17,6 +17,8 @@ use Rattle.layout.specs.Layout.{wattsAt, tablesFrom, recordsBefore, recordAt, g
 use Rattle.coded.specs.Coded.{codedOf, codedGeneral}
 use Rattle.find.specs.Question.{asks, soundBits, soundRecord}
 use Rattle.profile.specs.Range.{range}
+use Rattle.air.specs.Air.{margins}
+use Rattle.air.specs.declared.Margins.{Margins}
 use Rattle.image.specs.Check.{codedBlock, miscoded, soundBlock, unsound, bare, unlimited, checkOf}
 use Rattle.table.specs.Table.{recordIn, tableOf}
 use Rattle.tidy.specs.Tidy.{twoShare, tidyTable}
@@ -125,8 +127,8 @@ beside =
     block 10 10 2 1 4 2
     ++ (band ++ (entry 200 300 2 0 0 ++ (segment ++ (entry 290 0 0 0 0 ++ (everywhere ++ trailer 2 1 1 0 224)))))
 
--- Rules, Extra, no dial; by control (0 local, 2 automatic), sideband (0 upper, 1 lower) and margin
-abbrev station : ℕ → ℕ → Float → StationRecord
+-- Rules, Extra, no dial; by control (0 local, 2 automatic), sideband (0 upper, 1 lower) and margins
+abbrev station : ℕ → ℕ → Margins → StationRecord
 station control sideband margin =
     record {
       policy = 2;
@@ -137,14 +139,18 @@ station control sideband margin =
       «band_plan» = 0;
       «dial_known» = 0;
       «power_known» = 0;
-      «margin_hz» = margin;
+      margin = margin;
       «dial_hz» = zeroHz;
       «power_w» = zeroHz;
     }
 
+-- no margin
+abbrev unguarded : Margins
+unguarded = margins zeroHz zeroHz
+
 -- local, on the upper sideband, with no margin
 abbrev usual : StationRecord
-usual = station 0 0 zeroHz
+usual = station 0 0 unguarded
 
 abbrev edges : Float → Float → Edges
 edges low high = record { power = range low high; spectral = range low high }
@@ -248,22 +254,22 @@ unfolding opened
 none = record { premises-are = refl; fitted = refl; distance-is = refl; verdict-is = refl }
 
 -- an automatic station, its row cut to the automatic segment, 40–55: the dial 50 is in it
-automatic-nought : Outcome (station 2 0 zeroHz) narrow automatic (hz 50) 1 all (Hertz zeroHz) true
+automatic-nought : Outcome (station 2 0 unguarded) narrow automatic (hz 50) 1 all (Hertz zeroHz) true
 unfolding opened
 automatic-nought = record { premises-are = refl; fitted = refl; distance-is = refl; verdict-is = refl }
 
 -- the dial 30, where a local station may send, is 10 below it
-automatic-away : Outcome (station 2 0 zeroHz) narrow automatic (hz 30) 1 all (Hertz (hz 10)) false
+automatic-away : Outcome (station 2 0 unguarded) narrow automatic (hz 30) 1 all (Hertz (hz 10)) false
 unfolding opened
 automatic-away = record { premises-are = refl; fitted = refl; distance-is = refl; verdict-is = refl }
 
 -- the lower sideband, with the row 25–80: the dial 78 is in it
-lower-nought : Outcome (station 0 1 zeroHz) narrow plain (hz 78) 1 all (Hertz zeroHz) true
+lower-nought : Outcome (station 0 1 unguarded) narrow plain (hz 78) 1 all (Hertz zeroHz) true
 unfolding opened
 lower-nought = record { premises-are = refl; fitted = refl; distance-is = refl; verdict-is = refl }
 
 -- the dial 22, where the upper sideband may send, is 3 below it
-lower-away : Outcome (station 0 1 zeroHz) narrow plain (hz 22) 1 all (Hertz (hz 3)) false
+lower-away : Outcome (station 0 1 unguarded) narrow plain (hz 22) 1 all (Hertz (hz 3)) false
 unfolding opened
 lower-away = record { premises-are = refl; fitted = refl; distance-is = refl; verdict-is = refl }
 
@@ -284,9 +290,9 @@ without-tidy : Outcome usual narrow untidy (hz 30) 1 (true ∷ false ∷ replica
 unfolding opened
 without-tidy = record { premises-are = refl; fitted = refl; distance-is = refl; verdict-is = refl }
 
--- without eighths: margin 12.200000000000001, edges 0.3–0.7, dial 31.9 is listed and blocked
+-- without eighths: margins 12.200000000000001, edges 0.3–0.7, dial 31.9 is listed and blocked
 without-eighths :
-    Outcome (station 0 0 (ofBits binary64 0x4028666666666667)) (edges (ofBits binary64 0x3fd3333333333333) (ofBits binary64 0x3fe6666666666666)) broad
+    Outcome (station 0 0 (margins (ofBits binary64 0x4028666666666667) (ofBits binary64 0x4028666666666667))) (edges (ofBits binary64 0x3fd3333333333333) (ofBits binary64 0x3fe6666666666666)) broad
     (ofBits binary64 0x403fe66666666666) 1 (replicate 5 true ++ (false ∷ true ∷ false ∷ replicate 3 true)) (Hertz zeroHz) false
 unfolding opened
 without-eighths = record { premises-are = refl; fitted = refl; distance-is = refl; verdict-is = refl }

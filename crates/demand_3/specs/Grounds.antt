@@ -23,7 +23,7 @@ use Rattle.occupancy.specs.declared.Reading.the-variants.{Power, Spectral, Wide
 use Rattle.air.specs.Air.{widthOf}
 use Rattle.scan.specs.First.{some}
 use Rattle.scan.specs.Laws.{some-false, and-true}
-use Rattle.station.specs.Station.{underRules, figureValid, figuresValid, figureRead, stationTests, situationOf}
+use Rattle.station.specs.Station.{underRules, marginsValid, figureValid, figuresValid, marginsRead, figureRead, stationTests, situationOf}
 use Rattle.station.specs.declared.Figure.the-variants.{Known, Absent}
 use Rattle.station.specs.declared.StationRecord.{StationRecord}
 use Rattle.layout.specs.Form.{formTests}
@@ -41,9 +41,9 @@ use Rattle.tidy.specs.Tidy.{tidyTable, tidinessOf, tidyOf}
 use Rattle.tidy.specs.declared.Tidiness.the-variants.{Tidy}
 use Rattle.eighths.specs.Grid.{Figure, Eighths, inEighths}
 use Rattle.eighths.specs.Laws.{eighths-of, zero-eighths, neg-eighths, eq-eighths, figure-of}
-use Rattle.exact.specs.Air.{width}
+use Rattle.exact.specs.Air.{MarginFigures, width}
 use Rattle.demand_3.specs.Words.{recordInEighths, blockInEighths, offGridAt, offGridIn, tableInEighths, rangeInEighths}
-use Rattle.demand_3.specs.Words.{edgesInEighths, dialInEighths, stationInEighths, accepted, rulesInForce, unrefused, tableMet}
+use Rattle.demand_3.specs.Words.{edgesInEighths, dialInEighths, marginsInEighths, stationInEighths, accepted, rulesInForce, unrefused, tableMet}
 use Rattle.demand_3.specs.Tests.{all-three, and-both}
 use Rattle.demand_3.specs.Order.{Grid, grid, le-true, le-of, lt-true, lt-false, le-by-lt, by-max, by-min, figure-grid, Figures}
 use Rattle.demand_3.specs.Listed.{Spans}
@@ -162,9 +162,7 @@ module _ (table : Table) (T : tableMet table ≡ true) where
   comparable audio A =
       comparable-if (widthOf audio) (bitOf (table .general .flags) 0) _
       (le-by-lt
-      (grid
-      (width (audio .«low_hz») (audio .«low_hz») (audio .«low_hz») (audio .«high_hz») (audio .«low_hz») (A .low) (A .low) (A .low) (A .high) (A .low)))
-      (figure-grid elsewhere-figure))
+      (grid (width (audio .«low_hz») (audio .«high_hz») (A .low) (A .high))) (figure-grid elsewhere-figure))
 
 -- A table that the tidy call finds tidy.
 tidy-of : (c : Checked) (b : Bool) → tidinessOf c b ≡ Tidy → (c ≡ Accepted) × (b ≡ true)
@@ -193,22 +191,27 @@ under-rules r e = go (eqb (r .policy) 0) (eqb (r .policy) 1) (eqb (r .policy) 2)
 -- a station record that a call does not refuse
 module _ (r : StationRecord) (beside : Bool) (l : List ℕ) (ok : refusalOf (entryTests r beside l) ≡ Accepted) where
   pub figures-valid :
-      (inSize limit40 (r .«margin_hz») ≡ true) × (figureValid (r .«dial_known») (r .«dial_hz») ≡ true)
+      (marginsValid (r .margin) ≡ true) × (figureValid (r .«dial_known») (r .«dial_hz») ≡ true)
       × (figureValid (r .«power_known») (r .«power_w») ≡ true)
   unfolding figuresValid
   figures-valid =
-      all-three (inSize limit40 (r .«margin_hz»)) (figureValid (r .«dial_known») (r .«dial_hz»)) (figureValid (r .«power_known») (r .«power_w»))
+      all-three (marginsValid (r .margin)) (figureValid (r .«dial_known») (r .«dial_hz»)) (figureValid (r .«power_known») (r .«power_w»))
       (not-false (figuresValid r)
       (none-fails (stationTests r beside l) (refusal-both (stationTests r beside l) (imageTests r l) ok .0) .1 .0))
 
   module _ (on : stationInEighths (situationOf r) ≡ true) where
-    grids : (inEighths (readHz (r .«margin_hz»)) ≡ true) × (dialInEighths (figureRead (r .«dial_known») (r .«dial_hz»)) ≡ true)
+    grids : (marginsInEighths (marginsRead (r .margin)) ≡ true) × (dialInEighths (figureRead (r .«dial_known») (r .«dial_hz»)) ≡ true)
     unfolding stationInEighths situationOf
-    grids = and-true (inEighths (readHz (r .«margin_hz»))) (dialInEighths (figureRead (r .«dial_known») (r .«dial_hz»))) on
+    grids = and-true (marginsInEighths (marginsRead (r .margin))) (dialInEighths (figureRead (r .«dial_known») (r .«dial_hz»))) on
 
-    pub margin-figure : Figure (situationOf r .«margin_hz»)
+    pub margin-figures : MarginFigures (situationOf r .margin)
     unfolding situationOf
-    margin-figure = figure-read (r .«margin_hz») (grids .0) (figures-valid .0)
+    margin-figures =
+        let lower = r .margin .«lower_hz» in
+        let upper = r .margin .«upper_hz» in
+        let on = and-true (inEighths (readHz lower)) (inEighths (readHz upper)) (grids .0) in
+        let size = and-true (inSize limit40 lower) (inSize limit40 upper) (figures-valid .0) in
+        record { lower = figure-read lower (on .0) (size .0); upper = figure-read upper (on .1) (size .1) }
 
     pub dial-figure : (x : Float) → situationOf r .dial ≡ Known x → Figure x
     unfolding situationOf

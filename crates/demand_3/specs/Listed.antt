@@ -31,6 +31,7 @@ use Rattle.dial_rows.specs.Dials.{dialRows, pieceRows, onShared, automaticRowsA
 use Rattle.dial_rows.specs.Dials.{privilegeRowsAt, privilegesRows, tooWide, excludedBand, segmentRows, segmentRowsAt, dataRows}
 use Rattle.dial_rows.specs.declared.Request.{Request}
 use Rattle.distance.specs.Distance.{isOutside, counts}
+use Rattle.exact.specs.Air.{MarginFigures}
 use Rattle.demand_3.specs.Order.{Grid, grid, le-trans, Ends, Figures, ends, held, held-low, held-high}
 use Rattle.demand_3.specs.Order.{common-holds, holds-common, share, common-figures, figure-grid}
 use Rattle.demand_3.specs.Dial.{RowEnd, guarded-ends, dial-low, dial-high, end-low, end-high}
@@ -66,7 +67,7 @@ pub record Spans (table : Table) : Type 0 where
 
 -- the guarded signal at a dial
 abbrev pub guardedAt : Request → Float → Range
-guardedAt q dial = guardedOf (q .«margin_hz») (rfRangeOf dial (q .sideband) (q .audio))
+guardedAt q dial = guardedOf (q .margin) (rfRangeOf dial (q .sideband) (q .audio))
 
 -- the tests of one row, all passed
 all-yes : {o b m n : Bool} → o ≡ true → b ≡ true → m ≡ true → n ≡ true → (((o && b) && (m && n)) || false) ≡ true
@@ -81,10 +82,10 @@ all-of o b m n e =
 row-end-grid : {x : Float} → RowEnd x → Grid x
 row-end-grid R = grid (R .eighths)
 
-module _ (flags channel : ℕ) (q : Request) (dial : Float) (D : Figure dial) (M : Figure (q .«margin_hz»)) (A : Figures (q .audio)) where
+module _ (flags channel : ℕ) (q : Request) (dial : Float) (D : Figure dial) (M : MarginFigures (q .margin)) (A : Figures (q .audio)) where
   module _ (band rule : ℕ) (piece : Range) (P : Figures piece) where
     abbrev dials : Range
-    dials = dialEndsOf piece (q .sideband) (q .audio) (q .«margin_hz»)
+    dials = dialEndsOf piece (q .sideband) (q .audio) (q .margin)
 
     abbrev low : Bool
     low = le (dials .«low_hz») dial
@@ -93,15 +94,15 @@ module _ (flags channel : ℕ) (q : Request) (dial : Float) (D : Figure dial) (M
     high = le dial (dials .«high_hz»)
 
     low-as : low ≡ le (piece .«low_hz») (guardedAt q dial .«low_hz»)
-    low-as = dial-low dial (q .«margin_hz») (q .audio) D M A piece P (q .sideband)
+    low-as = dial-low dial (q .margin) (q .audio) D M A piece P (q .sideband)
 
     high-as : high ≡ le (guardedAt q dial .«high_hz») (piece .«high_hz»)
-    high-as = dial-high dial (q .«margin_hz») (q .audio) D M A piece P (q .sideband)
+    high-as = dial-high dial (q .margin) (q .audio) D M A piece P (q .sideband)
 
     between : low ≡ true → high ≡ true → le (dials .«low_hz») (dials .«high_hz») ≡ true
     between h k =
-        le-trans (row-end-grid (end-low piece (q .audio) (q .«margin_hz») P A M (q .sideband))) (figure-grid D)
-        (row-end-grid (end-high piece (q .audio) (q .«margin_hz») P A M (q .sideband))) h k
+        le-trans (row-end-grid (end-low piece (q .audio) (q .margin) P A M (q .sideband))) (figure-grid D)
+        (row-end-grid (end-high piece (q .audio) (q .margin) P A M (q .sideband))) h k
 
     -- A piece that holds the guarded signal has a row, and the dial lies in it.
     pub piece-in :
@@ -139,7 +140,7 @@ module _ (flags channel : ℕ) (q : Request) (dial : Float) (D : Figure dial) (M
     signal = guardedAt q dial
 
     signal-ends : Ends signal
-    signal-ends = guarded-ends dial (q .«margin_hz») (q .audio) D M A (q .sideband)
+    signal-ends = guarded-ends dial (q .margin) (q .audio) D M A (q .sideband)
 
     -- a range that two ranges share, both of which hold the signal
     shared-in :

@@ -26,6 +26,7 @@ use Rattle.dial_rows.specs.Dials.{privilegesRows, tooWide, excludedBand, segmen
 use Rattle.dial_rows.specs.Dials.{channelRow, channelRowsAt, channelRows, channelsOpen, channelFound, openRows, bandRows, rowsOf}
 use Rattle.dial_rows.specs.declared.Request.{Request}
 use Rattle.distance.specs.Distance.{isOutside}
+use Rattle.exact.specs.Air.{MarginFigures}
 use Rattle.demand_3.specs.Order.{Figures, common-figures}
 use Rattle.demand_3.specs.Dial.{RowEnd, end-low, end-high}
 use Rattle.demand_3.specs.Listed.{lies, Spans}
@@ -92,19 +93,19 @@ pub record RowEnds (x : SafeDial) : Type 0 where
 abbrev pub OutsideEnds : ℕ → ℕ → SafeDial → Type 0
 OutsideEnds flags channel x = isOutside flags channel (x .band) ≡ true → RowEnds x
 
-module _ (table : Table) (q : Request) (S : Spans table) (M : Figure (q .«margin_hz»)) (A : Figures (q .audio)) where
+module _ (table : Table) (q : Request) (S : Spans table) (M : MarginFigures (q .margin)) (A : Figures (q .audio)) where
   piece-ends : (band rule : ℕ) (piece : Range) → Figures piece → Every RowEnds (pieceRows q band rule piece)
   unfolding pieceRows
   piece-ends band rule piece P = go (le (dials .«low_hz») (dials .«high_hz»))
     where
       dials : Range
-      dials = dialEndsOf piece (q .sideband) (q .audio) (q .«margin_hz»)
+      dials = dialEndsOf piece (q .sideband) (q .audio) (q .margin)
 
       go : (b : Bool) → Every RowEnds (dialRows band rule piece (cond b (Dials dials) NoDial))
       go true = (
         record {
-          low = end-low piece (q .audio) (q .«margin_hz») P A M (q .sideband);
-          high = end-high piece (q .audio) (q .«margin_hz») P A M (q .sideband);
+          low = end-low piece (q .audio) (q .margin) P A M (q .sideband);
+          high = end-high piece (q .audio) (q .margin) P A M (q .sideband);
         },
         tt,
       )

@@ -33,6 +33,7 @@ use Rattle.part97.specs.declared.Privileged.the-variants.{Granted, Forbidden, U
 use Rattle.distance.specs.Distance.{isOutside}
 use Rattle.eighths.specs.Grid.{Figure}
 use Rattle.rows.specs.Order.{or-left, or-right}
+use Rattle.exact.specs.Air.{MarginFigures}
 use Rattle.demand_3.specs.Tests.{all-three, and-both}
 use Rattle.demand_3.specs.Order.{Ends, Figures, ends, holds-trans, share}
 use Rattle.demand_3.specs.Dial.{guarded-ends}
@@ -153,7 +154,7 @@ or-other true b e f = refl
 or-other false b e f = absurd (true≢false (sym e ∙ f))
 
 module _
-    (table : Table) (q : Request) (c : Case) (dial : Float) (D : Figure dial) (M : Figure (q .«margin_hz»)) (A : Figures (q .audio)) (S : Spans table)
+    (table : Table) (q : Request) (c : Case) (dial : Float) (D : Figure dial) (M : MarginFigures (q .margin)) (A : Figures (q .audio)) (S : Spans table)
     (long : lengthy (guardedAt q dial) ≡ true) (T : Tidied table) (m : Match table q c dial) (off : OffChannels table c)
   where
     abbrev flags : ℕ
@@ -166,7 +167,7 @@ module _
     signal = guardedAt q dial
 
     G : Ends signal
-    G = guarded-ends dial (q .«margin_hz») (q .audio) D M A (q .sideband)
+    G = guarded-ends dial (q .margin) (q .audio) D M A (q .sideband)
 
     abbrev InList : Type 0
     InList = Lawful flags channel q dial D M A table S long

@@ -47,6 +47,7 @@ use Rattle.verdict.specs.Verdict.{underRulesOf, decideOf, besideValid, edgeTest
 use Rattle.distance.specs.Distance.{leastUpTo, distanceOf}
 use Rattle.distance.specs.declared.Distance.the-variants.{NoneListed}
 use Rattle.eighths.specs.Grid.{Figure}
+use Rattle.exact.specs.Air.{MarginFigures}
 use Rattle.demand_3.specs.Words.{edgesInEighths, stationInEighths, tuned, audioOf, rulesInForce, prerequisitesMet, positiveWidth, onChannelBand}
 use Rattle.demand_3.specs.Words.{stationMet, signalMet, verdictAt, sent, allows, distanceAt, nought, answers, NoneOutside, Premises, Demand3}
 use Rattle.demand_3.specs.Tests.{all-three}
@@ -55,7 +56,7 @@ use Rattle.demand_3.specs.Listed.{lies}
 use Rattle.demand_3.specs.Rows.{OutsideEnds, rows-ends}
 use Rattle.demand_3.specs.Nearest.{least-none, least-answers}
 use Rattle.demand_3.specs.Read.{sorted-nought}
-use Rattle.demand_3.specs.Grounds.{spans, under-rules, figures-valid, margin-figure, dial-figure, audio-figures}
+use Rattle.demand_3.specs.Grounds.{spans, under-rules, figures-valid, margin-figures, dial-figure, audio-figures}
 use Rattle.demand_3.specs.Exactly.{rowsFor, Prerequisites, prerequisites, requested, rows-are, listed-exactly}
 
 -- ---- what the calls' answers say of their tests
@@ -154,8 +155,8 @@ module _
     unfolding situationOf tuned
     D = dial-figure (tuned r dial) (besideValid 0 direction) l entered (station .2) (readHz dial) refl
 
-    M : Figure (there .«margin_hz»)
-    M = margin-figure (tuned r dial) (besideValid 0 direction) l entered (station .2)
+    M : MarginFigures (there .margin)
+    M = margin-figures (tuned r dial) (besideValid 0 direction) l entered (station .2)
 
     A : Figures audio
     A = audio-figures e (readingOf (generalOf l)) edges-valid (signal .0)

@@ -22,6 +22,7 @@ use Rattle.profile.specs.declared.Range.{Range}
 use Rattle.occupancy.specs.Edges.{rangeOf}
 use Rattle.occupancy.specs.declared.Edges.{Edges}
 use Rattle.air.specs.Air.{rfRangeOf, guardedOf, widthOf}
+use Rattle.air.specs.declared.Margins.{Margins}
 use Rattle.scan.specs.First.{some}
 use Rattle.station.specs.Station.{situationOf}
 use Rattle.station.specs.declared.Figure.{Figure}
@@ -84,8 +85,11 @@ abbrev pub dialInEighths : Figure → Bool
 dialInEighths (Known x) = inEighths x
 dialInEighths Absent = true
 
+abbrev pub marginsInEighths : Margins → Bool
+marginsInEighths m = inEighths (m .«lower_hz») && inEighths (m .«upper_hz»)
+
 unfoldable pub stationInEighths : Situation → Bool
-stationInEighths s = inEighths (s .«margin_hz») && dialInEighths (s .dial)
+stationInEighths s = marginsInEighths (s .margin) && dialInEighths (s .dial)
 
 -- ---- the station record at the dial asked: "only the dial may differ"
 
@@ -100,7 +104,7 @@ tuned r dial =
       «band_plan» = r .«band_plan»;
       «dial_known» = 1;
       «power_known» = r .«power_known»;
-      «margin_hz» = r .«margin_hz»;
+      margin = r .margin;
       «dial_hz» = dial;
       «power_w» = r .«power_w»;
     }
@@ -146,13 +150,13 @@ prerequisitesMet table s =
     eqb (s .«itu_region») (table .general .region)
     && (hasControl (s .control) && (hasLicense (s .license) && (hasSideband (s .sideband) && hasDial (s .dial))))
 
--- ---- the guarded width: "the width, high less low of the edges read, plus twice the margin"
+-- ---- the guarded width: "the width, high less low of the edges read", "A positive guarded width is now width plus both."
 
-unfoldable pub guardedWidth : Range → Float → Float
-guardedWidth audio margin = add binary64 (widthOf audio) (add binary64 margin margin)
+unfoldable pub guardedWidth : Range → Margins → Float
+guardedWidth audio margin = add binary64 (widthOf audio) (add binary64 (margin .«lower_hz») (margin .«upper_hz»))
 
 unfoldable pub positiveWidth : Situation → Range → Bool
-positiveWidth s audio = lt zeroHz (guardedWidth audio (s .«margin_hz»))
+positiveWidth s audio = lt zeroHz (guardedWidth audio (s .margin))
 
 -- ---- the channel band: "every band of byte 43's number, none if flag bit 2 is clear. It holds a range if one of its bands does."
 
@@ -160,12 +164,12 @@ unfoldable pub channelBandHolds : Table → Range → Bool
 channelBandHolds table r = bitOf (table .general .flags) 2 && someIn table bands (BandHolds (table .general .«channel_band») r)
 
 -- it holds the guarded range of the signal at a dial, on the station's sideband
-abbrev pub channelsHold : Table → Range → Float → Float → SidebandSet → Bool
+abbrev pub channelsHold : Table → Range → Margins → Float → SidebandSet → Bool
 channelsHold table audio margin dial (SidebandIs sideband) = channelBandHolds table (guardedOf margin (rfRangeOf dial sideband audio))
 channelsHold table audio margin dial NoSideband = false
 
 unfoldable pub onChannelBand : Table → Situation → Range → Float → Bool
-onChannelBand table s audio dial = channelsHold table audio (s .«margin_hz») dial (s .sideband)
+onChannelBand table s audio dial = channelsHold table audio (s .margin) dial (s .sideband)
 
 -- ---- "a tidy table in force, all hertz figures in eighths, prerequisites met, a positive guarded width": what of it is on the table, on the
 -- station and on the signal, station and edges as they are read
@@ -174,7 +178,7 @@ onChannelBand table s audio dial = channelsHold table audio (s .«margin_hz») d
 unfoldable pub tableMet : Table → Bool
 tableMet table = unrefused table && (tidyTable table && tableInEighths table)
 
--- Rules in force, prerequisites met, margin and dial in eighths
+-- Rules in force, prerequisites met, margins and dial in eighths
 unfoldable pub stationMet : Table → Situation → Bool
 stationMet table s = rulesInForce s && (prerequisitesMet table s && stationInEighths s)
 

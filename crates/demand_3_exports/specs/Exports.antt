@@ -39,7 +39,8 @@ use Rattle.flat.specs.declared.FlatDistance.{FlatDistance}
 unfoldable pub tunedFlat : FlatStation → Float → FlatStation
 tunedFlat s dial =
     record {
-      «margin_hz» = s .«margin_hz»;
+      «margin_lower_hz» = s .«margin_lower_hz»;
+      «margin_upper_hz» = s .«margin_upper_hz»;
       «dial_hz» = dial;
       «power_w» = s .«power_w»;
       policy = s .policy;

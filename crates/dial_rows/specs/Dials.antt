@@ -1,5 +1,5 @@
 -- The rows of a dial list, before they are sorted, from an accepted table: segment by segment, privilege by privilege, under 97.221(b)
--- automatic segment by automatic segment, and then the 60 m channels. The margin enters through the guarded range and the dial range.
+-- automatic segment by automatic segment, and then the 60 m channels. The margins enter through the guarded range and the dial range.
 use Prim.Native.Nat.{ℕ}
 use mathlib.Core.Bool.{Bool, true, false, not, cond, _&&_, _||_}
 use mathlib.Core.List.{List, [], _∷_, _++_}
@@ -18,6 +18,7 @@ use Rattle.profile.specs.declared.Range.{Range}
 use Rattle.profile.specs.declared.Shared.{Shared}
 use Rattle.profile.specs.declared.Shared.the-variants.{Stretch, Nothing}
 use Rattle.air.specs.Air.{rfRangeOf, guardedOf, widthOf, wider, dialRangeOf}
+use Rattle.air.specs.declared.Margins.{Margins}
 use Rattle.air.specs.declared.DialRange.{DialRange}
 use Rattle.air.specs.declared.DialRange.the-variants.{Dials, NoDial}
 use Rattle.scan.specs.First.{some}
@@ -39,14 +40,14 @@ use Rattle.rows.specs.declared.SafeDial.{SafeDial}
 use Rattle.dial_rows.specs.declared.Request.{Request}
 
 -- what a list is made for: the signal as it is read, and what the general block says of it
-unfoldable pub requestOf : General → LicenseClass → Sideband → ControlMode → Direction → Float → Range → Request
+unfoldable pub requestOf : General → LicenseClass → Sideband → ControlMode → Direction → Margins → Range → Request
 requestOf g license sideband control direction margin audio =
     record {
       class = classCode license;
       sideband = sideband;
       audio = audio;
       «width_hz» = widthOf audio;
-      «margin_hz» = margin;
+      margin = margin;
       automatic = appliesOf control direction;
       «elsewhere_ok» = elsewhereAllows (elsewhereOf g) (widthOf audio) direction;
       «data» = dataOf g;
@@ -71,9 +72,9 @@ abbrev pub dialRows : ℕ → ℕ → Range → DialRange → List SafeDial
 dialRows band rule piece (Dials ends) = safeDial band rule piece ends ∷ []
 dialRows band rule piece NoDial = []
 
--- the dials that put the guarded signal inside a piece: (low − audio) + margin, in that order
+-- the dials that put the guarded signal inside a piece: (low − audio) + lower margin, in that order
 unfoldable pub pieceRows : Request → ℕ → ℕ → Range → List SafeDial
-pieceRows q band rule piece = dialRows band rule piece (dialRangeOf piece (q .sideband) (q .audio) (q .«margin_hz»))
+pieceRows q band rule piece = dialRows band rule piece (dialRangeOf piece (q .sideband) (q .audio) (q .margin))
 
 -- what becomes of the stretch that two ranges share: "`intersect` needs low < high"
 abbrev pub onShared : Shared → (Range → List SafeDial) → List SafeDial
@@ -163,7 +164,7 @@ channelDial c centre = sub binary64 centre (c .«carrier_offset_hz»)
 
 abbrev pub channelHolds : Request → Channels → Float → Bool
 channelHolds q c centre =
-    holdsOf (channelRangeOf (c .«width_hz») centre) (guardedOf (q .«margin_hz») (rfRangeOf (channelDial c centre) (q .sideband) (q .audio)))
+    holdsOf (channelRangeOf (c .«width_hz») centre) (guardedOf (q .margin) (rfRangeOf (channelDial c centre) (q .sideband) (q .audio)))
 
 abbrev pub channelSafe : Channels → Float → SafeDial
 channelSafe c centre =

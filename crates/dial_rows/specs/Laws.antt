@@ -21,6 +21,7 @@ use Rattle.profile.specs.declared.Shared.the-variants.{Stretch, Nothing}
 use Rattle.profile.specs.declared.DataLimit.{DataLimit}
 use Rattle.scan.specs.Laws.{and-true}
 use Rattle.air.specs.Air.{rfRangeOf, guardedOf, widthOf, dialRangeOf, dialEndsOf}
+use Rattle.air.specs.declared.Margins.{Margins}
 use Rattle.air.specs.declared.DialRange.{DialRange}
 use Rattle.air.specs.declared.DialRange.the-variants.{Dials, NoDial}
 use Rattle.layout.specs.Layout.{segments, channels, privileges, automatic, countOf, generalOf}
@@ -62,7 +63,7 @@ dial-few band rule piece NoDial = omega arith
 
 piece-few : (q : Request) (band rule : ℕ) (piece : Range) → length (pieceRows q band rule piece) ≤ 1
 unfolding pieceRows
-piece-few q band rule piece = dial-few band rule piece (dialRangeOf piece (q .sideband) (q .audio) (q .«margin_hz»))
+piece-few q band rule piece = dial-few band rule piece (dialRangeOf piece (q .sideband) (q .audio) (q .margin))
 
 shared-few : (s : Shared) (f : Range → List SafeDial) (k : ℕ) → ((r : Range) → length (f r) ≤ k) → length (onShared s f) ≤ k
 shared-few (Stretch piece) f k h = h piece
@@ -147,14 +148,14 @@ cond-fit : (b : Bool) (xs ys : List SafeDial) → Every DialsFit xs → Every Di
 cond-fit true xs ys p q = p
 cond-fit false xs ys p q = q
 
-pub ends-fit : (piece : Range) (s : Sideband) (audio : Range) (margin : Float) → RangeFits (dialEndsOf piece s audio margin)
+pub ends-fit : (piece : Range) (s : Sideband) (audio : Range) (margin : Margins) → RangeFits (dialEndsOf piece s audio margin)
 ends-fit piece Usb audio margin = (
-  add-fits binary64 (sub binary64 (piece .«low_hz») (audio .«low_hz»)) margin,
-  sub-fits binary64 (sub binary64 (piece .«high_hz») (audio .«high_hz»)) margin,
+  add-fits binary64 (sub binary64 (piece .«low_hz») (audio .«low_hz»)) (margin .«lower_hz»),
+  sub-fits binary64 (sub binary64 (piece .«high_hz») (audio .«high_hz»)) (margin .«upper_hz»),
 )
 ends-fit piece Lsb audio margin = (
-  add-fits binary64 (add binary64 (piece .«low_hz») (audio .«high_hz»)) margin,
-  sub-fits binary64 (add binary64 (piece .«high_hz») (audio .«low_hz»)) margin,
+  add-fits binary64 (add binary64 (piece .«low_hz») (audio .«high_hz»)) (margin .«lower_hz»),
+  sub-fits binary64 (add binary64 (piece .«high_hz») (audio .«low_hz»)) (margin .«upper_hz»),
 )
 
 dial-fit :
@@ -166,10 +167,10 @@ dial-fit band rule piece ends false h n = tt
 piece-fit : (q : Request) (band rule : ℕ) (piece : Range) → Every DialsFit (pieceRows q band rule piece)
 unfolding pieceRows
 piece-fit q band rule piece =
-    dial-fit band rule piece (dialEndsOf piece (q .sideband) (q .audio) (q .«margin_hz»))
-    (le (dialEndsOf piece (q .sideband) (q .audio) (q .«margin_hz») .«low_hz») (dialEndsOf piece (q .sideband) (q .audio) (q .«margin_hz») .«high_hz»))
-    (ends-fit piece (q .sideband) (q .audio) (q .«margin_hz»))
-    (λ e. le-number (dialEndsOf piece (q .sideband) (q .audio) (q .«margin_hz») .«low_hz») _ e .0)
+    dial-fit band rule piece (dialEndsOf piece (q .sideband) (q .audio) (q .margin))
+    (le (dialEndsOf piece (q .sideband) (q .audio) (q .margin) .«low_hz») (dialEndsOf piece (q .sideband) (q .audio) (q .margin) .«high_hz»))
+    (ends-fit piece (q .sideband) (q .audio) (q .margin))
+    (λ e. le-number (dialEndsOf piece (q .sideband) (q .audio) (q .margin) .«low_hz») _ e .0)
 
 shared-fit : (s : Shared) (f : Range → List SafeDial) → ((r : Range) → Every DialsFit (f r)) → Every DialsFit (onShared s f)
 shared-fit (Stretch piece) f h = h piece
@@ -211,7 +212,7 @@ one-fit false x h = tt
 
 -- at a dial that is no number the signal lies in no range
 held-number :
-    (dial : Float) (s : Sideband) (audio : Range) (margin : Float) (r : Range)
+    (dial : Float) (s : Sideband) (audio : Range) (margin : Margins) (r : Range)
     → holdsOf r (guardedOf margin (rfRangeOf dial s audio)) ≡ true → isNan dial ≡ false
 unfolding isNan add sub
 held-number nan Usb audio margin r e = le-number (r .«low_hz») nan (and-true (le (r .«low_hz») nan) _ e .0) .1
@@ -224,7 +225,7 @@ unfolding channelRow
 channel-fit q c centre =
     let f : T (fits binary64 (channelDial c centre)) = sub-fits binary64 centre (c .«carrier_offset_hz») in
     one-fit (channelHolds q c centre) (channelSafe c centre)
-    (λ e. (f, f, held-number (channelDial c centre) (q .sideband) (q .audio) (q .«margin_hz») (channelRangeOf (c .«width_hz») centre) e))
+    (λ e. (f, f, held-number (channelDial c centre) (q .sideband) (q .audio) (q .margin) (channelRangeOf (c .«width_hz») centre) e))
 
 band-fit : (l : List ℕ) (q : Request) (b : ChannelBand) → Every DialsFit (bandRows (tableOf l) q b)
 unfolding openRows channelRows
@@ -248,7 +249,7 @@ rows-fit l q = gathered-fit l q (channelsOf (generalOf l))
 -- ---- the request, from its parts
 
 pub request-made :
-    (g : General) (license : LicenseClass) (sideband : Sideband) (control : ControlMode) (direction : Direction) (margin : Float) (audio : Range)
+    (g : General) (license : LicenseClass) (sideband : Sideband) (control : ControlMode) (direction : Direction) (margin : Margins) (audio : Range)
     (class : ℕ) (width : Float) (automatic : Bool) (elsewhere : ElsewhereRule) (ok : Bool) (d : DataLimit)
     → class ≡ classCode license → width ≡ widthOf audio → automatic ≡ appliesOf control direction → elsewhere ≡ elsewhereOf g
     → ok ≡ elsewhereAllows elsewhere width direction → d ≡ dataOf g
@@ -258,7 +259,7 @@ pub request-made :
       sideband = sideband;
       audio = audio;
       «width_hz» = width;
-      «margin_hz» = margin;
+      margin = margin;
       automatic = automatic;
       «elsewhere_ok» = ok;
       «data» = d;

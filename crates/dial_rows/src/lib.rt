@@ -2,6 +2,7 @@
 // channels: searches that give one row after the other. It uses codes, profile, air, layout, table, find, automatic_97_221 and
 // rows; its laws use apart, lists, order and bit_order.
 use air::DialRange;
+use air::Margins;
 use codes::ControlMode;
 use codes::Direction;
 use codes::EmissionKind;
@@ -43,7 +44,7 @@ pub struct Request {
     pub sideband: Sideband,
     pub audio: Range,
     pub width_hz: f64,
-    pub margin_hz: f64,
+    pub margin: Margins,
     // 97.221 applies.
     pub automatic: bool,
     // 97.221(c) lets the signal outside the automatic segments.
@@ -60,10 +61,10 @@ pub fn request_of(
     sideband: Sideband,
     control: ControlMode,
     direction: Direction,
-    margin_hz: f64,
+    margin: Margins,
     audio: Range,
 ) -> Request
-    ensures { λ q. ⌜ q ≡ requestOf g license sideband control direction «margin_hz» audio ⌝ }
+    ensures { λ q. ⌜ q ≡ requestOf g license sideband control direction margin audio ⌝ }
 {
     let width = air::width(audio);
     Request {
@@ -71,7 +72,7 @@ pub fn request_of(
         sideband,
         audio,
         width_hz: width,
-        margin_hz,
+        margin,
         automatic: automatic_97_221::applies(control, direction),
         elsewhere_ok: automatic_97_221::elsewhere_allows(table::elsewhere_of(g), width, direction),
         data: table::data_of(g),
@@ -124,7 +125,7 @@ fn piece_row(q: Request, band: u8, rule: u16, piece: Range) -> Arise
 {
     let sideband = q.sideband;
     let audio = q.audio;
-    match air::dial_range(piece, sideband, audio, q.margin_hz) {
+    match air::dial_range(piece, sideband, audio, q.margin) {
         DialRange::Dials(ends) => Arise::Row(SafeDial {
             band,
             segment: piece,
@@ -441,7 +442,7 @@ fn channel_row(q: Request, c: Channels, center_hz: f64) -> Arise
     let audio = q.audio;
     let dial = center_hz - c.carrier_offset_hz;
     let range = profile::channel_range(c.width_hz, center_hz);
-    let guarded = air::guarded(q.margin_hz, air::rf_range(dial, sideband, audio));
+    let guarded = air::guarded(q.margin, air::rf_range(dial, sideband, audio));
     if range.holds(guarded) {
         return Arise::Row(SafeDial {
             band: c.band,

@@ -49,7 +49,7 @@ rowsWithControl NoControl f = []
 -- the rows for a station as it is read, and edges as they are read
 abbrev pub knownRows : Table → Situation → Direction → Edges → Sideband → LicenseClass → ControlMode → List SafeDial
 knownRows table s direction e sideband license control =
-    rowsOf table (requestOf (table .general) license sideband control direction (s .«margin_hz») (rangeOf e (readingOf (table .general))))
+    rowsOf table (requestOf (table .general) license sideband control direction (s .margin) (rangeOf e (readingOf (table .general))))
 
 unfoldable pub situationRows : Table → Situation → Direction → Edges → List SafeDial
 situationRows table s direction e =

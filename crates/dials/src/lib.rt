@@ -1,4 +1,4 @@
-// The dial list: the dials that keep a signal inside the rules, as rows in lent bytes. A public call. It uses codes, occupancy, station,
+// The dial list: the dials that keep a signal inside the rules, as rows in lent bytes. A public call. It uses codes, occupancy, air, station,
 // layout, table, entry, bytes, rows and dial_rows; its laws use lists.
 use codes::Checked;
 use codes::Control;
@@ -244,11 +244,11 @@ fn situation_list(
     };
     let g = layout::general_of(image);
     let audio = e.range(table::reading_of(g));
-    let q = dial_rows::request_of(g, license, sideband, control, direction, s.margin_hz, audio);
+    let q = dial_rows::request_of(g, license, sideband, control, direction, s.margin, audio);
     fill(image, rows, q, table::channels_of(g))
 }
 
-// The dials that keep a signal of these edges inside the rules, with the margin to spare, in a stable order by lower dial.
+// The dials that keep a signal of these edges inside the rules, with the margins to spare, in a stable order by lower dial.
 pub fn safe_dials(
     r: StationRecord,
     direction: u8,

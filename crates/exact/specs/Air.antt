@@ -6,6 +6,7 @@ use lib.Ieee.{Float, binary64, add, sub}
 use Rattle.codes.specs.declared.Sideband.the-variants.{Usb, Lsb}
 use Rattle.profile.specs.Range.{range}
 use Rattle.air.specs.Air.{rfRangeOf, guardedOf, unguardedOf, widthOf, dialEndsOf}
+use Rattle.air.specs.declared.Margins.{Margins}
 use Rattle.eighths.specs.Grid.{Figure, Eighths, plusEighths, minusEighths}
 use Rattle.eighths.specs.Laws.{add-eighths, sub-eighths}
 
@@ -16,8 +17,15 @@ up x = plusEighths x
 abbrev pub down : Float → ℕ
 down x = minusEighths x
 
+-- both margins are figures
+pub record MarginFigures (margin : Margins) : Type 0 where
+  pub lower : Figure (margin .«lower_hz»)
+  pub upper : Figure (margin .«upper_hz»)
+
 -- the range on the air, and the same guarded, on either sideband
-module _ (dial low high margin : Float) (D : Figure dial) (L : Figure low) (H : Figure high) (M : Figure margin) where
+module _
+    (dial low high : Float) (margin : Margins) (D : Figure dial) (L : Figure low) (H : Figure high) (M : MarginFigures margin)
+  where
   pub usb-low : Eighths (rfRangeOf dial Usb (range low high) .«low_hz») (up dial + up low) (down dial + down low)
   usb-low = add-eighths (D .eighths) (L .eighths) (omega arith)
 
@@ -31,41 +39,61 @@ module _ (dial low high margin : Float) (D : Figure dial) (L : Figure low) (H : 
   lsb-high = sub-eighths (D .eighths) (L .eighths) (omega arith)
 
   pub guarded-usb-low :
-      Eighths (guardedOf margin (rfRangeOf dial Usb (range low high)) .«low_hz») (up dial + up low + down margin) (down dial + down low + up margin)
-  guarded-usb-low = sub-eighths usb-low (M .eighths) (omega arith)
+      Eighths (guardedOf margin (rfRangeOf dial Usb (range low high)) .«low_hz»)
+      (up dial + up low + down (margin .«lower_hz»))
+      (down dial + down low + up (margin .«lower_hz»))
+  guarded-usb-low = sub-eighths usb-low (M .lower .eighths) (omega arith)
 
   pub guarded-usb-high :
-      Eighths (guardedOf margin (rfRangeOf dial Usb (range low high)) .«high_hz») (up dial + up high + up margin) (down dial + down high + down margin)
-  guarded-usb-high = add-eighths usb-high (M .eighths) (omega arith)
+      Eighths (guardedOf margin (rfRangeOf dial Usb (range low high)) .«high_hz»)
+      (up dial + up high + up (margin .«upper_hz»))
+      (down dial + down high + down (margin .«upper_hz»))
+  guarded-usb-high = add-eighths usb-high (M .upper .eighths) (omega arith)
 
   pub guarded-lsb-low :
-      Eighths (guardedOf margin (rfRangeOf dial Lsb (range low high)) .«low_hz») (up dial + down high + down margin) (down dial + up high + up margin)
-  guarded-lsb-low = sub-eighths lsb-low (M .eighths) (omega arith)
+      Eighths (guardedOf margin (rfRangeOf dial Lsb (range low high)) .«low_hz»)
+      (up dial + down high + down (margin .«lower_hz»))
+      (down dial + up high + up (margin .«lower_hz»))
+  guarded-lsb-low = sub-eighths lsb-low (M .lower .eighths) (omega arith)
 
   pub guarded-lsb-high :
-      Eighths (guardedOf margin (rfRangeOf dial Lsb (range low high)) .«high_hz») (up dial + down low + up margin) (down dial + up low + down margin)
-  guarded-lsb-high = add-eighths lsb-high (M .eighths) (omega arith)
+      Eighths (guardedOf margin (rfRangeOf dial Lsb (range low high)) .«high_hz»)
+      (up dial + down low + up (margin .«upper_hz»))
+      (down dial + up low + down (margin .«upper_hz»))
+  guarded-lsb-high = add-eighths lsb-high (M .upper .eighths) (omega arith)
 
--- the width, and the ends of a dial range, for a piece from one figure to another
-module _ (from to low high margin : Float) (P : Figure from) (Q : Figure to) (L : Figure low) (H : Figure high) (M : Figure margin) where
-  pub width : Eighths (widthOf (range low high)) (up high + down low) (down high + up low)
-  width = sub-eighths (H .eighths) (L .eighths) (omega arith)
+-- the width
+pub width : (low high : Float) → Figure low → Figure high → Eighths (widthOf (range low high)) (up high + down low) (down high + up low)
+width low high L H = sub-eighths (H .eighths) (L .eighths) (omega arith)
+
+-- the ends of a dial range, for a piece from one figure to another
+module _
+    (from to low high : Float) (margin : Margins) (P : Figure from) (Q : Figure to) (L : Figure low) (H : Figure high) (M : MarginFigures margin)
+  where
 
   pub dial-usb-low :
-      Eighths (dialEndsOf (range from to) Usb (range low high) margin .«low_hz») (up from + down low + up margin) (down from + up low + down margin)
-  dial-usb-low = add-eighths (sub-eighths (P .eighths) (L .eighths) (omega arith)) (M .eighths) (omega arith)
+      Eighths (dialEndsOf (range from to) Usb (range low high) margin .«low_hz»)
+      (up from + down low + up (margin .«lower_hz»))
+      (down from + up low + down (margin .«lower_hz»))
+  dial-usb-low = add-eighths (sub-eighths (P .eighths) (L .eighths) (omega arith)) (M .lower .eighths) (omega arith)
 
   pub dial-usb-high :
-      Eighths (dialEndsOf (range from to) Usb (range low high) margin .«high_hz») (up to + down high + down margin) (down to + up high + up margin)
-  dial-usb-high = sub-eighths (sub-eighths (Q .eighths) (H .eighths) (omega arith)) (M .eighths) (omega arith)
+      Eighths (dialEndsOf (range from to) Usb (range low high) margin .«high_hz»)
+      (up to + down high + down (margin .«upper_hz»))
+      (down to + up high + up (margin .«upper_hz»))
+  dial-usb-high = sub-eighths (sub-eighths (Q .eighths) (H .eighths) (omega arith)) (M .upper .eighths) (omega arith)
 
   pub dial-lsb-low :
-      Eighths (dialEndsOf (range from to) Lsb (range low high) margin .«low_hz») (up from + up high + up margin) (down from + down high + down margin)
-  dial-lsb-low = add-eighths (add-eighths (P .eighths) (H .eighths) (omega arith)) (M .eighths) (omega arith)
+      Eighths (dialEndsOf (range from to) Lsb (range low high) margin .«low_hz»)
+      (up from + up high + up (margin .«lower_hz»))
+      (down from + down high + down (margin .«lower_hz»))
+  dial-lsb-low = add-eighths (add-eighths (P .eighths) (H .eighths) (omega arith)) (M .lower .eighths) (omega arith)
 
   pub dial-lsb-high :
-      Eighths (dialEndsOf (range from to) Lsb (range low high) margin .«high_hz») (up to + up low + down margin) (down to + down low + up margin)
-  dial-lsb-high = sub-eighths (add-eighths (Q .eighths) (L .eighths) (omega arith)) (M .eighths) (omega arith)
+      Eighths (dialEndsOf (range from to) Lsb (range low high) margin .«high_hz»)
+      (up to + up low + down (margin .«upper_hz»))
+      (down to + down low + up (margin .«upper_hz»))
+  dial-lsb-high = sub-eighths (add-eighths (Q .eighths) (L .eighths) (omega arith)) (M .upper .eighths) (omega arith)
 
 -- a distance, from a dial to an end of a row: the row's end is a sum of three figures
 pub distance :

@@ -12,6 +12,7 @@ use Rattle.profile.specs.Range.{range}
 use Rattle.profile.specs.declared.Range.{Range}
 use Rattle.profile.specs.declared.RuleName.{RuleName}
 use Rattle.profile.specs.declared.RuleName.the-variants.{Named, Unnamed}
+use Rattle.air.specs.Air.{margins}
 use Rattle.occupancy.specs.declared.Edges.{Edges}
 use Rattle.station.specs.declared.StationRecord.{StationRecord}
 use Rattle.station.specs.declared.Figure.{Figure}
@@ -79,7 +80,7 @@ stationRecordOf s =
       «band_plan» = s .«band_plan»;
       «dial_known» = s .«dial_known»;
       «power_known» = s .«power_known»;
-      «margin_hz» = s .«margin_hz»;
+      margin = margins (s .«margin_lower_hz») (s .«margin_upper_hz»);
       «dial_hz» = s .«dial_hz»;
       «power_w» = s .«power_w»;
     }
@@ -87,7 +88,8 @@ stationRecordOf s =
 unfoldable pub stationOf : StationRecord → FlatStation
 stationOf s =
     record {
-      «margin_hz» = s .«margin_hz»;
+      «margin_lower_hz» = s .margin .«lower_hz»;
+      «margin_upper_hz» = s .margin .«upper_hz»;
       «dial_hz» = s .«dial_hz»;
       «power_w» = s .«power_w»;
       policy = s .policy;

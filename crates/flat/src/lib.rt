@@ -1,5 +1,6 @@
 // The records of the boundary to C: flat structs of numbers, made from the answers and read into the station record and the edges. It
-// uses codes, profile, occupancy, station, fault, tidy, decision, numbers, ceiling, dials, report, distance and number_texts.
+// uses codes, profile, occupancy, air, station, fault, tidy, decision, numbers, ceiling, dials, report, distance and number_texts.
+use air::Margins;
 use ceiling::CeilingAnswer;
 use ceiling::Rung;
 use codes::Checked;
@@ -33,7 +34,8 @@ ghost use Rattle.flat.specs.Flat.{faultFlat, tidinessFlat, flatOf, ceili
 // The station record: codes and presence bytes as document 01 numbers them, figures whatever they are.
 #[repr(C)]
 pub struct FlatStation {
-    pub margin_hz: f64,
+    pub margin_lower_hz: f64,
+    pub margin_upper_hz: f64,
     pub dial_hz: f64,
     pub power_w: f64,
     pub policy: u8,
@@ -192,7 +194,10 @@ pub fn station_in(s: FlatStation) -> StationRecord
         band_plan: s.band_plan,
         dial_known: s.dial_known,
         power_known: s.power_known,
-        margin_hz: s.margin_hz,
+        margin: Margins {
+            lower_hz: s.margin_lower_hz,
+            upper_hz: s.margin_upper_hz,
+        },
         dial_hz: s.dial_hz,
         power_w: s.power_w,
     }
@@ -202,7 +207,8 @@ pub fn station_out(s: StationRecord) -> FlatStation
     ensures { λ r. ⌜ r ≡ stationOf s ⌝ }
 {
     FlatStation {
-        margin_hz: s.margin_hz,
+        margin_lower_hz: s.margin.lower_hz,
+        margin_upper_hz: s.margin.upper_hz,
         dial_hz: s.dial_hz,
         power_w: s.power_w,
         policy: s.policy,

@@ -318,7 +318,7 @@ otherStation s power plan =
       license = s .license;
       sideband = s .sideband;
       «itu_region» = s .«itu_region»;
-      «margin_hz» = s .«margin_hz»;
+      margin = s .margin;
       «band_plan» = plan;
       dial = s .dial;
       power = power;
@@ -335,7 +335,7 @@ otherRecord r known watts plan =
       «band_plan» = plan;
       «dial_known» = r .«dial_known»;
       «power_known» = known;
-      «margin_hz» = r .«margin_hz»;
+      margin = r .margin;
       «dial_hz» = r .«dial_hz»;
       «power_w» = watts;
     }

@@ -66,9 +66,12 @@ pub extern "C" fn pamuklid_report_of(image: &[u8], license: u8, rows: &mut [u8])
     flat::report_flat(report::report_of(image, license, rows))
 }
 
-// A fresh station record: region 2, margin 50, and nothing else known.
+// The calls that take or give a station record. `_2` is the second layout of FlatStation, with two margins: a program that was compiled
+// for the first finds no such symbol. The header and the Rust crate name them without it.
+
+// A fresh station record: region 2, margins 50 and 50, and nothing else known.
 #[no_mangle]
-pub extern "C" fn pamuklid_fresh() -> FlatStation
+pub extern "C" fn pamuklid_fresh_2() -> FlatStation
     ensures { λ r. ⌜ r ≡ stationOf freshOf ⌝ }
 {
     flat::station_out(station::fresh())
@@ -76,7 +79,7 @@ pub extern "C" fn pamuklid_fresh() -> FlatStation
 
 // Judge a transmission.
 #[no_mangle]
-pub extern "C" fn pamuklid_evaluate(
+pub extern "C" fn pamuklid_evaluate_2(
     s: FlatStation,
     kind: u8,
     direction: u8,
@@ -92,7 +95,7 @@ pub extern "C" fn pamuklid_evaluate(
 
 // The refusal of a transmission whose spectrum is not known.
 #[no_mangle]
-pub extern "C" fn pamuklid_unmeasured(s: FlatStation, image: &[u8]) -> FlatDecision
+pub extern "C" fn pamuklid_unmeasured_2(s: FlatStation, image: &[u8]) -> FlatDecision
     ensures { λ r. ⌜ r ≡ flatOf (unmeasuredOf (stationRecordOf s) (now (image .entry))) ⌝ }
 {
     let record = flat::station_in(s);
@@ -101,7 +104,7 @@ pub extern "C" fn pamuklid_unmeasured(s: FlatStation, image: &[u8]) -> FlatDecis
 
 // The fastest rung that may be sent, and the answer on the first that may not.
 #[no_mangle]
-pub extern "C" fn pamuklid_ceiling_of(
+pub extern "C" fn pamuklid_ceiling_of_2(
     s: FlatStation,
     direction: u8,
     ordinary: FlatEdges,
@@ -130,7 +133,7 @@ pub extern "C" fn pamuklid_ceiling_of(
 
 // The dials that keep a signal of these edges inside the rules, as rows of 36 bytes.
 #[no_mangle]
-pub extern "C" fn pamuklid_safe_dials(
+pub extern "C" fn pamuklid_safe_dials_2(
     s: FlatStation,
     direction: u8,
     e: FlatEdges,

@@ -1,7 +1,8 @@
 // A program of the gate: the fresh record, byte by byte, what it answers under Rules, and the dial lists that are drawn from it, with its
-// own margin and region and with those of a caller that passes 0 and 0 itself. The practice table's image is on standard input; what it
-// must write, the file `stdout` beside src/, is from tools/reference/fresh.py. It uses bytes, profile, occupancy, station, verdict, dials
-// and numbers.
+// own margins and region, with those of a caller that passes 0 and 0 itself, and with two margins that differ. The practice table's image
+// is on standard input; what it must write, the file `stdout` beside src/, is from tools/reference/fresh.py. It uses air, bytes, profile,
+// occupancy, station, verdict, dials and numbers.
+use air::Margins;
 use dials::DialList;
 use occupancy::Edges;
 use profile::Range;
@@ -39,13 +40,14 @@ fn record(s: StationRecord) {
     number(b"plan", s.band_plan as u64);
     number(b"dial known", s.dial_known as u64);
     number(b"power known", s.power_known as u64);
-    number(b"margin", bytes::bits(s.margin_hz));
+    number(b"lower margin", bytes::bits(s.margin.lower_hz));
+    number(b"upper margin", bytes::bits(s.margin.upper_hz));
     number(b"dial", bytes::bits(s.dial_hz));
     number(b"power", bytes::bits(s.power_w));
 }
 
-// A fresh record with a region and a margin.
-fn with(itu_region: u8, margin_hz: f64) -> StationRecord {
+// A fresh record with a region and margins.
+fn with(itu_region: u8, margin: Margins) -> StationRecord {
     let s = station::fresh();
     StationRecord {
         policy: s.policy,
@@ -56,7 +58,7 @@ fn with(itu_region: u8, margin_hz: f64) -> StationRecord {
         band_plan: s.band_plan,
         dial_known: s.dial_known,
         power_known: s.power_known,
-        margin_hz,
+        margin,
         dial_hz: s.dial_hz,
         power_w: s.power_w,
     }
@@ -73,7 +75,7 @@ fn set_up(s: StationRecord, control: u8, license: u8, sideband: u8) -> StationRe
         band_plan: s.band_plan,
         dial_known: s.dial_known,
         power_known: s.power_known,
-        margin_hz: s.margin_hz,
+        margin: s.margin,
         dial_hz: s.dial_hz,
         power_w: s.power_w,
     }
@@ -128,7 +130,20 @@ fn main() {
     let image = &input[..n];
     let fresh = station::fresh();
     record(fresh);
-    let old = with(0, 0.0);
+    let old = with(
+        0,
+        Margins {
+            lower_hz: 0.0,
+            upper_hz: 0.0,
+        },
+    );
+    let apart = with(
+        2,
+        Margins {
+            lower_hz: 25.0,
+            upper_hz: 450.0,
+        },
+    );
     judged(b"fresh", fresh, image);
     judged(b"fresh under Rules", set_up(fresh, 255, 255, 255), image);
     judged(
@@ -141,6 +156,16 @@ fn main() {
     listed(
         b"region 0 and margin 0, set up",
         set_up(old, 0, 2, 0),
+        image,
+    );
+    listed(
+        b"margins 25 and 450, set up",
+        set_up(apart, 0, 2, 0),
+        image,
+    );
+    listed(
+        b"margins 25 and 450, lower sideband",
+        set_up(apart, 0, 2, 1),
         image,
     );
 }

@@ -1,12 +1,13 @@
 // Runs the unstarred cases of document 01's practice table, whose image is on standard input: verdict and code on 60 m for
-// a test emission, at 100 W and at 100.125 W, and the ceiling of no rungs. It uses profile,
+// a test emission, at 100 W and at 100.125 W, and the ceiling of no rungs. It uses air, profile,
 // occupancy, station, verdict, ceiling and numbers.
+use air::Margins;
 use ceiling::Rung;
 use occupancy::Edges;
 use profile::Range;
 use station::StationRecord;
 
-// Region 2, General, local, upper sideband, margin 50, at 5,330,550, with a power that may be absent.
+// Region 2, General, local, upper sideband, margins 50 and 50, at 5,330,550, with a power that may be absent.
 fn station_of(power_known: u8, power_w: f64) -> StationRecord {
     StationRecord {
         policy: 2,
@@ -17,7 +18,10 @@ fn station_of(power_known: u8, power_w: f64) -> StationRecord {
         band_plan: 0,
         dial_known: 1,
         power_known,
-        margin_hz: 50.0,
+        margin: Margins {
+            lower_hz: 50.0,
+            upper_hz: 50.0,
+        },
         dial_hz: 5330550.0,
         power_w,
     }

@@ -92,10 +92,11 @@ fn is(x: f64, b: &[u8], at: usize) -> bool {
     bits_of(x) == bits(b, at)
 }
 
-// A station record of 32 bytes.
+// A station record of 32 bytes: it has one margin, which stands for both.
 fn station(b: &[u8]) -> FlatStation {
     FlatStation {
-        margin_hz: figure(b, 0),
+        margin_lower_hz: figure(b, 0),
+        margin_upper_hz: figure(b, 0),
         dial_hz: figure(b, 8),
         power_w: figure(b, 16),
         policy: byte(b, 24),
@@ -250,7 +251,7 @@ fn verdict_case(s: &[u8], at: usize, image: &[u8]) -> Told {
     let record = station(b);
     let signal = edges(&s[at + 34..end]);
     decided(
-        pamuklid::pamuklid_evaluate(record, byte(b, 32), byte(b, 33), signal, image),
+        pamuklid::pamuklid_evaluate_2(record, byte(b, 32), byte(b, 33), signal, image),
         s,
         end,
     )
@@ -265,7 +266,7 @@ fn unmeasured_case(s: &[u8], at: usize, image: &[u8]) -> Told {
     }
     let end = at + 32;
     let record = station(&s[at..end]);
-    decided(pamuklid::pamuklid_unmeasured(record, image), s, end)
+    decided(pamuklid::pamuklid_unmeasured_2(record, image), s, end)
 }
 
 // Figures out of bytes, as many as there is room for.
@@ -333,7 +334,7 @@ fn climbed(head: &[u8], s: &[u8], at: usize, count: usize, floors: usize, image:
     let record = station(head);
     let ordinary = edges(&head[33..]);
     let floor = edges(&head[65..]);
-    let answer = pamuklid::pamuklid_ceiling_of(
+    let answer = pamuklid::pamuklid_ceiling_of_2(
         record,
         byte(head, 32),
         ordinary,
@@ -390,7 +391,7 @@ fn listed(head: &[u8], s: &[u8], at: usize, rows: &mut [u8], image: &[u8]) -> To
     }
     let record = station(head);
     let signal = edges(&head[33..]);
-    let answer = pamuklid::pamuklid_safe_dials(record, byte(head, 32), signal, image, rows);
+    let answer = pamuklid::pamuklid_safe_dials_2(record, byte(head, 32), signal, image, rows);
     let counted = answer.refusal == byte(b, 0) && answer.count == count;
     ended(counted && rows_same(rows, &s[start..end]), end)
 }

@@ -1,6 +1,7 @@
 // A program of the gate: it reads the station records that its input describes and writes the refusal of each, or what
 // it is read as. Input and output come from tools/reference/borders.py, which says what the bytes mean. It stops at
-// input that is malformed. It uses figures, codes, layout and station.
+// input that is malformed. It uses figures, codes, air, layout and station.
+use air::Margins;
 use codes::Checked;
 use codes::Control;
 use codes::ControlMode;
@@ -16,7 +17,7 @@ ghost use Prim.Native.Nat.{_+_, _≤_};
 ghost use lib.ListN.{length};
 
 // The size of a case.
-const CASE_SIZE: usize = 35;
+const CASE_SIZE: usize = 43;
 
 fn policy_number(p: Policy) -> u64 {
     match p {
@@ -111,7 +112,8 @@ fn print_figures(x: Situation) {
     let power = x.power;
     print_figure(b" dial ", dial);
     print_figure(b" power ", power);
-    print_figure(b" margin ", Figure::Known(x.margin_hz));
+    print_figure(b" lower ", Figure::Known(x.margin.lower_hz));
+    print_figure(b" upper ", Figure::Known(x.margin.upper_hz));
 }
 
 fn print_beside(direction: u8, kind: u8) {
@@ -137,7 +139,7 @@ fn report(r: StationRecord, direction: u8, kind: u8, image: &[u8]) {
 
 // The station record of a case.
 fn record_at(s: &[u8], at: usize) -> StationRecord
-    requires { ⌜ at + 35 ≤ length (now s) ⌝ }
+    requires { ⌜ at + 43 ≤ length (now s) ⌝ }
 {
     StationRecord {
         policy: layout::byte_at(s, at),
@@ -148,21 +150,24 @@ fn record_at(s: &[u8], at: usize) -> StationRecord
         band_plan: layout::byte_at(s, at + 5),
         dial_known: layout::byte_at(s, at + 6),
         power_known: layout::byte_at(s, at + 7),
-        margin_hz: figures::figure(layout::u64_at(s, at + 10)),
-        dial_hz: figures::figure(layout::u64_at(s, at + 18)),
-        power_w: figures::figure(layout::u64_at(s, at + 26)),
+        margin: Margins {
+            lower_hz: figures::figure(layout::u64_at(s, at + 10)),
+            upper_hz: figures::figure(layout::u64_at(s, at + 18)),
+        },
+        dial_hz: figures::figure(layout::u64_at(s, at + 26)),
+        power_w: figures::figure(layout::u64_at(s, at + 34)),
     }
 }
 
 // The line of the case at a place; false where it is malformed.
 fn case(s: &[u8], at: usize, number: u16) -> bool
-    requires { ⌜ at + 35 ≤ length (now s) ⌝ }
+    requires { ⌜ at + 43 ≤ length (now s) ⌝ }
 {
     let r = record_at(s, at);
     let direction = layout::byte_at(s, at + 8);
     let kind = layout::byte_at(s, at + 9);
     let image = [0u8; 1];
-    let n = layout::byte_at(s, at + 34) as usize;
+    let n = layout::byte_at(s, at + 42) as usize;
     if 1 < n {
         return false;
     }

@@ -4,6 +4,7 @@ use mathlib.Core.List.{List, [], _∷_}
 use lib.IntN.{pos}
 use lib.Ieee.{Float, binary64, div, ofBits, ofInt}
 use Rattle.profile.specs.Range.{range}
+use Rattle.air.specs.Air.{margins}
 use Rattle.occupancy.specs.declared.Edges.{Edges}
 use Rattle.station.specs.declared.StationRecord.{StationRecord}
 
@@ -50,7 +51,7 @@ station control dial =
       «band_plan» = 0;
       «dial_known» = 1;
       «power_known» = 0;
-      «margin_hz» = hz 50_000;
+      margin = margins (hz 50_000) (hz 50_000);
       «dial_hz» = dial;
       «power_w» = ofBits binary64 0;
     }

@@ -6,6 +6,8 @@ use lib.Dec.{leb, eqb}
 use lib.ListN.{length}
 use lib.Ieee.{Float, binary64, ofBits}
 use Rattle.figures.specs.Figure.{zeroHz, limit40, inSize, readHz}
+use Rattle.air.specs.Air.{margins}
+use Rattle.air.specs.declared.Margins.{Margins}
 use Rattle.codes.specs.Code.{policyCode}
 use Rattle.codes.specs.Read.{policyValid, controlValid, licenseValid, sidebandValid, policyOf, controlOf, licenseOf, sidebandOf}
 use Rattle.codes.specs.Refusal.{Test, test}
@@ -29,13 +31,20 @@ codesValid r =
 abbrev pub figureValid : ℕ → Float → Bool
 figureValid known x = eqb known 0 || inSize limit40 x
 
+-- "21 covers each"
+abbrev pub marginsValid : Margins → Bool
+marginsValid m = inSize limit40 (m .«lower_hz») && inSize limit40 (m .«upper_hz»)
+
 unfoldable pub figuresValid : StationRecord → Bool
 figuresValid r =
-    inSize limit40 (r .«margin_hz») && (figureValid (r .«dial_known») (r .«dial_hz») && figureValid (r .«power_known») (r .«power_w»))
+    marginsValid (r .margin) && (figureValid (r .«dial_known») (r .«dial_hz») && figureValid (r .«power_known») (r .«power_w»))
 
 -- a figure as it is read: "Negative zero in edges or station reads as zero."
 abbrev pub figureRead : ℕ → Float → Figure
 figureRead known x = cond (eqb known 0) Absent (Known (readHz x))
+
+abbrev pub marginsRead : Margins → Margins
+marginsRead m = margins (readHz (m .«lower_hz»)) (readHz (m .«upper_hz»))
 
 unfoldable pub situationOf : StationRecord → Situation
 situationOf r =
@@ -45,7 +54,7 @@ situationOf r =
       license = licenseOf (r .license);
       sideband = sidebandOf (r .sideband);
       «itu_region» = r .«itu_region»;
-      «margin_hz» = readHz (r .«margin_hz»);
+      margin = marginsRead (r .margin);
       «band_plan» = not (eqb (r .«band_plan») 0);
       dial = figureRead (r .«dial_known») (r .«dial_hz»);
       power = figureRead (r .«power_known») (r .«power_w»);
@@ -65,8 +74,8 @@ stationTests r beside l =
 abbrev pub freshMargin : Float
 freshMargin = ofBits binary64 0x4049_0000_0000_0000
 
--- "A fresh station record now has region 2 and margin 50." Else it follows `Situation`'s `Default`: "plan off, the rest absent". The
--- policy is unset.
+-- "A fresh station record now has region 2 and margin 50." "A fresh record has 50 in each." Else it follows `Situation`'s `Default`: "plan
+-- off, the rest absent". The policy is unset.
 abbrev pub freshOf : StationRecord
 freshOf =
     record {
@@ -78,7 +87,7 @@ freshOf =
       «band_plan» = 0;
       «dial_known» = 0;
       «power_known» = 0;
-      «margin_hz» = freshMargin;
+      margin = margins freshMargin freshMargin;
       «dial_hz» = zeroHz;
       «power_w» = zeroHz;
     }

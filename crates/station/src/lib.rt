@@ -1,5 +1,6 @@
 // The station record: as it arrives, its refusals 20 to 22, and as it is read. The fresh record is a public call.
-// It uses figures and codes.
+// It uses figures, codes and air.
+use air::Margins;
 use codes::Checked;
 use codes::Control;
 use codes::License;
@@ -8,7 +9,8 @@ use codes::SidebandSet;
 ghost use mathlib.Core.Path.{_≡_};
 ghost use Rattle.codes.specs.Refusal.{refusalOf};
 ghost use Rattle.codes.specs.Read.{controlValid, licenseValid, sidebandValid};
-ghost use Rattle.station.specs.Station.{codesValid, figureValid, figuresValid, figureRead, situationOf, stationTests, freshOf};
+ghost use Rattle.station.specs.Station.{codesValid, marginsValid, figureValid, figuresValid, marginsRead, figureRead};
+ghost use Rattle.station.specs.Station.{situationOf, stationTests, freshOf};
 
 // The record as it arrives: document 01's numbers, and figures whatever they are.
 pub struct StationRecord {
@@ -20,7 +22,7 @@ pub struct StationRecord {
     pub band_plan: u8,
     pub dial_known: u8,
     pub power_known: u8,
-    pub margin_hz: f64,
+    pub margin: Margins,
     pub dial_hz: f64,
     pub power_w: f64,
 }
@@ -38,7 +40,7 @@ pub struct Situation {
     pub license: License,
     pub sideband: SidebandSet,
     pub itu_region: u8,
-    pub margin_hz: f64,
+    pub margin: Margins,
     pub band_plan: bool,
     pub dial: Figure,
     pub power: Figure,
@@ -72,6 +74,12 @@ fn codes_valid(r: StationRecord) -> bool
                     && (r.band_plan <= 1 && (r.dial_known <= 1 && r.power_known <= 1)))))
 }
 
+fn margins_valid(m: Margins) -> bool
+    ensures { λ x. ⌜ x ≡ marginsValid m ⌝ }
+{
+    figures::in_size(figures::LIMIT, m.lower_hz) && figures::in_size(figures::LIMIT, m.upper_hz)
+}
+
 fn figure_valid(known: u8, x: f64) -> bool
     ensures { λ b. ⌜ b ≡ figureValid known x ⌝ }
 {
@@ -81,8 +89,17 @@ fn figure_valid(known: u8, x: f64) -> bool
 fn figures_valid(r: StationRecord) -> bool
     ensures { λ x. ⌜ x ≡ figuresValid r ⌝ }
 {
-    figures::in_size(figures::LIMIT, r.margin_hz)
+    margins_valid(r.margin)
         && (figure_valid(r.dial_known, r.dial_hz) && figure_valid(r.power_known, r.power_w))
+}
+
+fn margins_read(m: Margins) -> Margins
+    ensures { λ x. ⌜ x ≡ marginsRead m ⌝ }
+{
+    Margins {
+        lower_hz: figures::read_hz(m.lower_hz),
+        upper_hz: figures::read_hz(m.upper_hz),
+    }
 }
 
 fn figure_read(known: u8, x: f64) -> Figure
@@ -105,7 +122,7 @@ pub fn situation_of(r: StationRecord) -> Situation
         license: codes::license_of(r.license),
         sideband: codes::sideband_of(r.sideband),
         itu_region: r.itu_region,
-        margin_hz: figures::read_hz(r.margin_hz),
+        margin: margins_read(r.margin),
         band_plan: r.band_plan != 0,
         dial: figure_read(r.dial_known, r.dial_hz),
         power: figure_read(r.power_known, r.power_w),
@@ -134,7 +151,7 @@ pub fn refusals(r: StationRecord, beside: bool, image: &[u8]) -> Checked
     Checked::Accepted
 }
 
-// A fresh record: region 2, margin 50, and nothing else known. Its policy is unset, so it permits nothing.
+// A fresh record: region 2, margins 50 and 50, and nothing else known. Its policy is unset, so it permits nothing.
 pub fn fresh() -> StationRecord
     ensures { λ r. ⌜ r ≡ freshOf ⌝ }
 {
@@ -147,7 +164,10 @@ pub fn fresh() -> StationRecord
         band_plan: 0,
         dial_known: 0,
         power_known: 0,
-        margin_hz: 50.0,
+        margin: Margins {
+            lower_hz: 50.0,
+            upper_hz: 50.0,
+        },
         dial_hz: 0.0,
         power_w: 0.0,
     }

@@ -87,8 +87,8 @@ caseOf s control class sideband dial kind direction audio =
       audio = audio;
       width = widthOf audio;
       air = rfRangeOf dial sideband audio;
-      guarded = guardedOf (s .«margin_hz») (rfRangeOf dial sideband audio);
-      advised = unguardedOf (s .«margin_hz») (guardedOf (s .«margin_hz») (rfRangeOf dial sideband audio));
+      guarded = guardedOf (s .margin) (rfRangeOf dial sideband audio);
+      advised = unguardedOf (s .margin) (guardedOf (s .margin) (rfRangeOf dial sideband audio));
       power = s .power;
       «band_plan» = s .«band_plan»;
     }

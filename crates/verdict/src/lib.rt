@@ -81,8 +81,8 @@ pub fn case_of(
 {
     let power = s.power;
     let on_air = air::rf_range(dial, sideband, audio);
-    let guarded = air::guarded(s.margin_hz, on_air);
-    let advised = air::unguarded(s.margin_hz, guarded);
+    let guarded = air::guarded(s.margin, on_air);
+    let advised = air::unguarded(s.margin, guarded);
     Case {
         class,
         sideband,

@@ -11,7 +11,7 @@ use crate::words;
 
 /// Lists the dials at which data may be sent
 ///
-/// Each row has the dials from which data of the given edges stays in a segment, the margin to spare. What is not given
+/// Each row has the dials from which data of the given edges stays in a segment, the margins to spare. What is not given
 /// is the practice station's.
 ///
 /// Exit status: 0 there are some, 1 there are none, 2 not listed.

@@ -127,7 +127,7 @@ pub fn answer(args: &Args, style: Style) -> Result<Answer, Failure> {
         }
     };
     let mut status = Status::of(decision.allowed());
-    text.push_str(&words::decision(&decision, asked.station.margin_hz, style));
+    text.push_str(&words::decision(&decision, &asked.station, style));
     let mut remarks = remarks(&asked, Some(&decision));
     text.push_str(&notes(&remarks, style));
 

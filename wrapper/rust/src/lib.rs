@@ -10,7 +10,7 @@
 //! | [`check`] | whether an image is accepted |
 //! | [`fault_of`] | where a table is wrong |
 //! | [`tidy`] | whether an image's table is tidy |
-//! | [`Station::fresh`] | a fresh station, in region 2 with a margin of 50 Hz: it permits nothing |
+//! | [`Station::fresh`] | a fresh station, in region 2 with margins of 50 Hz: it permits nothing |
 //! | [`evaluate`] | the verdict on a transmission |
 //! | [`unmeasured`] | the answer for a signal whose spectrum is not known |
 //! | [`ceiling`] | the fastest rung that may be sent |
@@ -45,7 +45,8 @@
 //!     license: None,
 //!     sideband: None,
 //!     itu_region: 2,
-//!     margin_hz: 50.0,
+//!     margin_lower_hz: 50.0,
+//!     margin_upper_hz: 50.0,
 //!     dial_hz: Some(14_100_000.0),
 //!     power_w: None,
 //!     band_plan: false,
@@ -176,7 +177,7 @@ pub fn ceiling(
     answer::ceiling(&raw::ceiling(s, direction, *ordinary, *floor, image, rungs, floors))
 }
 
-/// The dials at which a data signal of these edges stays inside the rules, the margin to spare, as
+/// The dials at which a data signal of these edges stays inside the rules, the margins to spare, as
 /// rows by their lower dial.
 ///
 /// The rows are written into the bytes lent, [`ROW`] bytes each, and read from there. Bytes past the

@@ -51,8 +51,10 @@ pub const IMAGE_CHANNEL_BAND: usize = 43;
 #[repr(C)]
 #[derive(Clone, Copy, Debug)]
 pub struct Station {
-    /// Hertz that are kept free on each side of the signal; may be negative.
-    pub margin_hz: f64,
+    /// Hertz that are kept free below the signal on the air, on either sideband; may be negative.
+    pub margin_lower_hz: f64,
+    /// Hertz that are kept free above it; may be negative.
+    pub margin_upper_hz: f64,
     /// The radio's dial; not looked at where `dial_known` is 0.
     pub dial_hz: f64,
     /// The transmit power; not looked at where `power_known` is 0.
@@ -266,7 +268,7 @@ pub struct Fault {
 }
 
 const _: () = {
-    assert!(size_of::<Station>() == 32);
+    assert!(size_of::<Station>() == 40);
     assert!(size_of::<Edges>() == 32);
     assert!(size_of::<Decision>() == 360);
     assert!(size_of::<Ceiling>() == 368);
@@ -282,7 +284,9 @@ extern "C" {
     fn pamuklid_check(image: *const u8, n: usize) -> u8;
     fn pamuklid_fault_of(image: *const u8, n: usize) -> Fault;
     fn pamuklid_tidy(image: *const u8, n: usize) -> Tidiness;
+    #[link_name = "pamuklid_fresh_2"]
     fn pamuklid_fresh() -> Station;
+    #[link_name = "pamuklid_evaluate_2"]
     fn pamuklid_evaluate(
         s: Station,
         kind: u8,
@@ -291,7 +295,9 @@ extern "C" {
         image: *const u8,
         n: usize,
     ) -> Decision;
+    #[link_name = "pamuklid_unmeasured_2"]
     fn pamuklid_unmeasured(s: Station, image: *const u8, n: usize) -> Decision;
+    #[link_name = "pamuklid_ceiling_of_2"]
     fn pamuklid_ceiling_of(
         s: Station,
         direction: u8,
@@ -304,6 +310,7 @@ extern "C" {
         floors: *const u8,
         floor_count: usize,
     ) -> Ceiling;
+    #[link_name = "pamuklid_safe_dials_2"]
     fn pamuklid_safe_dials(
         s: Station,
         direction: u8,

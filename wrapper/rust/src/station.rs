@@ -24,8 +24,10 @@ pub struct Station {
     pub sideband: Option<Sideband>,
     /// The ITU region, compared with the image's.
     pub itu_region: u8,
-    /// Hertz that are kept free on each side of the signal; may be negative.
-    pub margin_hz: f64,
+    /// Hertz that are kept free below the signal on the air, on either sideband; may be negative.
+    pub margin_lower_hz: f64,
+    /// Hertz that are kept free above it; may be negative.
+    pub margin_upper_hz: f64,
     /// The radio's dial.
     pub dial_hz: Option<f64>,
     /// The transmit power.
@@ -35,7 +37,7 @@ pub struct Station {
 }
 
 impl Station {
-    /// A fresh station: region 2, a margin of 50 Hz, the plan off, and nothing else known. Its policy is
+    /// A fresh station: region 2, margins of 50 Hz, the plan off, and nothing else known. Its policy is
     /// unset, so it permits nothing.
     pub fn fresh() -> Self {
         version::checked();
@@ -49,7 +51,8 @@ impl Station {
             license: part("license", s.license, License::from_number),
             sideband: part("sideband", s.sideband, Sideband::from_number),
             itu_region: s.itu_region,
-            margin_hz: s.margin_hz,
+            margin_lower_hz: s.margin_lower_hz,
+            margin_upper_hz: s.margin_upper_hz,
             dial_hz: marked("dial mark", s.dial_known).then_some(s.dial_hz),
             power_w: marked("power mark", s.power_known).then_some(s.power_w),
             band_plan: marked("plan mark", s.band_plan),
@@ -58,7 +61,8 @@ impl Station {
 
     pub(crate) fn flat(&self) -> raw::Station {
         raw::Station {
-            margin_hz: self.margin_hz,
+            margin_lower_hz: self.margin_lower_hz,
+            margin_upper_hz: self.margin_upper_hz,
             dial_hz: self.dial_hz.unwrap_or(0.0),
             power_w: self.power_w.unwrap_or(0.0),
             policy: self.policy.number(),
@@ -93,7 +97,8 @@ mod tests {
             license: None,
             sideband: None,
             itu_region: 0,
-            margin_hz: 0.0,
+            margin_lower_hz: 0.0,
+            margin_upper_hz: 0.0,
             dial_hz: None,
             power_w: None,
             band_plan: false,
@@ -101,7 +106,8 @@ mod tests {
         let mut stations = vec![
             bare,
             Station { itu_region: 3, ..bare },
-            Station { margin_hz: -1.5, ..bare },
+            Station { margin_lower_hz: -1.5, ..bare },
+            Station { margin_upper_hz: 2.5, ..bare },
             Station { dial_hz: Some(0.0), ..bare },
             Station { dial_hz: Some(14_100_000.125), ..bare },
             Station { power_w: Some(0.0), ..bare },

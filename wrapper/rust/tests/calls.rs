@@ -19,7 +19,8 @@ fn station(dial_hz: f64) -> Station {
         license: Some(License::General),
         sideband: Some(Sideband::Upper),
         itu_region: 2,
-        margin_hz: 50.0,
+        margin_lower_hz: 50.0,
+        margin_upper_hz: 50.0,
         dial_hz: Some(dial_hz),
         power_w: None,
         band_plan: false,
@@ -141,7 +142,8 @@ fn fresh_station() {
         license: None,
         sideband: None,
         itu_region: 2,
-        margin_hz: 50.0,
+        margin_lower_hz: 50.0,
+        margin_upper_hz: 50.0,
         dial_hz: None,
         power_w: None,
         band_plan: false,
@@ -237,7 +239,8 @@ fn another_robot() {
 #[test]
 fn no_such_direction() {
     let s = raw::Station {
-        margin_hz: 50.0,
+        margin_lower_hz: 50.0,
+        margin_upper_hz: 50.0,
         dial_hz: 14_098_000.0,
         power_w: 0.0,
         policy: 2,
@@ -375,7 +378,8 @@ fn climbs() {
 #[test]
 fn absent_parts_are_safe() {
     let s = raw::Station {
-        margin_hz: 50.0,
+        margin_lower_hz: 50.0,
+        margin_upper_hz: 50.0,
         dial_hz: 14_100_000.0,
         power_w: 0.0,
         policy: 2,

@@ -11,11 +11,11 @@ enum-told-2 c = search needs
 
 returns : tie.Need-returns
 returns c =
-    rw (c .before .before .before .before .enum-told .given .1)
+    rw (c .before .before .before .before .before .before .enum-told .given .1)
 
 returns-2 : tie.Need-returns-2
 returns-2 c =
-    rw (c .before .before .before .before .enum-told2 .given .1)
+    rw (c .before .before .before .before .before .before .enum-told2 .given .1)
 
 pub dial-ends-spec : {M : Type 1} → statement M
 dial-ends-spec = tie.close (tie.spec enum-told enum-told-2 returns returns-2)

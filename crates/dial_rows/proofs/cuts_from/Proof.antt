@@ -24,7 +24,7 @@ enum-known-x : tie.Need-enum-known-x Inv-loop μ-loop
 enum-known-x c = search needs
 
 add-t11 : tie.Need-add-t11 Inv-loop μ-loop
-add-t11 c = omega (arith, c .before .before .before .before .if1 .taken)
+add-t11 c = omega (arith, c .before .before .before .before .if1 .taken, c .before .before .before .before .before .struct-known .given)
 
 returns : tie.Need-returns Inv-loop μ-loop
 returns c =

@@ -29,7 +29,7 @@ returns c =
     (c .before .before .before .before .before .before .args .sideband)
     (c .before .before .before .before .before .before .args .control)
     (c .before .before .before .before .before .before .args .direction)
-    (c .before .before .before .before .before .before .args .margin-hz)
+    (c .before .before .before .before .before .before .args .margin)
     (c .before .before .before .before .before .before .args .audio) _ _ _ _ _ _
     (c .before .before .before .before .class-code .ensures)
     (c .before .before .before .before .before .width .ensures)

@@ -4,8 +4,8 @@ use borrow.Author.Needs.{needs}
 use Rattle.station.proofs.figures_valid.Statement.{statement}
 use Rattle.station.proofs.figures_valid.Tie as tie
 
-in-size-requires : tie.Need-in-size-requires
-in-size-requires c κs = search needs
+margins-valid-requires : tie.Need-margins-valid-requires
+margins-valid-requires c κs = search needs
 
 figure-valid-requires : tie.Need-figure-valid-requires
 figure-valid-requires c κs = search needs
@@ -16,7 +16,7 @@ figure-valid-requires-2 c κs = search needs
 returns : tie.Need-returns
 unfolding figuresValid
 returns c =
-    rw (← c .before .before .before .before .in-size .ensures)
+    rw (← c .before .before .before .before .margins-valid .ensures)
     (rw (c .before .before .before .if1 .taken)
     (rw (← c .before .before .figure-valid .ensures)
     (rw (c .before .if2 .taken)
@@ -25,7 +25,7 @@ returns c =
 returns-2 : tie.Need-returns-2
 unfolding figuresValid
 returns-2 c =
-    rw (← c .before .before .before .in-size .ensures)
+    rw (← c .before .before .before .margins-valid .ensures)
     (rw (c .before .before .if1 .taken)
     (rw (← c .before .figure-valid .ensures)
     (rw (c .if2 .left))))
@@ -33,14 +33,14 @@ returns-2 c =
 returns-3 : tie.Need-returns-3
 unfolding figuresValid
 returns-3 c =
-    rw (← c .before .in-size .ensures)
+    rw (← c .before .margins-valid .ensures)
     (rw (c .if1 .left))
 
 pub figures-valid-spec : {M : Type 1} → statement M
 figures-valid-spec =
     tie.close
     (tie.spec
-    in-size-requires
+    margins-valid-requires
     figure-valid-requires
     figure-valid-requires-2
     returns

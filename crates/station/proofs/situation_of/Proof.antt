@@ -16,8 +16,8 @@ license-of-requires c κs = search needs
 sideband-of-requires : tie.Need-sideband-of-requires
 sideband-of-requires c κs = search needs
 
-read-hz-requires : tie.Need-read-hz-requires
-read-hz-requires c κs = search needs
+margins-read-requires : tie.Need-margins-read-requires
+margins-read-requires c κs = search needs
 
 figure-read-requires : tie.Need-figure-read-requires
 figure-read-requires c κs = search needs
@@ -32,7 +32,7 @@ returns c =
     (rw (← c .before .before .before .before .before .before .control-of .ensures)
     (rw (← c .before .before .before .before .before .license-of .ensures)
     (rw (← c .before .before .before .before .sideband-of .ensures)
-    (rw (← c .before .before .before .read-hz .ensures)
+    (rw (← c .before .before .before .margins-read .ensures)
     (rw (← c .before .figure-read .ensures)
     (rw (c .figure-read2 .ensures)))))))
 
@@ -44,7 +44,7 @@ situation-of-spec =
     control-of-requires
     license-of-requires
     sideband-of-requires
-    read-hz-requires
+    margins-read-requires
     figure-read-requires
     figure-read-requires-2
     returns)

@@ -1,7 +1,7 @@
 -- By the calls.
 use borrow.Author.Needs.{needs}
-use Rattle.pamuklid.proofs.pamuklid_fresh.Statement.{statement}
-use Rattle.pamuklid.proofs.pamuklid_fresh.Tie as tie
+use Rattle.pamuklid.proofs.pamuklid_fresh_2.Statement.{statement}
+use Rattle.pamuklid.proofs.pamuklid_fresh_2.Tie as tie
 
 fresh-requires : tie.Need-fresh-requires
 fresh-requires c κs = search needs
@@ -14,5 +14,5 @@ returns c =
     rw (c .station-out .ensures)
     (rw (c .before .fresh .ensures))
 
-pub pamuklid-fresh-spec : {M : Type 1} → statement M
-pamuklid-fresh-spec = tie.close (tie.spec fresh-requires station-out-requires returns)
+pub pamuklid-fresh-2-spec : {M : Type 1} → statement M
+pamuklid-fresh-2-spec = tie.close (tie.spec fresh-requires station-out-requires returns)

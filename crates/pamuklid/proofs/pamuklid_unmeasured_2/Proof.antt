@@ -1,8 +1,8 @@
 -- By the calls.
 use Rattle.pamuklid.specs.Guided.{unmeasured-indexed}
 use borrow.Author.Needs.{needs}
-use Rattle.pamuklid.proofs.pamuklid_unmeasured.Statement.{statement}
-use Rattle.pamuklid.proofs.pamuklid_unmeasured.Tie as tie
+use Rattle.pamuklid.proofs.pamuklid_unmeasured_2.Statement.{statement}
+use Rattle.pamuklid.proofs.pamuklid_unmeasured_2.Tie as tie
 
 station-in-requires : tie.Need-station-in-requires
 station-in-requires c κs = search needs
@@ -20,6 +20,6 @@ returns c =
     (rw (c .before .unmeasured .ensures)
     (rw (c .before .before .station-in .ensures)))
 
-pub pamuklid-unmeasured-spec : {M : Type 1} → statement M
-pamuklid-unmeasured-spec =
+pub pamuklid-unmeasured-2-spec : {M : Type 1} → statement M
+pamuklid-unmeasured-2-spec =
     tie.close (tie.spec station-in-requires unmeasured-requires flat-requires returns)

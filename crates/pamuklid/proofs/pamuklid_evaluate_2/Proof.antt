@@ -1,8 +1,8 @@
 -- By the calls.
 use Rattle.pamuklid.specs.Guided.{evaluate-indexed}
 use borrow.Author.Needs.{needs}
-use Rattle.pamuklid.proofs.pamuklid_evaluate.Statement.{statement}
-use Rattle.pamuklid.proofs.pamuklid_evaluate.Tie as tie
+use Rattle.pamuklid.proofs.pamuklid_evaluate_2.Statement.{statement}
+use Rattle.pamuklid.proofs.pamuklid_evaluate_2.Tie as tie
 
 station-in-requires : tie.Need-station-in-requires
 station-in-requires c κs = search needs
@@ -26,7 +26,7 @@ returns c =
     (rw (c .before .before .edges-in .ensures)
     (rw (c .before .before .before .station-in .ensures))))
 
-pub pamuklid-evaluate-spec : {M : Type 1} → statement M
-pamuklid-evaluate-spec =
+pub pamuklid-evaluate-2-spec : {M : Type 1} → statement M
+pamuklid-evaluate-2-spec =
     tie.close
     (tie.spec station-in-requires edges-in-requires evaluate-requires flat-requires returns)

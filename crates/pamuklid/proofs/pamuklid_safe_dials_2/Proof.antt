@@ -3,8 +3,8 @@ use mathlib.Core.Path.{ap}
 use Rattle.flat.specs.Flat.{dialsFlat}
 use Rattle.pamuklid.specs.Fits.{list-counted}
 use borrow.Author.Needs.{needs}
-use Rattle.pamuklid.proofs.pamuklid_safe_dials.Statement.{statement}
-use Rattle.pamuklid.proofs.pamuklid_safe_dials.Tie as tie
+use Rattle.pamuklid.proofs.pamuklid_safe_dials_2.Statement.{statement}
+use Rattle.pamuklid.proofs.pamuklid_safe_dials_2.Tie as tie
 
 station-in-requires : tie.Need-station-in-requires
 station-in-requires c κs = search needs
@@ -37,8 +37,8 @@ returns c =
       bytes = c .before .before .before .safe-dials .ensures .bytes;
     })))
 
-pub pamuklid-safe-dials-spec : {M : Type 1} → statement M
-pamuklid-safe-dials-spec =
+pub pamuklid-safe-dials-2-spec : {M : Type 1} → statement M
+pamuklid-safe-dials-2-spec =
     tie.close
     (tie.spec
     station-in-requires

@@ -2,8 +2,8 @@
 use Rattle.pamuklid.specs.Fits.{ceiling-fits}
 use Rattle.pamuklid.specs.Guided.{limit-indexed}
 use borrow.Author.Needs.{needs}
-use Rattle.pamuklid.proofs.pamuklid_ceiling_of.Statement.{statement}
-use Rattle.pamuklid.proofs.pamuklid_ceiling_of.Tie as tie
+use Rattle.pamuklid.proofs.pamuklid_ceiling_of_2.Statement.{statement}
+use Rattle.pamuklid.proofs.pamuklid_ceiling_of_2.Tie as tie
 
 station-in-requires : tie.Need-station-in-requires
 station-in-requires c κs = search needs
@@ -36,8 +36,8 @@ returns c =
     (rw (c .before .before .before .edges-in .ensures)
     (rw (c .before .before .before .before .station-in .ensures)))))
 
-pub pamuklid-ceiling-of-spec : {M : Type 1} → statement M
-pamuklid-ceiling-of-spec =
+pub pamuklid-ceiling-of-2-spec : {M : Type 1} → statement M
+pamuklid-ceiling-of-2-spec =
     tie.close
     (tie.spec
     station-in-requires
