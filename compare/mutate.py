@@ -2,13 +2,14 @@
 """Plants one mistake at a time (mutations.py) in a copy of the Rust, or of the driver's own part,
 builds the driver against that copy and sees whether a run notices a difference.
 
-    python3 compare/mutate.py [--rust] [--stub] [--only TEXT] [--from N] [--work DIR] [--seed S]
+    python3 compare/mutate.py [--rust] [--stub] [--unequal] [--only TEXT] [--from N] [--work DIR] [--seed S]
                               [--verdicts N] [--ceilings N] [--dials N] [--texts N] [--check]
                               [-v] [--report FILE]
 
 Without --stub the library is linked (PAMUKLID_LIB_DIR); with --stub its place is taken by a second,
 unchanged copy of the Rust, which measures how sharp the cases are without the library. --rust plants
-the mistakes of the Rust's three files alone. --check only sees that every old text occurs once.
+the mistakes of the Rust's three files alone; --unequal those about two margins that differ, and needs the
+library. --check only sees that every old text occurs once.
 --report writes the list with the result as a page for docs/. Nothing else is written outside DIR (by
 default a temporary folder of its own, removed at the end). Exit 0: every mistake was noticed except
 those that change nothing.
@@ -26,7 +27,7 @@ sys.dont_write_bytecode = True
 HERE = os.path.dirname(os.path.abspath(__file__))
 sys.path.insert(0, HERE)
 
-from mutations import MUTATIONS
+from mutations import MUTATIONS, UNEQUAL
 
 MODULE = "core/aetherd/src/regulatory"
 RUST = ["mod.rs", "profile.rs", "occupancy.rs"]
@@ -36,6 +37,7 @@ def main():
     args = argparse.ArgumentParser()
     args.add_argument("--rust", action="store_true")
     args.add_argument("--stub", action="store_true")
+    args.add_argument("--unequal", action="store_true")
     args.add_argument("--only", default="")
     args.add_argument("--from", type=int, default=0, dest="start")
     args.add_argument("--work")
@@ -81,16 +83,19 @@ def plant_all(args, rust, work):
         place[name] = os.path.join(driver, "src", name)
         text[name] = open(os.path.join(HERE, "src", name), encoding="utf-8").read()
         put(os.path.join(work, "own", name), text[name])
+    place["build.rs"] = os.path.join(driver, "build.rs")
+    text["build.rs"] = open(os.path.join(HERE, "build.rs"), encoding="utf-8").read()
     for name in place:
         put(place[name], text[name])
 
-    wrong = [m for m in MUTATIONS if text[m[0]].count(m[1]) != 1 or m[1] == m[2]]
+    planted = UNEQUAL if args.unequal else MUTATIONS
+    wrong = [m for m in planted if text[m[0]].count(m[1]) != 1 or m[1] == m[2]]
     for name, old, _, _ in wrong:
         print("not one place: %s: %r (%d times)" % (name, old, text[name].count(old)))
     if wrong:
         return 2
     if args.check:
-        print("%d mistakes, each with one place" % len(MUTATIONS))
+        print("%d mistakes, each with one place" % len(planted))
         return 0
 
     env = dict(os.environ)
@@ -102,6 +107,8 @@ def plant_all(args, rust, work):
     build = ["cargo", "build", "--offline", "--quiet", "--profile", "mutant", "-j", "1"]
     if args.stub:
         build += ["--features", "stub"]
+    if args.unequal:
+        build += ["--features", "unequal"]
     program = os.path.join(work, "target/mutant/pamuklid-compare")
     run = [program, "--brief", "--seed", str(args.seed), "--verdicts", str(args.verdicts),
            "--ceilings", str(args.ceilings), "--dials", str(args.dials), "--texts", str(args.texts)]
@@ -126,7 +133,7 @@ def plant_all(args, rust, work):
     noticed = same = 0
     survivors, surprises, broken, lines = [], [], [], []
     begun = time.time()
-    for number, (name, old, new, why) in enumerate(MUTATIONS):
+    for number, (name, old, new, why) in enumerate(planted):
         if number < args.start or args.only not in name + " " + old + " " + new:
             continue
         if name == "stub.rs" and not args.stub or args.rust and name not in RUST:

@@ -5,7 +5,8 @@ must survive, every other must be noticed.
 Files: profile.rs, occupancy.rs and mod.rs are the Rust; expect.rs, adapter.rs, distance.rs and sixty.rs
 are the driver's own part, written from documents 01 and 02 (refusals 1 to 6, 15, 16, 20 to 24 and their
 order, where a table is wrong, tidy, the distance of a dial, channel against segment, and what the Rust
-says only in words); stub.rs, with --stub, stands for a wrong library.
+says only in words); stub.rs, with --stub, stands for a wrong library; build.rs, with --unequal, has the
+edits that give the Rust its second margin.
 """
 
 MUTATIONS = []
@@ -13,6 +14,15 @@ MUTATIONS = []
 
 def at(file, old, new, same=None):
     MUTATIONS.append((file, old, new, same))
+
+
+# Mistakes about the two margins, for runs with --unequal: in the second margin that build.rs gives the Rust,
+# and in the driver's own part.
+UNEQUAL = []
+
+
+def apart(file, old, new):
+    UNEQUAL.append((file, old, new, None))
 
 
 FINITE = "figures that aren't finite meet 6 before"
@@ -755,12 +765,12 @@ at(E, "&& direction <= 3", "&& direction <= 4")
 at(E, "&& direction <= 3", "&& (direction <= 3 || direction == 255)")
 at(E, "&& kind <= 3;", "&& kind <= 4;")
 at(E, "&& kind <= 3;", "&& (kind <= 3 || kind == 255);")
-at(E, "    if out_of_size(s.margin_hz) {\n        return 21;\n    }\n", "")
+at(E, "    if out_of_size(s.margin_lower_hz) || out_of_size(s.margin_upper_hz) {\n        return 21;\n    }\n", "")
 at(E, "if s.dial_known == 1 && out_of_size(s.dial_hz) {", "if out_of_size(s.dial_hz) {")
 at(E, "if s.dial_known == 1 && out_of_size(s.dial_hz) {", "if false {")
 at(E, "if s.power_known == 1 && out_of_size(s.power_w) {", "if out_of_size(s.power_w) {")
 at(E, "if s.power_known == 1 && out_of_size(s.power_w) {", "if false {")
-at(E, "    if !codes_right {\n        return 20;", "    if out_of_size(s.margin_hz) {\n        return 21;\n    }\n    if !codes_right {\n        return 20;")
+at(E, "    if !codes_right {\n        return 20;", "    if out_of_size(s.margin_lower_hz) {\n        return 21;\n    }\n    if !codes_right {\n        return 20;")
 at(E, "    if s.policy != 2 {\n        return 0;", "    if s.policy != 2 && length != 0 {\n        return 0;")
 at(E, "    if s.policy != 2 {\n        return 0;", "    if s.policy != 2 && refused == 0 {\n        return 0;")
 at(E, "    if length == 0 {\n        return 22;\n    }\n", "")
@@ -782,8 +792,8 @@ at(E, "count > rows_lent_bytes / 36", "count > rows_lent_bytes.div_ceil(36)")
 at(E, "r.low <= high && low <= r.high", "r.low < high && low <= r.high")
 at(E, "r.low <= high && low <= r.high", "r.low <= high && low < r.high")
 at(E, "if best.is_none_or(|(least, _)| sum < least) {", "if best.is_none_or(|(least, _)| sum <= least) {")
-at(E, "let upper = above >= below;", "let upper = above > below;")
-at(E, "((lo - margin) + margin, (hi + margin) - margin)", "(lo, hi)")
+at(E, "upper: above >= below }", "upper: above > below }")
+at(E, "((lo - lower) + lower, (hi + upper) - upper)", "(lo, hi)")
 at(E, "meant && overlaps(r, lo, hi) && watts > r.figure", "meant && overlaps(r, lo, hi) && watts >= r.figure")
 at(E, "watts.is_some_and(|w| w > 100.0)", "watts.is_some_and(|w| w >= 100.0)")
 at(E, "watts.is_some_and(|w| w > 9.15)", "watts.is_some_and(|w| w >= 9.15)")
@@ -1061,3 +1071,27 @@ at(N, "p.class == s.license && span(p).holds(x.air)", "p.class == s.license && s
 at(N, "envelope.map_or(own, |before| union(before, own))", "envelope.map_or(own, |_| own)")
 at(N, "if floors[i] == 1 { floor } else { ordinary }", "if floors[i] == 0 { floor } else { ordinary }")
 at(N, "            None => adapter::evaluate(p, s, 0, direction, &e)?,\n", "            None => break,\n")
+
+# ------------------------------------------------------------------- two margins that differ
+B = "build.rs"
+apart(B, '"segment.high_hz - audio_high - upper,"', '"segment.high_hz - audio_high - margin,"')
+apart(B, '"segment.high_hz + audio_low - upper,"', '"segment.high_hz + audio_low - margin,"')
+PASSED = '"a_lo, a_hi, s.margin_hz, s.upper_hz)"'
+apart(B, PASSED, '"a_lo, a_hi, s.upper_hz, s.margin_hz)"')
+apart(B, PASSED, '"a_lo, a_hi, if sideband == Sideband::Lsb { s.upper_hz } else { s.margin_hz }, '
+      'if sideband == Sideband::Lsb { s.margin_hz } else { s.upper_hz })"')
+apart(B, '"hi + s.upper_hz) {"', '"hi + s.margin_hz) {"')
+GUARDED = '"ghi: hi + s.upper_hz,"'
+apart(B, GUARDED, '"ghi: hi + s.margin_hz,"')
+apart(B, GUARDED, '"ghi: hi + if sideband == Sideband::Lsb { s.margin_hz } else { s.upper_hz },"')
+apart(B, '"ghi - s.upper_hz),"', '"ghi - s.margin_hz),"')
+apart(B, '"(c.s.margin_hz, c.s.upper_hz), rf_text)"', '"(c.s.margin_hz, c.s.margin_hz), rf_text)"')
+apart(B, '"(lo - m, hi + upper)"', '"(lo - upper, hi + upper)"')
+apart(B, '"(c.lo - m, c.hi + c.s.upper_hz)"', '"(c.lo - m, c.hi + m)"')
+apart(E, "out_of_size(s.margin_lower_hz) || out_of_size(s.margin_upper_hz)", "out_of_size(s.margin_lower_hz)")
+apart(E, "out_of_size(s.margin_lower_hz) || out_of_size(s.margin_upper_hz)", "out_of_size(s.margin_upper_hz)")
+apart(E, "(read(s.margin_lower_hz), read(s.margin_upper_hz))", "(read(s.margin_upper_hz), read(s.margin_lower_hz))")
+apart(E, "(lo - lower, hi + upper);\n    table", "(lo - lower, hi + lower);\n    table")
+apart(E, "(lo - lower, hi + upper);\n    let side", "(lo - lower, hi + lower);\n    let side")
+apart(E, "(hi + upper) - upper)", "(hi + upper) - lower)")
+apart("sixty.rs", "high: air.high + upper", "high: air.high + lower")

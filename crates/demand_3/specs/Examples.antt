@@ -273,6 +273,21 @@ lower-away : Outcome (station 0 1 unguarded) narrow plain (hz 22) 1 all (Hertz (
 unfolding opened
 lower-away = record { premises-are = refl; fitted = refl; distance-is = refl; verdict-is = refl }
 
+-- margins 3 and 7 on the lower sideband, sides of the air all the same, with the row 28–73: its lower end is in it
+apart-nought : Outcome (station 0 1 (margins (hz 3) (hz 7))) narrow plain (hz 28) 1 all (Hertz zeroHz) true
+unfolding opened
+apart-nought = record { premises-are = refl; fitted = refl; distance-is = refl; verdict-is = refl }
+
+-- the dial 74 is 1 above it
+apart-away : Outcome (station 0 1 (margins (hz 3) (hz 7))) narrow plain (hz 74) 1 all (Hertz (hz 1)) false
+unfolding opened
+apart-away = record { premises-are = refl; fitted = refl; distance-is = refl; verdict-is = refl }
+
+-- margins −4 and 3: a positive width of 5 − 4 + 3, on the upper sideband with the row 16–72
+negative-nought : Outcome (station 0 0 (margins (sub binary64 zeroHz (hz 4)) (hz 3))) narrow plain (hz 16) 1 all (Hertz zeroHz) true
+unfolding opened
+negative-nought = record { premises-are = refl; fitted = refl; distance-is = refl; verdict-is = refl }
+
 -- a table with a channel on another band, with the rows 20–75 and 288–288: off that band the dial 30 is in the first
 beside-nought : Outcome usual narrow beside (hz 30) 2 all (Hertz zeroHz) true
 unfolding opened

@@ -41,7 +41,7 @@ use Rattle.decision.specs.Decision.{simpleOf}
 use Rattle.decision.specs.Number.{noRule}
 use Rattle.decision.specs.declared.Code.the-variants.{Unmeasured}
 use Rattle.decision.specs.declared.Verdict.the-variants.{Blocked}
-use Rattle.verdict.specs.Verdict.{signalOf, caseOf, readyOf, underRulesOf, decideOf, unlessRefused, besideValid, edgeTests, evaluateOf, unmeasuredOf}
+use Rattle.verdict.specs.Verdict.{signalOf, caseOf, readyOf, underRulesOf, unruledOf, decideOf, unlessRefused, besideValid, edgeTests, evaluateOf, unmeasuredOf}
 use Rattle.ceiling.specs.Ceiling.{burstOf, judgeBy, climbed, rungTests, ceilingUnlessRefused, ceilingOf}
 use Rattle.rows.specs.declared.SafeDial.{SafeDial}
 use Rattle.dial_rows.specs.Dials.{requestOf, dialRows, pieceRows, automaticRows, cutRows, privilegeRows, privilegesRows, segmentRows, dataRows}
@@ -122,7 +122,7 @@ entry-equal r margin beside l = ap (λ (b : Bool). entryBy r b beside l) (figure
 decide-equal :
     (table : Table) (s : Situation) (margin : Float) (policy : Policy) (dial : Figure) (kind : EmissionKind) (direction : Direction) (e : Edges)
     → decideOf table (equalRead s margin) policy dial kind direction e ≡ decideBefore table s margin policy dial kind direction e
-unfolding decideOf decideBefore underRulesOf readyOf readyBefore caseOf caseBefore
+unfolding decideOf decideBefore unruledOf underRulesOf readyOf readyBefore caseOf caseBefore
 decide-equal table s margin Unset dial kind direction e = refl
 decide-equal table s margin NoneApply dial kind direction e = refl
 decide-equal table s margin Rules dial kind direction e = refl
