@@ -307,7 +307,8 @@ without-tidy = record { premises-are = refl; fitted = refl; distance-is = refl; 
 
 -- without eighths: margins 12.200000000000001, edges 0.3–0.7, dial 31.9 is listed and blocked
 without-eighths :
-    Outcome (station 0 0 (margins (ofBits binary64 0x4028666666666667) (ofBits binary64 0x4028666666666667))) (edges (ofBits binary64 0x3fd3333333333333) (ofBits binary64 0x3fe6666666666666)) broad
+    Outcome (station 0 0 (margins (ofBits binary64 0x4028666666666667) (ofBits binary64 0x4028666666666667)))
+    (edges (ofBits binary64 0x3fd3333333333333) (ofBits binary64 0x3fe6666666666666)) broad
     (ofBits binary64 0x403fe66666666666) 1 (replicate 5 true ++ (false ∷ true ∷ false ∷ replicate 3 true)) (Hertz zeroHz) false
 unfolding opened
 without-eighths = record { premises-are = refl; fitted = refl; distance-is = refl; verdict-is = refl }

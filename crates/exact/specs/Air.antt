@@ -23,9 +23,7 @@ pub record MarginFigures (margin : Margins) : Type 0 where
   pub upper : Figure (margin .«upper_hz»)
 
 -- the range on the air, and the same guarded, on either sideband
-module _
-    (dial low high : Float) (margin : Margins) (D : Figure dial) (L : Figure low) (H : Figure high) (M : MarginFigures margin)
-  where
+module _ (dial low high : Float) (margin : Margins) (D : Figure dial) (L : Figure low) (H : Figure high) (M : MarginFigures margin) where
   pub usb-low : Eighths (rfRangeOf dial Usb (range low high) .«low_hz») (up dial + up low) (down dial + down low)
   usb-low = add-eighths (D .eighths) (L .eighths) (omega arith)
 
@@ -67,10 +65,7 @@ pub width : (low high : Float) → Figure low → Figure high → Eighths (width
 width low high L H = sub-eighths (H .eighths) (L .eighths) (omega arith)
 
 -- the ends of a dial range, for a piece from one figure to another
-module _
-    (from to low high : Float) (margin : Margins) (P : Figure from) (Q : Figure to) (L : Figure low) (H : Figure high) (M : MarginFigures margin)
-  where
-
+module _ (from to low high : Float) (margin : Margins) (P : Figure from) (Q : Figure to) (L : Figure low) (H : Figure high) (M : MarginFigures margin) where
   pub dial-usb-low :
       Eighths (dialEndsOf (range from to) Usb (range low high) margin .«low_hz»)
       (up from + down low + up (margin .«lower_hz»))

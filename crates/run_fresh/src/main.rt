@@ -158,11 +158,7 @@ fn main() {
         set_up(old, 0, 2, 0),
         image,
     );
-    listed(
-        b"margins 25 and 450, set up",
-        set_up(apart, 0, 2, 0),
-        image,
-    );
+    listed(b"margins 25 and 450, set up", set_up(apart, 0, 2, 0), image);
     listed(
         b"margins 25 and 450, lower sideband",
         set_up(apart, 0, 2, 1),

@@ -422,6 +422,41 @@ fn floor_frames() {
     assert_eq!(climb(&[true, false]).rung, None);
 }
 
+/// Lower and upper are sides of the air on either sideband (document 02, 9): the dials of 20 m's segment are
+/// 14,025,000 - 1,250 + 25 to 14,150,000 - 1,750 - 450 on the upper, 14,025,000 + 1,750 + 25 to 14,150,000 +
+/// 1,250 - 450 on the lower. Data is allowed at both ends of a row, and not an eighth beyond.
+#[test]
+fn two_margins() {
+    let dials = [
+        (Sideband::Upper, range(14_023_775.0, 14_147_800.0)),
+        (Sideband::Lower, range(14_026_775.0, 14_150_800.0)),
+    ];
+    for (sideband, want) in dials {
+        let s = |dial_hz| Station {
+            sideband: Some(sideband),
+            margin_lower_hz: 25.0,
+            margin_upper_hz: 450.0,
+            ..station(dial_hz)
+        };
+        let mut bytes = [7; 3 * ROW];
+        let list = safe_dials(&s(0.0), Direction::Originate, &EDGES, IMAGE, &mut bytes).unwrap();
+        let row = list.rows().last().unwrap();
+        assert_eq!((row.band, row.dial), (20, want));
+        let allowed = |dial_hz| {
+            let d = evaluate(&s(dial_hz), Kind::Data, Direction::Originate, &EDGES, IMAGE);
+            d.unwrap().verdict == Verdict::Legal
+        };
+        assert!(allowed(want.low_hz) && allowed(want.high_hz));
+        assert!(!allowed(want.low_hz - 0.125) && !allowed(want.high_hz + 0.125));
+    }
+    let lower = Station { margin_lower_hz: f64::NAN, ..station(14_100_000.0) };
+    let upper = Station { margin_upper_hz: f64::INFINITY, ..station(14_100_000.0) };
+    for s in [lower, upper] {
+        let d = evaluate(&s, Kind::Data, Direction::Originate, &EDGES, IMAGE);
+        assert_eq!(d.err(), Some(Refusal::StationFigure));
+    }
+}
+
 #[test]
 fn dial_list() {
     let s = automatic(14_100_000.0);
