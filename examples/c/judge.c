@@ -168,6 +168,31 @@ static void verdicts(void)
     }
 }
 
+/* Two margins: 14023775 + 1250 - 25 is the lower end of General's privilege; on the lower sideband
+ * 14150800 - 1250 + 450 is the upper end of the segment. */
+static void margins(void)
+{
+    static const struct {
+        uint8_t sideband;
+        double dial;
+    } asked[] = {
+        {PAMUKLID_SIDEBAND_UPPER, 14023775},
+        {PAMUKLID_SIDEBAND_UPPER, 14023774.875},
+        {PAMUKLID_SIDEBAND_LOWER, 14150800},
+        {PAMUKLID_SIDEBAND_LOWER, 14150800.125},
+    };
+    for (size_t i = 0; i < sizeof asked / sizeof asked[0]; i++) {
+        pamuklid_station s = station_at(asked[i].dial, LOCAL, POWER_UNKNOWN);
+        s.sideband = asked[i].sideband;
+        s.margin_lower_hz = 25;
+        s.margin_upper_hz = 450;
+        pamuklid_decision d = pamuklid_evaluate(s, DATA, ORIGINATE, both(1250, 1750), image, image_len);
+        printf("margins 25 and 450, %s sideband, dial %.12g: ",
+               s.sideband == PAMUKLID_SIDEBAND_UPPER ? "upper" : "lower", asked[i].dial);
+        print_decision(&d);
+    }
+}
+
 static void print_ceiling(const double *rungs, size_t rung_count)
 {
     static const uint8_t floors[PAMUKLID_MOST_RUNGS] = {0}; /* all with the ordinary control frame */
@@ -306,6 +331,7 @@ int main(int argc, char **argv)
     printf("version %" PRIu32 "\n", pamuklid_version());
     images();
     verdicts();
+    margins();
     ceilings();
     list(16);
     list(1);

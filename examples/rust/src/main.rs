@@ -147,6 +147,28 @@ fn verdicts(image: &[u8]) {
     }
 }
 
+/// Two margins: 14,023,775 + 1,250 - 25 is the lower end of General's privilege; on the lower sideband
+/// 14,150,800 - 1,250 + 450 is the upper end of the segment.
+fn margins(image: &[u8]) {
+    use Sideband::{Lower, Upper};
+    for (sideband, word, dial) in [
+        (Upper, "upper", 14_023_775.0),
+        (Upper, "upper", 14_023_774.875),
+        (Lower, "lower", 14_150_800.0),
+        (Lower, "lower", 14_150_800.125),
+    ] {
+        let s = Station {
+            sideband: Some(sideband),
+            margin_lower_hz: 25.0,
+            margin_upper_hz: 450.0,
+            ..station(dial, Control::Local, None)
+        };
+        let edges = Edges::both(1_250.0, 1_750.0);
+        let d = pamuklid::evaluate(&s, Kind::Data, Direction::Originate, &edges, image);
+        println!("margins 25 and 450, {word} sideband, dial {dial}: {}", answer(d));
+    }
+}
+
 fn ceiling(image: &[u8], rungs: &[Edges]) {
     let s = station(14_100_000.0, Control::Local, None);
     let control = Edges::both(1_250.0, 1_750.0);
@@ -235,6 +257,7 @@ fn main() -> ExitCode {
     println!("version {}", raw::version());
     images(&image);
     verdicts(&image);
+    margins(&image);
     let rungs =
         [Edges::both(1_250.0, 1_750.0), Edges::both(1_000.0, 2_000.0), Edges::both(0.0, 2_900.0)];
     ceiling(&image, &rungs);

@@ -262,11 +262,16 @@ fn length(word: &str) -> String {
     }
 }
 
-/// `typedef struct { TYPE FIELD; .. } NAME;` and `TYPE NAME(..);`
+/// `typedef struct { TYPE FIELD; .. } NAME;` and `TYPE NAME(..);`. A call is named by its symbol: after
+/// `#define NAME SYMBOL` by that.
 fn of_c(source: &str) -> (Structs, Calls) {
     let t = tokens(source);
     let (mut structs, mut calls) = (Structs::new(), Calls::new());
+    let mut symbols = BTreeMap::new();
     for at in 0..t.len() {
+        if t[at] == "define" && t[at + 1].starts_with("pamuklid_") {
+            symbols.insert(t[at + 1].clone(), t[at + 2].clone());
+        }
         if t[at] == "typedef" {
             let body = inside(&t, at + 2);
             let name = plain(&t[at + 2 + body.len() + 2]);
@@ -288,7 +293,8 @@ fn of_c(source: &str) -> (Structs, Calls) {
                     [of, star, _] if star == "*" => format!("*mut {}", plain(of)),
                     _ => panic!("{a:?}"),
                 });
-            calls.insert(t[at].clone(), (arguments.collect(), plain(&t[at - 1])));
+            let symbol = symbols.get(&t[at]).unwrap_or(&t[at]);
+            calls.insert(symbol.clone(), (arguments.collect(), plain(&t[at - 1])));
         }
     }
     (structs, calls)
@@ -307,7 +313,8 @@ fn crossing(t: &[String]) -> Vec<String> {
     }
 }
 
-/// `#[repr(C)] .. pub struct NAME { pub FIELD: TYPE, .. }` and `fn pamuklid_..(ARGUMENT: TYPE, ..) -> TYPE`
+/// `#[repr(C)] .. pub struct NAME { pub FIELD: TYPE, .. }` and `fn pamuklid_..(ARGUMENT: TYPE, ..) -> TYPE`,
+/// by its symbol where it has `#[link_name = "SYMBOL"]`
 fn of_rust(source: &str) -> (Structs, Calls) {
     let t = tokens(source);
     let (mut structs, mut calls) = (Structs::new(), Calls::new());
@@ -329,7 +336,11 @@ fn of_rust(source: &str) -> (Structs, Calls) {
             let arguments = parts(list, ",").flat_map(|a| crossing(&a[2..]));
             let after = at + 2 + list.len() + 2;
             assert_eq!(t[after], "->");
-            calls.insert(t[at + 1].clone(), (arguments.collect(), plain(&t[after + 1])));
+            let symbol = match at.checked_sub(6).map(|from| &t[from..at]) {
+                Some([of, _, _, symbol, ..]) if of == "link_name" => symbol,
+                _ => &t[at + 1],
+            };
+            calls.insert(symbol.clone(), (arguments.collect(), plain(&t[after + 1])));
         }
     }
     (structs, calls)
