@@ -106,6 +106,20 @@ impl Table {
         Table { tables }
     }
 
+    /// A table with the longest report, for an Extra: alike bands and alike data segments, and privileges
+    /// side by side that leave gaps all over them.
+    pub fn crowded() -> Table {
+        let whole = span(start(0), 0.0, 1e6);
+        let mut tables: [Vec<Record>; 9] = Default::default();
+        tables[BANDS] = vec![whole; 256];
+        tables[SEGMENTS] = vec![Record { rule: RULE + 1, ..whole }; 256];
+        tables[PRIVILEGES] = (0..256)
+            .map(|i| 1e3 * (i + 1) as f64)
+            .map(|low| Record { class: 4, ..span(start(0), low, low + 500.0) })
+            .collect();
+        Table { tables }
+    }
+
     /// So many records of each table, spread over the bands.
     pub fn made(counts: [usize; 9]) -> Table {
         let bands = counts[BANDS];
