@@ -511,5 +511,6 @@ fn main() {
     texts::timed(show, rounds);
     stacks(&hf);
     stacks(&largest);
+    reports::stacks();
     texts::stacks();
 }
