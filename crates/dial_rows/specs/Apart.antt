@@ -3,19 +3,17 @@ use Prim.Native.Nat.{ℕ, _≤_}
 use mathlib.Core.Bool.{Bool, true, false, cond, _&&_, _||_, true≢false, false≢true}
 use mathlib.Core.Path.{_≡_, refl, sym, ap, subst, _∙_}
 use native.Mathlib.Omega.{arith}
-use lib.Dec.{T, leb}
-use lib.Ieee.{Float, nan, inf, fin, lt, le, eq, ne, isNan}
-use lib.Ieee.Compare.{differs-from-itself}
+use lib.Dec.{leb}
+use lib.Ieee.{le}
 use borrow.Author.Tests.{leb-true}
-use Rattle.figures.specs.Figure.{minOf, maxOf, figureOf}
+use Rattle.figures.specs.Figure.{figureOf}
 use Rattle.bit_order.specs.Order.{limitBits, bits-le}
 use Rattle.profile.specs.Range.{lengthy, commonOf, intersectOf}
 use Rattle.profile.specs.declared.Range.{Range}
 use Rattle.profile.specs.declared.Shared.the-variants.{Stretch, Nothing}
 use Rattle.layout.specs.declared.Record.{Record}
 use Rattle.table.specs.Parts.{spanOf}
-use Rattle.order.specs.Total.{le-not-above, not-lt-trans}
-use Rattle.order.specs.Greater.{Beyond, after, le-number, max-first, max-second, min-first, min-second}
+use Rattle.apart.specs.Apart.{below-shares, above-shares}
 
 -- a range that ends at some bits lies below one that begins at others: up to the bits of 2^40 figures stand in the order of their bits
 abbrev pub belowBits : ℕ → ℕ → Bool
@@ -23,33 +21,6 @@ belowBits high low = leb high low && leb low limitBits
 
 abbrev pub apartOf : Record → Record → Bool
 apartOf a b = belowBits (a .high) (b .low) || belowBits (b .high) (a .low)
-
--- ---- ranges
-
--- z ≤ y, with a number from y on and one up to z: the first is not below the second
-no-stretch : (m y z n : Float) → Beyond lt m y → le z y ≡ true → Beyond after n z → lt m n ≡ false
-no-stretch m y z n p e q =
-    let c = le-number z y e in
-    not-lt-trans m z n (p .0) (c .0) (q .0)
-    (not-lt-trans m y z (p .0) (c .1) (c .0) (p .1) (le-not-above z y (c .0) (c .1) e))
-    (q .1)
-
-module _ (a b : Range) where
-  below-shares : le (a .«high_hz») (b .«low_hz») ≡ true → lengthy (commonOf a b) ≡ false
-  below-shares e =
-      let c = le-number (a .«high_hz») (b .«low_hz») e in
-      no-stretch (commonOf a b .«low_hz») (b .«low_hz») (a .«high_hz») (commonOf a b .«high_hz»)
-      (max-second (a .«low_hz») (b .«low_hz») (c .1))
-      e
-      (min-first (a .«high_hz») (b .«high_hz») (c .0))
-
-  above-shares : le (b .«high_hz») (a .«low_hz») ≡ true → lengthy (commonOf a b) ≡ false
-  above-shares e =
-      let c = le-number (b .«high_hz») (a .«low_hz») e in
-      no-stretch (commonOf a b .«low_hz») (a .«low_hz») (b .«high_hz») (commonOf a b .«high_hz»)
-      (max-first (a .«low_hz») (b .«low_hz») (c .1))
-      e
-      (min-second (a .«high_hz») (b .«high_hz») (c .0))
 
 -- ---- bits
 

@@ -5,7 +5,8 @@ use mathlib.Core.List.{List, [], _∷_, _++_}
 use mathlib.Core.Path.{_≡_, refl, sym, ap, _∙_}
 use native.Mathlib.Omega.{arith}
 use lib.Dec.{ltb}
-use lib.ListN.{length, drop}
+use lib.ListN.{length, take, drop}
+use lib.Seq.{paste, take-at}
 use borrow.Author.Tests.{lt-ltb, le-ltb}
 use Rattle.codes.specs.Refusal.{Test, test, refusalOf}
 use Rattle.codes.specs.Laws.{refusal-stays, refusal-next, refusal-both}
@@ -17,9 +18,9 @@ use Rattle.table.specs.Table.{tableOf}
 use Rattle.image.specs.Check.{checkTests, checkOf}
 use Rattle.image.specs.Laws.{accepted-whole}
 use Rattle.report_rows.specs.Rows.{rowSize, encodeAll, offerAt}
-use Rattle.report_rows.specs.Laws.{pour-all}
+use Rattle.report_rows.specs.Laws.{length-all, pour-all}
 use Rattle.report_rows.specs.declared.ReportRow.{ReportRow}
-use Rattle.report.specs.Report.{reportRows, lentTests, reportTests, answerOf, Answered, Filled, Reported}
+use Rattle.report.specs.Report.{reportRows, lentTests, reportTests, answerOf, Begun, Answered, Filled, Reported}
 use Rattle.report.specs.Few.{report-few}
 use Rattle.report.specs.declared.TableReport.{TableReport}
 use Rattle.report.specs.declared.TableReport.the-variants.{Rows, Refused as NoReport}
@@ -35,11 +36,33 @@ filled-long xs lent left e h =
     (record { answered = refl; bytes = e })
 
 pub filled-fit :
-    (xs : List ReportRow) (lent left : List ℕ) (n k : ℕ) → n ≡ length xs → n ≤ length lent / rowSize → Poured offerAt lent 0 left k xs
-    → Filled xs lent left (Rows n)
-filled-fit xs lent left n k e h p =
+    (xs : List ReportRow) (lent left : List ℕ) (n : ℕ) → n ≡ length xs → n ≤ length lent / rowSize
+    → left ≡ encodeAll xs ++ drop (n * rowSize) lent → Filled xs lent left (Rows n)
+filled-fit xs lent left n e h p =
     answered-as (refusalOf (lentTests xs lent)) Accepted xs lent left (Rows n) (rw (le-ltb (length lent / rowSize) (length xs) (omega arith)))
-    (record { answered = ap Rows e; bytes = p .written ∙ pour-all lent xs (omega arith) })
+    (record { answered = ap Rows e; bytes = p ∙ ap (λ (i : ℕ). encodeAll xs ++ drop (i * rowSize) lent) e })
+
+-- rows poured into bytes, with room or without
+pub begun : (xs : List ReportRow) (l own : List ℕ) (k : ℕ) → length own ≡ length l → Poured offerAt l 0 own k xs → Begun xs own
+begun xs l own k s p h =
+    ap (λ (m : List ℕ). take (length xs * rowSize) m) (p .written ∙ pour-all l xs (omega arith))
+    ∙ take-at (encodeAll xs) (drop (length xs * rowSize) l) (length xs * rowSize) (length-all xs)
+
+-- and copied from there
+pub copied :
+    (xs : List ReportRow) (lent own : List ℕ) (n : ℕ) → Begun xs own → n ≡ length xs → n * rowSize ≤ length own
+    → paste lent 0 own (n * rowSize) ≡ encodeAll xs ++ drop (n * rowSize) lent
+copied xs lent own n b e h =
+    let z : 0 + n * rowSize ≡ n * rowSize = omega arith in
+    let k : length xs * rowSize ≡ n * rowSize = omega arith in
+    let t : take (n * rowSize) own ≡ encodeAll xs = rw k at (b (omega arith)) in
+    rw z (ap (λ (m : List ℕ). m ++ drop (n * rowSize) lent) t)
+
+-- or poured at once into what was lent
+pub poured :
+    (xs : List ReportRow) (lent left : List ℕ) (n k : ℕ) → n ≡ length xs → n * rowSize ≤ length lent → Poured offerAt lent 0 left k xs
+    → left ≡ encodeAll xs ++ drop (n * rowSize) lent
+poured xs lent left n k e h p = p .written ∙ pour-all lent xs (omega arith) ∙ ap (λ (i : ℕ). encodeAll xs ++ drop (i * rowSize) lent) (sym e)
 
 -- ---- the whole call
 

@@ -1,10 +1,10 @@
 -- The trustee's table report (document 02, 5).
-use Prim.Native.Nat.{ℕ, _+_, _*_, _-_, _/_}
+use Prim.Native.Nat.{ℕ, _+_, _*_, _/_, _≤_}
 use mathlib.Core.Bool.{cond}
 use mathlib.Core.List.{List, [], _∷_, _++_, map}
 use mathlib.Core.Path.{_≡_}
 use lib.Dec.{eqb, ltb}
-use lib.ListN.{length, drop}
+use lib.ListN.{length, take, drop}
 use Rattle.codes.specs.Refusal.{Test, test, refusalOf}
 use Rattle.codes.specs.declared.Checked.{Checked}
 use Rattle.codes.specs.declared.Checked.the-variants.{Accepted, Refused}
@@ -95,6 +95,10 @@ bytesOf (Refused n) xs lent = lent
 pub record Answered (c : Checked) (xs : List ReportRow) (lent left : List ℕ) (answer : TableReport) : Type 0 where
   pub answered : answer ≡ answerOf c xs
   pub bytes : left ≡ bytesOf c xs lent
+
+-- bytes with room for all the rows begin with them
+abbrev pub Begun : List ReportRow → List ℕ → Type 0
+Begun xs own = length xs * rowSize ≤ length own → take (length xs * rowSize) own ≡ encodeAll xs
 
 -- rows that have only their number against them
 abbrev pub Filled : List ReportRow → List ℕ → List ℕ → TableReport → Type 0

@@ -1,6 +1,6 @@
 // The trustee's table report: the pairs of bands, of data segments and of privileges of one class that share a stretch, and the stretches
 // of the data segments that no privilege of a class covers, as rows in lent bytes. A public call. It uses codes, profile, layout, table,
-// image, sweep and report_rows; its laws use lists and order.
+// image, sweep, bytes and report_rows; its laws use lists and order.
 use codes::Checked;
 use layout::Record;
 use profile::Range;
@@ -9,18 +9,18 @@ use sweep::Members;
 use sweep::Ranges;
 use sweep::Swept;
 ghost use mathlib.Core.Path.{_≡_};
-ghost use mathlib.Core.List.{map};
-ghost use Prim.Native.Nat.{_+_, _-_, _≤_, _<_};
-ghost use lib.ListN.{length};
+ghost use mathlib.Core.List.{_++_, map};
+ghost use Prim.Native.Nat.{_+_, _*_, _-_, _≤_, _<_};
+ghost use lib.ListN.{length, drop};
 ghost use Rattle.lists.specs.Pour.{Poured};
 ghost use Rattle.layout.specs.Form.{Whole};
 ghost use Rattle.table.specs.Table.{tableOf};
 ghost use Rattle.sweep.specs.Sweep.{rangesOf};
 ghost use Rattle.sweep.specs.declared.Members.the-variants.{OfClass};
-ghost use Rattle.report_rows.specs.Rows.{offerAt};
+ghost use Rattle.report_rows.specs.Rows.{encodeAll, offerAt};
 ghost use Rattle.report.specs.Gaps.{ofPart, leftFrom};
 ghost use Rattle.report.specs.Report.{pairMembers, pairClass, overlapRow, pairRows, overlapRows};
-ghost use Rattle.report.specs.Report.{gapRow, gapsIn, gapRows, reportRows, Filled, Reported};
+ghost use Rattle.report.specs.Report.{gapRow, gapsIn, gapRows, reportRows, Begun, Filled, Reported};
 
 // A report of so many rows, or the number of the refusal.
 pub enum TableReport {
@@ -29,6 +29,9 @@ pub enum TableReport {
 }
 
 const GAP: u8 = 255;
+
+// The bytes that rows are counted on: 64 rows. A report of no more takes one pass.
+const OWN: usize = 1536;
 
 // With which records of table t a record makes a pair, and the class of such a pair.
 fn pair_members(t: usize, r: Record) -> Members
@@ -178,17 +181,40 @@ fn gather(image: &[u8], rows: &mut [u8], class: u8) -> usize
     gap_rows(image, rows, class, c)
 }
 
-// Counts the rows, refuses where too few whole rows are lent, and writes them where they fit.
+// Writes the rows, which fit: from the bytes that they were counted on, where these had room for all, and else by one more pass.
+fn settle(image: &[u8], rows: &mut [u8], class: u8, own: &[u8], count: usize)
+    requires { ⌜ (Whole (now image)) × (Begun (reportRows (tableOf (now image)) class) (now own))
+        × (count ≡ length (reportRows (tableOf (now image)) class)) × (count * 24 ≤ length (now rows)) ⌝ }
+    ensures { λ r. ⌜ now (rows .exit) ≡ encodeAll (reportRows (tableOf (now (image .entry))) class) ++ drop (count * 24) (now (rows .entry)) ⌝ }
+{
+    let room = count * report_rows::ROW_SIZE;
+    if room <= own.len() {
+        bytes::copy(rows, own, room);
+        return;
+    }
+    gather(image, rows, class);
+}
+
+// Counts the rows on bytes of their own, refuses where too few whole rows are lent, and writes them where they fit.
+fn fill_from(image: &[u8], class: u8, rows: &mut [u8], own: &mut [u8]) -> TableReport
+    requires { ⌜ Whole (now image) ⌝ }
+    ensures { λ a. ⌜ Filled (reportRows (tableOf (now (image .entry))) class) (now (rows .entry)) (now (rows .exit)) a ⌝ }
+{
+    let count = gather(image, own, class);
+    if rows.len() / report_rows::ROW_SIZE < count {
+        return TableReport::Refused(25);
+    }
+    settle(image, rows, class, own, count);
+    TableReport::Rows(count)
+}
+
+// The same with bytes made for it.
 fn fill(image: &[u8], class: u8, rows: &mut [u8]) -> TableReport
     requires { ⌜ Whole (now image) ⌝ }
     ensures { λ a. ⌜ Filled (reportRows (tableOf (now (image .entry))) class) (now (rows .entry)) (now (rows .exit)) a ⌝ }
 {
-    let count = gather(image, &mut rows[..0], class);
-    if rows.len() / report_rows::ROW_SIZE < count {
-        return TableReport::Refused(25);
-    }
-    gather(image, rows, class);
-    TableReport::Rows(count)
+    let mut own = [0u8; OWN];
+    fill_from(image, class, rows, &mut own)
 }
 
 // The overlaps and gaps of an image's table, for a licence class, as rows of 24 bytes.

@@ -5,7 +5,7 @@ use mathlib.Core.Path.{_≡_, refl, sym, ap, _∙_}
 use native.Mathlib.Omega.{arith}
 use lib.ListN.{length, take, drop, length-append, length-drop}
 use lib.Seq.{sets, sets-eq, drop-drop, drop-at, take-at, drop-append-add}
-use borrow.Author.Tests.{lt-ltb, le-ltb}
+use borrow.Author.Tests.{lt-ltb}
 use Rattle.bytes.specs.Bytes.{little, figureBytes}
 use Rattle.bytes.specs.Laws.{eight, length-little, sets-next}
 use Rattle.lists.specs.Pour.{pour}
@@ -104,13 +104,3 @@ pour-behind (x ∷ xs) n held rest e h =
 pub pour-all :
     (l : List ℕ) (xs : List ReportRow) → length xs * rowSize ≤ length l → pour offerAt l 0 xs ≡ encodeAll xs ++ drop (length xs * rowSize) l
 pour-all l xs h = pour-behind xs 0 [] l refl h
-
--- Bytes without room for one row stay.
-pour-none : (xs : List ReportRow) (n : ℕ) → pour offerAt [] n xs ≡ []
-unfolding pour offerAt
-pour-none [] n = refl
-pour-none (x ∷ xs) n = rw (le-ltb n 0 (omega arith)) (pour-none xs (suc n))
-
--- Rows that are only counted: nothing is written.
-pub pour-count : (l part : List ℕ) (xs : List ReportRow) → part ≡ pour offerAt (take 0 l) 0 xs → part ++ drop 0 l ≡ l
-pour-count l part xs e = rw (e ∙ pour-none xs 0)

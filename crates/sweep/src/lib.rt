@@ -1,5 +1,6 @@
 // The ranges of one table against a window: the first record from an index on that shares a stretch of positive length with it, for
-// whichever table and class it is given. The overlaps and the gaps of a table report both go by it. It uses profile, layout and table.
+// whichever table and class it is given. The overlaps and the gaps of a table report both go by it. It uses profile, layout and
+// table; its laws use apart and lists.
 use layout::Record;
 use profile::Range;
 use profile::Shared;
@@ -56,7 +57,15 @@ fn shared_with(m: Members, window: Range, r: Record) -> Shared
     ensures { λ x. ⌜ x ≡ sharedWith m window r ⌝ }
 {
     if is_member(m, r) {
-        return profile::intersect(table::span_of(r), window);
+        let span = table::span_of(r);
+        // Most lie apart, which two tests tell.
+        if span.high_hz <= window.low_hz {
+            return Shared::Nothing;
+        }
+        if window.high_hz <= span.low_hz {
+            return Shared::Nothing;
+        }
+        return profile::intersect(span, window);
     }
     Shared::Nothing
 }
