@@ -12,7 +12,7 @@ pub struct Group {
     pub third: u8,
 }
 
-// The table, for who writes several groups.
+// The table. It is laid on the stack of who asks for it, so it is asked for once and lent.
 pub fn groups() -> [u16; 1000]
     ensures { λ r. ⌜ Ruled entryOf r ⌝ }
 {

@@ -42,12 +42,33 @@ module _ (n : ℕ) where
       let b = rw (a, le-ltb rest 10 k) at (c .more) in
       record { some = omega arith; within = omega arith; more = omega (arith, b) }
 
+  -- three digits at once
+  pub count-three : (rest count : ℕ) → Counting n rest count → count ≤ 10 → 1000 ≤ rest → Counting n (rest / 1000) (count + 3)
+  count-three rest count c h k =
+      let a = count-step rest count c (omega arith) (omega arith) in
+      let b = count-step (rest / 10) (count + 1) a (omega arith) (omega arith) in
+      let d = count-step (rest / 10 / 10) (count + 1 + 1) b (omega arith) (omega arith) in
+      let e : rest / 10 / 10 / 10 ≡ rest / 1000 = omega arith in
+      let f : count + 1 + 1 + 1 ≡ count + 3 = omega arith in
+      rw (e, f) at d
+
   pub count-few : (rest count : ℕ) → Counting n rest count → count < 13 → rest < 10 → count ≡ digitCount 12 n
   unfolding digitCount
   count-few rest count c h k =
       let a : 13 - count ≡ suc (13 - (count + 1)) = omega arith in
       let b = rw (a, lt-ltb rest 10 k) at (c .more) in
       omega (arith, b)
+
+  pub count-two : (rest count : ℕ) → Counting n rest count → count ≤ 10 → 10 ≤ rest → rest < 100 → count + 1 ≡ digitCount 12 n
+  count-two rest count c h k t =
+      count-few (rest / 10) (count + 1) (count-step rest count c (omega arith) k) (omega arith) (omega arith)
+
+  pub count-all : (rest count : ℕ) → Counting n rest count → count ≤ 10 → 100 ≤ rest → rest < 1000 → count + 2 ≡ digitCount 12 n
+  count-all rest count c h k t =
+      let a = count-step rest count c (omega arith) (omega arith) in
+      let b = count-step (rest / 10) (count + 1) a (omega arith) (omega arith) in
+      let e : count + 1 + 1 ≡ count + 2 = omega arith in
+      sym e ∙ count-few (rest / 10 / 10) (count + 1 + 1) b (omega arith) (omega arith)
 
   pub count-end : (rest count : ℕ) → Counting n rest count → 13 ≤ count → count ≡ digitCount 12 n
   unfolding digitCount

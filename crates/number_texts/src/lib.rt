@@ -21,7 +21,7 @@ pub enum TextAnswer {
     Refused(u8),
 }
 
-// How many digits a number has, of at most 13.
+// How many digits a number has, of at most 13, three at a time.
 fn digit_count(n: u64) -> usize
     ensures { λ r. ⌜ r ≡ digitCount 12 n ⌝ }
 {
@@ -31,8 +31,14 @@ fn digit_count(n: u64) -> usize
         if rest < 10 {
             return count;
         }
-        rest = rest / 10;
-        count += 1;
+        if rest < 100 {
+            return count + 1;
+        }
+        if rest < 1000 {
+            return count + 2;
+        }
+        rest = rest / 1000;
+        count += 3;
     }
     count
 }
