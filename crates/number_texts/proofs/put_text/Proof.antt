@@ -20,7 +20,8 @@ put-sign-requires c κs =
 put-digits-requires : tie.Need-put-digits-requires
 put-digits-requires c κs =
     let a = c .before .before .before .before .before .before .before .before .before .args in
-    let h = roomy (a .negative) (a .whole) (a .places) (a .part) _ (c .before .before .before .before .before .before .before .before .before .pre .1) .number in (
+    let h = roomy (a .negative) (a .whole) (a .places) (a .part) _
+    (c .before .before .before .before .before .before .before .before .before .pre .1) .number in (
       c .before .before .before .before .before .before .before .groups .ensures,
       omega (
         arith,
