@@ -16,6 +16,8 @@ use Rattle.figures.specs.Figure.{inSize}
 use Rattle.codes.specs.Refusal.{test, refusalOf}
 use Rattle.decimal.specs.Decimal.{decimalRounded}
 use Rattle.decimal.specs.declared.Decimal.{Decimal}
+use Rattle.digit_groups.specs.Group.{groupOf}
+use Rattle.digit_groups.specs.declared.Group.{Group}
 use Rattle.decimal.specs.Within.{Within, limit43, ten, in-size-within, within-more, div-within, mul-within}
 use Rattle.number_texts.specs.declared.TextAnswer.{TextAnswer}
 use Rattle.number_texts.specs.declared.TextAnswer.the-variants.{Length, Refused as NoText}
@@ -40,12 +42,33 @@ module _ (n : ℕ) where
       let b = rw (a, le-ltb rest 10 k) at (c .more) in
       record { some = omega arith; within = omega arith; more = omega (arith, b) }
 
+  -- three digits at once
+  pub count-three : (rest count : ℕ) → Counting n rest count → count ≤ 10 → 1000 ≤ rest → Counting n (rest / 1000) (count + 3)
+  count-three rest count c h k =
+      let a = count-step rest count c (omega arith) (omega arith) in
+      let b = count-step (rest / 10) (count + 1) a (omega arith) (omega arith) in
+      let d = count-step (rest / 10 / 10) (count + 1 + 1) b (omega arith) (omega arith) in
+      let e : rest / 10 / 10 / 10 ≡ rest / 1000 = omega arith in
+      let f : count + 1 + 1 + 1 ≡ count + 3 = omega arith in
+      rw (e, f) at d
+
   pub count-few : (rest count : ℕ) → Counting n rest count → count < 13 → rest < 10 → count ≡ digitCount 12 n
   unfolding digitCount
   count-few rest count c h k =
       let a : 13 - count ≡ suc (13 - (count + 1)) = omega arith in
       let b = rw (a, lt-ltb rest 10 k) at (c .more) in
       omega (arith, b)
+
+  pub count-two : (rest count : ℕ) → Counting n rest count → count ≤ 10 → 10 ≤ rest → rest < 100 → count + 1 ≡ digitCount 12 n
+  count-two rest count c h k t =
+      count-few (rest / 10) (count + 1) (count-step rest count c (omega arith) k) (omega arith) (omega arith)
+
+  pub count-all : (rest count : ℕ) → Counting n rest count → count ≤ 10 → 100 ≤ rest → rest < 1000 → count + 2 ≡ digitCount 12 n
+  count-all rest count c h k t =
+      let a = count-step rest count c (omega arith) (omega arith) in
+      let b = count-step (rest / 10) (count + 1) a (omega arith) (omega arith) in
+      let e : count + 1 + 1 ≡ count + 2 = omega arith in
+      sym e ∙ count-few (rest / 10 / 10) (count + 1 + 1) b (omega arith) (omega arith)
 
   pub count-end : (rest count : ℕ) → Counting n rest count → 13 ≤ count → count ≡ digitCount 12 n
   unfolding digitCount
@@ -73,6 +96,15 @@ count-most (suc more) n = go (ltb n 10) (count-most more (n / 10))
     go false h = omega arith
 
 -- ---- digits put from the last one back
+
+-- a group of three digits, from a place on, and the room that it takes
+pub record Room (l : List ℕ) (at : ℕ) : Type 0 where
+  pub first : at < length l
+  pub second : at + 1 < length l
+  pub third : at + 2 < length l
+
+abbrev pub groupSet : List ℕ → ℕ → Group → List ℕ
+groupSet l at g = set (set (set l (at + 2) (g .third)) (at + 1) (g .second)) at (g .first)
 
 pub length-digits : (count n : ℕ) → length (digits count n) ≡ count
 unfolding digits
@@ -114,11 +146,34 @@ module _ (l₀ : List ℕ) (at count n : ℕ) where
         held = sym (last (left - 1) rest l) ∙ ap (λ (k : ℕ). sets l at (digits k rest)) (sym a) ∙ d .held;
       }
 
-  pub digit-done : (l : List ℕ) (rest left : ℕ) → Digiting l₀ at count n l rest left → left ≤ 0 → l ≡ sets l₀ at (digits count n)
+  -- three digits at once
+  pub digit-three :
+      (l : List ℕ) (rest left : ℕ) → Digiting l₀ at count n l rest left → 3 ≤ left
+      → Digiting l₀ at count n (groupSet l (at + (left - 3)) (groupOf rest)) (rest / 1000) (left - 3)
+  digit-three l rest left d h =
+      let a = digit-step l rest left d (omega arith) in
+      let b = digit-step _ (rest / 10) (left - 1) a (omega arith) in
+      let c = digit-step _ (rest / 10 / 10) (left - 1 - 1) b (omega arith) in
+      let e : rest / 10 / 10 / 10 ≡ rest / 1000 = omega arith in
+      let f : rest / 10 / 10 ≡ rest / 100 = omega arith in
+      let i : left - 1 - 1 - 1 ≡ left - 3 = omega arith in
+      let j : at + (left - 1 - 1) ≡ at + (left - 3) + 1 = omega arith in
+      let k : at + (left - 1) ≡ at + (left - 3) + 2 = omega arith in
+      rw (e, f, i, j, k) at c
+
+-- fewer than three digits
+module _ (l : List ℕ) (at n : ℕ) where
+  pub first-none : l ≡ sets l at (digits 0 n)
   unfolding digits
-  digit-done l rest left d h =
-      let a : left ≡ 0 = omega arith in
-      rw a at (d .held)
+  first-none = refl
+
+  pub first-one : set l at (48 + n % 10) ≡ sets l at (digits 1 n)
+  unfolding digits
+  first-one = refl
+
+  pub first-two : set (set l (at + 1) (48 + n % 10)) at (48 + n / 10 % 10) ≡ sets l at (digits 2 n)
+  unfolding digits
+  first-two = rw (add-one at) (sym (set-comm l at (suc at) (48 + n / 10 % 10) (48 + n % 10) (λ e. omega (arith, e))))
 
 -- ---- the parts of a text
 

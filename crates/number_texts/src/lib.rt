@@ -1,13 +1,16 @@
 // The number texts of a panel and a log, in lent bytes: the texts of the Rust's `at` and `khz`, and whole hertz. Digits are made in
-// whole numbers alone. It uses figures and decimal; its definitions use codes, its laws bytes.
+// whole numbers alone, three at a time. It uses figures, decimal and digit_groups; its definitions use codes, its laws bytes.
 ghost use mathlib.Core.Path.{_≡_};
 ghost use Prim.Native.Nat.{_+_, _≤_, _<_, _^_};
 ghost use lib.ListN.{length};
 ghost use lib.Seq.{sets};
 ghost use Rattle.decimal.specs.Within.{Within};
+ghost use Rattle.digit_groups.specs.Group.{entryOf};
+ghost use Rattle.digit_groups.specs.Table.{Ruled};
 ghost use Rattle.number_texts.specs.Text.{digits, digitCount, signText, pointText, written, textOf, nearWhole, khzPlaces};
 ghost use Rattle.number_texts.specs.Text.{atText, khzText, hertzText, Texted};
-ghost use Rattle.number_texts.specs.Laws.{pointLength, Shown};
+ghost use Rattle.number_texts.specs.Laws.{Room, groupSet, pointLength, Shown};
+use digit_groups::Group;
 
 // The limit on a figure that is written, 2^43.
 pub const LIMIT: f64 = 8796093022208.0;
@@ -18,7 +21,7 @@ pub enum TextAnswer {
     Refused(u8),
 }
 
-// How many digits a number has, of at most 13.
+// How many digits a number has, of at most 13, three at a time.
 fn digit_count(n: u64) -> usize
     ensures { λ r. ⌜ r ≡ digitCount 12 n ⌝ }
 {
@@ -28,24 +31,58 @@ fn digit_count(n: u64) -> usize
         if rest < 10 {
             return count;
         }
-        rest = rest / 10;
-        count += 1;
+        if rest < 100 {
+            return count + 1;
+        }
+        if rest < 1000 {
+            return count + 2;
+        }
+        rest = rest / 1000;
+        count += 3;
     }
     count
 }
 
-// The last so many digits of a number, from a place on.
-fn put_digits(out: &mut [u8], at: usize, count: usize, n: u64)
-    requires { ⌜ at + count ≤ length (now out) ⌝ }
+// A group of three digits, from a place on.
+fn put_group(out: &mut [u8], at: usize, g: Group)
+    requires { ⌜ Room (now out) at ⌝ }
+    ensures { λ r. ⌜ now (out .exit) ≡ groupSet (now (out .entry)) at g ⌝ }
+{
+    out[at + 2] = g.third;
+    out[at + 1] = g.second;
+    out[at] = g.first;
+}
+
+// The first digits of a number, where they are fewer than three.
+fn put_first(out: &mut [u8], groups: &[u16; 1000], at: usize, count: usize, n: u64)
+    requires { ⌜ Ruled entryOf (now groups) × ((count < 3) × (at + count ≤ length (now out))) ⌝ }
+    ensures { λ r. ⌜ now (out .exit) ≡ sets (now (out .entry)) at (digits count n) ⌝ }
+{
+    if count == 0 {
+        return;
+    }
+    let g = digit_groups::last_three(groups, n);
+    if count == 1 {
+        out[at] = g.third;
+        return;
+    }
+    out[at + 1] = g.third;
+    out[at] = g.second;
+}
+
+// The last so many digits of a number, from a place on, three at a time.
+fn put_digits(out: &mut [u8], groups: &[u16; 1000], at: usize, count: usize, n: u64)
+    requires { ⌜ Ruled entryOf (now groups) × (at + count ≤ length (now out)) ⌝ }
     ensures { λ r. ⌜ now (out .exit) ≡ sets (now (out .entry)) at (digits count n) ⌝ }
 {
     let mut rest = n;
     let mut left = count;
-    while 0 < left {
-        left -= 1;
-        out[at + left] = 48 + (rest % 10) as u8;
-        rest = rest / 10;
+    while 3 <= left {
+        left -= 3;
+        put_group(out, at + left, digit_groups::last_three(groups, rest));
+        rest = rest / 1000;
     }
+    put_first(out, groups, at, left, rest);
 }
 
 // A sign, where there is one.
@@ -59,15 +96,15 @@ fn put_sign(out: &mut [u8], negative: bool)
 }
 
 // The point and the digits after it, where there are places.
-fn put_point(out: &mut [u8], at: usize, places: usize, part: u64)
-    requires { ⌜ at + length (pointText places part) ≤ length (now out) ⌝ }
+fn put_point(out: &mut [u8], groups: &[u16; 1000], at: usize, places: usize, part: u64)
+    requires { ⌜ Ruled entryOf (now groups) × (at + length (pointText places part) ≤ length (now out)) ⌝ }
     ensures { λ r. ⌜ now (out .exit) ≡ sets (now (out .entry)) at (pointText places part) ⌝ }
 {
     if places == 0 {
         return;
     }
     out[at] = 46;
-    put_digits(out, at + 1, places, part);
+    put_digits(out, groups, at + 1, places, part);
 }
 
 // How many bytes a sign takes, and a point with so many places.
@@ -89,10 +126,11 @@ fn put_text(out: &mut [u8], negative: bool, whole: u64, width: usize, places: us
     requires { ⌜ (width ≡ digitCount 12 whole) × (length (written negative whole places part) ≤ length (now out)) ⌝ }
     ensures { λ r. ⌜ now (out .exit) ≡ sets (now (out .entry)) 0 (written negative whole places part) ⌝ }
 {
+    let groups = digit_groups::groups();
     let sign = sign_length(negative);
     put_sign(out, negative);
-    put_digits(out, sign, width, whole);
-    put_point(out, sign + width, places, part);
+    put_digits(out, &groups, sign, width, whole);
+    put_point(out, &groups, sign + width, places, part);
 }
 
 // The text of a figure with so many places, in the bytes lent. Its length comes first.

@@ -1,44 +1,49 @@
 -- `number_texts::put_digits` meets its contract: at each turn the digits that are left, put where they belong, make the whole.
+use mathlib.Core.Path.{_∙_}
 use native.Mathlib.Omega.{arith}
-use Rattle.number_texts.specs.Laws.{Digiting, digit-none, digit-step, digit-done}
+use Rattle.number_texts.specs.Laws.{Digiting, digit-none, digit-three}
+use borrow.Author.Needs.{needs}
 use Rattle.number_texts.proofs.put_digits.Statement.{statement}
 use Rattle.number_texts.proofs.put_digits.Tie as tie
 
 abbrev Inv-loop : tie.InvT-loop
-Inv-loop out₀ at count n rest₀ left₀ out rest left = Digiting out₀ at count n out rest left
+Inv-loop out₀ groups at count n rest₀ left₀ out rest left = Digiting out₀ at count n out rest left
 
 abbrev μ-loop : tie.MeasureT-loop
-μ-loop out₀ at count n rest₀ left₀ out rest left = left
+μ-loop out₀ groups at count n rest₀ left₀ out rest left = left
 
 loop-holds : tie.Need-loop-holds Inv-loop μ-loop
 loop-holds c = digit-none _ _ _ _
 
-sub-left : tie.Need-sub-left Inv-loop μ-loop
-sub-left c = omega arith
+add-put-group : tie.Need-add-put-group Inv-loop μ-loop
+add-put-group c = omega arith
 
-cast-out : tie.Need-cast-out Inv-loop μ-loop
-cast-out c = omega arith
+last-three-requires : tie.Need-last-three-requires Inv-loop μ-loop
+last-three-requires c κs = c .before .before .before .before .pre .0
 
-add-out : tie.Need-add-out Inv-loop μ-loop
-add-out c = omega arith
-
-add-out-2 : tie.Need-add-out-2 Inv-loop μ-loop
-add-out-2 c = omega arith
-
-slice-write-out : tie.Need-slice-write-out Inv-loop μ-loop
-slice-write-out c = omega arith
+put-group-requires : tie.Need-put-group-requires Inv-loop μ-loop
+put-group-requires c κs =
+    let i = c .before .before .before .loop .inv in
+    record { first = omega (arith, i); second = omega (arith, i); third = omega (arith, i) }
 
 loop-less : tie.Need-loop-less Inv-loop μ-loop
 loop-less c = omega arith
 
 loop-again : tie.Need-loop-again Inv-loop μ-loop
-loop-again c = digit-step _ _ _ _ _ _ _ (c .before .loop .inv) (c .loop-test .taken)
+loop-again c =
+    rw (c .before .before .put-group .ensures)
+    (rw (c .before .before .before .last-three .ensures)
+    (digit-three _ _ _ _ _ _ _ (c .before .before .before .before .before .before .loop .inv)
+    (c .before .before .before .before .before .loop-test .taken)))
+
+put-first-requires : tie.Need-put-first-requires Inv-loop μ-loop
+put-first-requires c κs = (c .before .before .before .before .pre .0, (c .before .loop-test .left, omega (arith, c .before .before .loop .inv)))
 
 same-length : tie.Need-same-length Inv-loop μ-loop
-same-length c = c .before .loop .inv .same
+same-length c = c .before .before .put-first .kept .0 ∙ c .before .before .before .before .before .loop .inv .same
 
 returns : tie.Need-returns Inv-loop μ-loop
-returns c = digit-done _ _ _ _ _ _ _ (c .before .loop .inv) (c .loop-test .left)
+returns c = c .before .before .put-first .ensures ∙ c .before .before .before .before .before .loop .inv .held
 
 pub put-digits-spec : {M : Type 1} → statement M
 put-digits-spec =
@@ -47,12 +52,11 @@ put-digits-spec =
     Inv-loop
     μ-loop
     loop-holds
-    sub-left
-    cast-out
-    add-out
-    add-out-2
-    slice-write-out
+    add-put-group
+    last-three-requires
+    put-group-requires
     loop-less
     loop-again
+    put-first-requires
     same-length
     returns)
