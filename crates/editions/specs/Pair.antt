@@ -120,7 +120,7 @@ form-of l edition a b ends n few ends-at =
 at-seam : (p q : List ℕ) (n i : ℕ) → length p ≡ n → byteAt (p ++ q) (n + i) ≡ byteAt q i
 at-seam p q n i e = ap (λ (k : ℕ). byteAt (p ++ q) (k + i)) (sym e) ∙ getD-append-add p q i 0
 
-past-seam : (p q : List ℕ) (n i : ℕ) → length p ≡ n → drop (n + i) (p ++ q) ≡ drop i q
+pub past-seam : (p q : List ℕ) (n i : ℕ) → length p ≡ n → drop (n + i) (p ++ q) ≡ drop i q
 past-seam p q n i e = ap (λ (k : ℕ). drop (k + i) (p ++ q)) (sym e) ∙ drop-append-add p q i
 
 abbrev pub fixedBytes : List ℕ
