@@ -5,9 +5,9 @@ use mathlib.Core.Bool.{Bool, true, false, cond, not, _&&_, _||_}
 use mathlib.Core.List.{List, [], _∷_, _++_}
 use mathlib.Core.Path.{_≡_, refl, sym, ap, ap₂, subst, _∙_}
 use native.Mathlib.Omega.{arith}
-use borrow.Author.Tests.{eqb-true, eq-eqb, not-false}
+use borrow.Author.Tests.{eqb-true, not-false}
 use lib.Dec.{eqb}
-use lib.ListN.{length, getD, take, drop, take-append-drop, length-append, length-take, length-drop}
+use lib.ListN.{length, take, drop, take-append-drop, length-drop}
 use lib.Seq.{length-take-le, drop-drop, ext-getD, getD-take, getD-drop}
 use lib.Ieee.{Float}
 use Rattle.scan.specs.Laws.{and-true}
@@ -20,7 +20,7 @@ use Rattle.layout.specs.Bytes.{byteAt, u16At, u32At, u64At}
 use Rattle.layout.specs.Layout.{generalSize, wattsSize, trailerSize, trailerOf, lettersOf, editionOf, distanceBack, fixedChannelWatts, fixedSegmentWatts}
 use Rattle.layout.specs.Layout.{wattsAt, generalOf}
 use Rattle.layout.specs.declared.General.{General}
-use Rattle.layout.specs.Form.{letters, letterRight, lettersWrong, overfull, lengthWrong, distanceWrong, formTests, Whole}
+use Rattle.layout.specs.Form.{letters, letterRight, overfull, lengthWrong, distanceWrong, formTests, Whole}
 use Rattle.layout.specs.Laws.{or-false-both, whole-of}
 use Rattle.table.specs.Table.{Table, tableOf}
 use Rattle.image.specs.Check.{contentTests, checkOf}
@@ -32,9 +32,8 @@ use Rattle.ceiling.specs.Ceiling.{ceilingOf}
 use Rattle.dials.specs.List.{SafeDials}
 use Rattle.dials.specs.declared.DialList.{DialList}
 use Rattle.distance.specs.Distance.{distanceOf}
-use Rattle.bytes.specs.Bytes.{little}
 use Rattle.given.specs.Tests.{neitherEdition}
-use Rattle.writer.specs.Image.{littles, wattsBytes, endBytes}
+use Rattle.writer.specs.Image.{wattsBytes, endBytes}
 use Rattle.writer.specs.Laws.{watts-length, end-length}
 use Rattle.convert.specs.Convert.{fromTests, otherWatts, raiseTests, lowerTests, movedOf, raisedOf, loweredOf}
 use Rattle.convert.specs.Laws.{from-same, second-sized}

@@ -1,27 +1,26 @@
 -- What the writer writes is accepted, and holds the table of the fields and records given; and it "refuses with the number that its image
 -- would get" (document 02, 6).
 use Prim.Native.Nat.{ℕ, zero, suc, _+_, _*_, _^_, _≤_, _<_}
-use mathlib.Core.Bool.{Bool, true, false, not, cond, _&&_, _||_}
-use mathlib.Core.List.{List, [], _∷_, _++_, append-assoc}
+use mathlib.Core.Bool.{Bool, true, false, not, cond, _||_}
+use mathlib.Core.List.{List, [], _++_, append-assoc}
 use mathlib.Core.Path.{_≡_, refl, sym, ap, ap₂, fun-ext, _∙_}
 use native.Mathlib.Omega.{arith}
 use native.Mathlib.Decide.{decLe}
 use borrow.Author.Tests.{lt-ltb, le-ltb, eq-eqb, ltb-true, ltb-false}
 use lib.Dec.{T, eqb, ltb}
-use lib.ListN.{length, getD, take, drop, length-append}
+use lib.ListN.{length, getD, take, drop}
 use lib.Seq.{drop-at, take-at}
 use lib.Ieee.{Float, nan, binary64, fits, toBits}
 use lib.Ieee.Bits.{toBits-lt}
-use Rattle.scan.specs.First.{some}
 use Rattle.scan.specs.Laws.{some-same}
-use Rattle.codes.specs.Refusal.{Test, refusalOf}
+use Rattle.codes.specs.Refusal.{refusalOf}
 use Rattle.codes.specs.Laws.{refusal-both}
 use Rattle.codes.specs.declared.Checked.{Checked}
 use Rattle.codes.specs.declared.Checked.the-variants.{Accepted, Refused}
 use Rattle.layout.specs.Bytes.{byteAt, u16At, u32At, u64At}
-use Rattle.layout.specs.Layout.{generalSize, wattsSize, recordSize, trailerSize, tables, trailerOf, editionOf, countOf, fixedChannelWatts, fixedSegmentWatts}
+use Rattle.layout.specs.Layout.{generalSize, wattsSize, recordSize, tables, trailerOf, countOf, fixedChannelWatts, fixedSegmentWatts}
 use Rattle.layout.specs.Layout.{distanceBack, wattsAt, generalOf, recordsBefore, tablesFrom, recordAt, recordOf}
-use Rattle.layout.specs.Form.{sizeWrong, lettersWrong, editionWrong, overfullAt, overfull, lengthWrong, distanceWrong, countsWrong, formTests}
+use Rattle.layout.specs.Form.{sizeWrong, lettersWrong, editionWrong, overfullAt, overfull, distanceWrong, countsWrong}
 use Rattle.layout.specs.declared.Record.{Record}
 use Rattle.layout.specs.declared.General.{General}
 use Rattle.table.specs.Table.{Table, countIn, recordIn, tableOf}
@@ -35,11 +34,11 @@ use Rattle.given.specs.declared.Fields.{Fields}
 use Rattle.given.specs.Given.{Runs, countFrom, beforeFrom, recordFrom, generalFrom, countGiven, recordGiven, tableWith, tableFrom}
 use Rattle.given.specs.Tests.{tooMany, neitherEdition, overfullFrom, runsWrong, givenWrong, givenTests}
 use Rattle.given.specs.Laws.{before-within, count-given, record-given, sound-of}
-use Rattle.writer.specs.declared.ImageAnswer.the-variants.{Length, Refused as NoImage}
+use Rattle.writer.specs.declared.ImageAnswer.the-variants.{Length}
 use Rattle.writer.specs.Image.{littles, recordBytes, blockBytes, wattsBytes, moreBytes, countBytes, endBytes, recordsBytes, tablesAt, trailerAt, imageOf}
-use Rattle.writer.specs.Write.{roomTest, imageAnswer, imageBytes, imageFrom, writeTests, Left, Written}
+use Rattle.writer.specs.Write.{roomTest, imageAnswer, imageBytes, imageFrom, writeTests, Written}
 use Rattle.writer.specs.Laws.{each-length, record-length, block-length, more-length, records-length, counts-length, image-length}
-use Rattle.editions.specs.Alike.{Alike, alike-drop, u16-alike, u64-alike, record-alike, byte-little, u16-little, u32-little}
+use Rattle.editions.specs.Alike.{alike-drop, u16-alike, u64-alike, record-alike, byte-little, u16-little, u32-little}
 use Rattle.editions.specs.Pair.{Ends, ends-of, past-seam}
 
 -- ---- numbers of their types
