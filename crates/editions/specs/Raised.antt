@@ -32,12 +32,14 @@ use Rattle.ceiling.specs.Ceiling.{ceilingOf}
 use Rattle.dials.specs.List.{SafeDials}
 use Rattle.dials.specs.declared.DialList.{DialList}
 use Rattle.distance.specs.Distance.{distanceOf}
+use Rattle.report.specs.Report.{Reported}
+use Rattle.report.specs.declared.TableReport.{TableReport}
 use Rattle.given.specs.Tests.{neitherEdition}
 use Rattle.writer.specs.Image.{wattsBytes, endBytes}
 use Rattle.writer.specs.Laws.{watts-length, end-length}
 use Rattle.convert.specs.Convert.{fromTests, otherWatts, raiseTests, lowerTests, movedOf, raisedOf, loweredOf}
 use Rattle.convert.specs.Laws.{from-same, second-sized}
-use Rattle.same_table.specs.Same.{InForm, check-same, tidy-same, fault-same, evaluate-same, unmeasured-same, ceiling-same, list-same}
+use Rattle.same_table.specs.Same.{InForm, check-same, tidy-same, fault-same, evaluate-same, unmeasured-same, ceiling-same, list-same, report-same}
 use Rattle.editions.specs.Alike.{Alike, Bytes, alike-both, u16-like, u32-like, u64-like, littles-bytes}
 use Rattle.editions.specs.Pair.{distance-back, edition-back, letter-back, channel-back, segment-back}
 use Rattle.editions.specs.Pair.{fixedBytes, firstOf, secondOf, one-ends, two-ends, table-same, two-form, one-form, raised-one, lowered-two}
@@ -196,6 +198,10 @@ module _ (l : List ℕ) (B : Bytes l) (accepted : checkOf l ≡ Accepted) (first
       (r : StationRecord) (direction : ℕ) (e : Edges) (lent left : List ℕ) (answer : DialList)
       → SafeDials r direction e l lent left answer → SafeDials r direction e (raisedOf l) lent left answer
   raised-list = list-same l (raisedOf l) form raised-form raised-table
+
+  pub raised-report :
+      (class : ℕ) (lent left : List ℕ) (answer : TableReport) → Reported l class lent left answer → Reported (raisedOf l) class lent left answer
+  raised-report = report-same l (raisedOf l) form raised-form raised-table
 
   pub raised-tidy : tidyOf l ≡ tidyOf (raisedOf l)
   raised-tidy = tidy-same l (raisedOf l) form raised-form raised-table
