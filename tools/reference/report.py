@@ -29,7 +29,7 @@ HERE = os.path.dirname(os.path.abspath(__file__))
 BANDS, SEGMENTS, PRIVILEGES, GAP = 0, 1, 3, 255
 ROW = 24
 FILL = 0xA5
-ROOM = 1024                                       # the program lends so many bytes at most
+ROOM = 2048                                       # the program lends so many bytes at most
 
 
 # ---------------------------------------------------------------------------------------------
@@ -413,6 +413,18 @@ def refusals():
     refuses("refusal 14, class 255, none lent", 255, 20, lent=0)
 
 
+def some_tens():
+    """11 alike bands are 55 pairs, and each of some segments without a privilege is a gap: 63 to 66 rows."""
+    for n in range(8, 12):
+        ranges = tuple((10 * i, 10 * i + 10) for i in range(n))
+        on(table(bands=((0, 120),) * 11, segments=ranges, privileges=()))
+        rows = [(BANDS, 0, i, j, 0.0, 120.0) for i in range(11) for j in range(i + 1, 11)]
+        rows += [(GAP, 1, i, i, 10.0 * i, 10.0 * i + 10.0) for i in range(n)]
+        ask("%d rows, just enough lent" % len(rows), 1, ROW * len(rows), 0, rows)
+        ask("%d rows, some more lent" % len(rows), 1, ROW * len(rows) + 40, 0, rows)
+        refuses("%d rows, a byte too few lent" % len(rows), 1, 25, lent=ROW * len(rows) - 1)
+
+
 def many():
     """Tables of 256 records: the last pair of each, and more rows than 16 bits count."""
     def steps(last):
@@ -443,7 +455,7 @@ def main():
     practice_table()
     for kind in (BANDS, SEGMENTS, PRIVILEGES):
         pairs_of(kind)
-    for section in (about_zero, classes, gap_places, several_segments, all_at_once, no_rows, refusals, many):
+    for section in (about_zero, classes, gap_places, several_segments, all_at_once, no_rows, refusals, some_tens, many):
         section()
     given, lines = struct.pack("<H", len(IMAGES)), []
     for i, (data, questions) in enumerate(IMAGES):

@@ -7,7 +7,7 @@ use report::TableReport;
 const QUESTION_SIZE: usize = 3;
 
 // The most bytes lent, and what they hold before.
-const ROOM: usize = 1024;
+const ROOM: usize = 2048;
 
 const FILL: u8 = 0xa5;
 
