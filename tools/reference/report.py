@@ -392,7 +392,7 @@ def refusals():
         (1, "no bytes", b""),
         (1, "91 bytes", right[:91]),
         (2, "letters", spoilt(end + 24, ord("F"))),
-        (3, "edition", image(bands=[band], segments=[segment], edition=2)),
+        (3, "edition", image(bands=[band], segments=[segment], edition=3)),
         (4, "distance", spoilt(end + 18, 127)),
         (5, "reading 3", spoilt(41, 3)),
         (6, "a NaN", image(bands=[band, record(0x7FF8000000000000, 1.0)], segments=[segment])),

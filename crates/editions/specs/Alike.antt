@@ -1,15 +1,13 @@
 -- Bytes that are alike are read alike, and numbers that are read alike stand in like bytes.
-use Prim.Native.Nat.{ℕ, zero, suc, _+_, _-_, _*_, _/_, _%_, _≤_, _<_}
+use Prim.Native.Nat.{ℕ, zero, suc, _+_, _-_, _*_, _/_, _≤_, _<_}
 use mathlib.Core.List.{List, [], _∷_, _++_}
-use mathlib.Core.Path.{_≡_, refl, sym, ap, ap₂, _∙_}
+use mathlib.Core.Path.{_≡_, sym, ap₂}
 use native.Mathlib.Omega.{arith}
 use native.Mathlib.Decide.{decLe}
-use lib.ListN.{length, getD, drop}
+use lib.ListN.{drop}
 use lib.Seq.{getD-drop}
 use Rattle.layout.specs.Bytes.{byteAt, u16At, u32At, u64At}
 use Rattle.layout.specs.Layout.{recordAt, wattsAt, generalOf, fixedChannelWatts, fixedSegmentWatts}
-use Rattle.layout.specs.declared.Record.{Record}
-use Rattle.layout.specs.declared.General.{General}
 use Rattle.lists.specs.Laws.{Every}
 use Rattle.bytes.specs.Bytes.{little}
 use Rattle.writer.specs.Image.{littles}

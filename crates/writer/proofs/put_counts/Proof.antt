@@ -1,7 +1,6 @@
 -- `writer::put_counts` meets its contract: one count behind the other.
 use Prim.Native.Nat.{_-_}
 use native.Mathlib.Omega.{arith}
-use borrow.Author.Needs.{needs}
 use Rattle.layout.specs.Layout.{tables}
 use Rattle.bytes.specs.Bytes.{little}
 use Rattle.bytes.specs.Laws.{length-little}

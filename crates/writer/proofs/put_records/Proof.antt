@@ -1,7 +1,6 @@
 -- `writer::put_records` meets its contract: one record behind the other.
 use Prim.Native.Nat.{_-_}
 use native.Mathlib.Omega.{arith}
-use borrow.Author.Needs.{needs}
 use Rattle.given.specs.Given.{runs, recordFrom}
 use Rattle.writer.specs.Image.{recordBytes}
 use Rattle.writer.specs.Laws.{record-length, Gathered, gathered-none, gathered-more, gathered-all}
