@@ -65,7 +65,7 @@ module _ (l a : List ℕ) (day : ℕ) where
       go (At j) e = length-sets (amendedTo l a day k) (slotAt l k) (replacementOf a j) ∙ e
       go Nothing e = e
 
-  few-bytes : (j : ℕ) → length (replacementOf a j) ≤ recordSize
+  pub few-bytes : (j : ℕ) → length (replacementOf a j) ≤ recordSize
   few-bytes j = rw length-take (omega arith)
 
   -- byte i lies in none of the records from k on that were put in place

@@ -169,6 +169,9 @@ pub fn record_at(image: &[u8], list: &[u8], day: u32, index: &[u32], k: usize) -
 {
     match counting(image, list, day, index, k) {
         Found::At(j) => layout::record_at(list, AMENDMENT_SIZE * j + 8),
-        Found::Nothing => layout::record_at(image, layout::tables_from(image) + layout::RECORD_SIZE * k),
+        Found::Nothing => layout::record_at(
+            image,
+            layout::tables_from(image) + layout::RECORD_SIZE * k,
+        ),
     }
 }

@@ -27,8 +27,7 @@ named-at-requires c κs =
     let a = c .before .before .before .before .before .before .args in
     let p = c .before .before .before .before .before .before .pre in
     let j = c .before .loop .j in
-    let h : j < amendmentsIn (a .list .now) = c .loop-test .taken in
-    (
+    let h : j < amendmentsIn (a .list .now) = c .loop-test .taken in (
       p .0,
       within-list (a .list .now) j h,
       named-of (a .image .now) (a .list .now) j (none-stray (a .image .now) (a .list .now) (p .1) j h),
@@ -47,8 +46,7 @@ next-entry-requires : tie.Need-next-entry-requires Inv-loop μ-loop
 next-entry-requires c κs =
     let a = c .before .before .before .before .before .before .before .before .args in
     let k = c .before .named-at .result in
-    let j = c .before .before .before .loop .j in
-    (
+    let j = c .before .before .before .loop .j in (
       within-list (a .list .now) j (c .before .before .loop-test .taken),
       entry-below (a .image .now) (a .list .now) (a .day) k j _ (c .before .before .before .loop .inv .1 .held k (c .before .named-at .ensures .1)),
     )
@@ -70,11 +68,10 @@ loop-less c = omega (arith, c .before .before .before .loop-test .taken)
 
 loop-again : tie.Need-loop-again Inv-loop μ-loop
 loop-again c =
-    let a = c .before .before .before .before .before .before .before .before .before .args in
-    (
+    let a = c .before .before .before .before .before .before .before .before .before .args in (
       omega (arith, c .before .before .before .loop-test .taken),
       indexed-step (a .image .now) (a .list .now) (a .day) (c .before .before .before .before .loop .index) (c .before .before .before .before .loop .j) (c .before .before .named-at .result) _ (c .before .before .before .before .loop .inv .1)
-      (c .before .before .named-at .ensures .0) (c .before .before .named-at .ensures .1) (c .next-entry .ensures .0),
+          (c .before .before .named-at .ensures .0) (c .before .before .named-at .ensures .1) (c .next-entry .ensures .0),
     )
 
 same-length : tie.Need-same-length Inv-loop μ-loop

@@ -19,8 +19,7 @@ add-result c = search needs
 
 returns-2 : tie.Need-returns-2
 returns-2 c =
-    let a = c .before .before .before .before .args in
-    (
+    let a = c .before .before .before .before .args in (
       next-first (a .list .now) (a .day) (a .entry) (a .j) (omega (arith, c .before .before .day-at .ensures, c .before .if1 .left)) (c .if2 .taken),
       omega arith,
     )
@@ -33,10 +32,9 @@ day-at-requires-2 c κs = search needs
 
 returns-3 : tie.Need-returns-3
 returns-3 c =
-    let a = c .before .before .before .before .before .before .args in
-    (
+    let a = c .before .before .before .before .before .before .args in (
       next-earlier (a .list .now) (a .day) (a .entry) (a .j) (omega (arith, c .before .before .before .before .day-at .ensures, c .before .before .before .if1 .left)) (c .before .before .if2 .left)
-      (omega (arith, c .before .before .before .before .day-at .ensures, c .before .day-at2 .ensures, c .if3 .taken)),
+          (omega (arith, c .before .before .before .before .day-at .ensures, c .before .day-at2 .ensures, c .if3 .taken)),
       omega arith,
     )
 
@@ -45,10 +43,9 @@ add-result-2 c = search needs
 
 returns-4 : tie.Need-returns-4
 returns-4 c =
-    let a = c .before .before .before .before .before .before .args in
-    (
+    let a = c .before .before .before .before .before .before .args in (
       next-later (a .list .now) (a .day) (a .entry) (a .j) (omega (arith, c .before .before .before .before .day-at .ensures, c .before .before .before .if1 .left)) (c .before .before .if2 .left)
-      (omega (arith, c .before .before .before .before .day-at .ensures, c .before .day-at2 .ensures, c .if3 .left)),
+          (omega (arith, c .before .before .before .before .day-at .ensures, c .before .day-at2 .ensures, c .if3 .left)),
       omega arith,
     )
 

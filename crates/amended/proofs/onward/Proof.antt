@@ -12,10 +12,9 @@ named-at-requires c κs = search needs
 
 returns : tie.Need-returns
 returns c =
-    let a = c .before .before .before .before .args in
-    (
+    let a = c .before .before .before .before .args in (
       onward-other (a .image .now) (a .list .now) (a .day) (a .k) (foundFrom (a .entry)) (a .j)
-      (λ (e : namedAt (a .image .now) (a .list .now) (a .j) ≡ a .k). c .if1 .taken (c .before .named-at .ensures .0 ∙ e)),
+          (λ (e : namedAt (a .image .now) (a .list .now) (a .j) ≡ a .k). c .if1 .taken (c .before .named-at .ensures .0 ∙ e)),
       omega arith,
     )
 
@@ -24,11 +23,10 @@ next-entry-requires c κs = search needs
 
 returns-2 : tie.Need-returns-2
 returns-2 c =
-    let a = c .before .before .before .before .before .args in
-    (
+    let a = c .before .before .before .before .before .args in (
       c .next-entry .ensures .0
-      ∙ onward-named (a .image .now) (a .list .now) (a .day) (a .k) (foundFrom (a .entry)) (a .j)
-      (sym (c .before .before .named-at .ensures .0) ∙ c .before .if1 .left),
+          ∙ onward-named (a .image .now) (a .list .now) (a .day) (a .k) (foundFrom (a .entry)) (a .j)
+          (sym (c .before .before .named-at .ensures .0) ∙ c .before .if1 .left),
       c .next-entry .ensures .1,
     )
 

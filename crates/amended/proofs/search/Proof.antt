@@ -24,8 +24,7 @@ onward-requires c κs =
     let a = c .before .before .before .before .args in
     let p = c .before .before .before .before .pre in
     let j = c .before .loop .j in
-    let h : j < amendmentsIn (a .list .now) = c .loop-test .taken in
-    (
+    let h : j < amendmentsIn (a .list .now) = c .loop-test .taken in (
       p .0,
       within-list (a .list .now) j h,
       named-of (a .image .now) (a .list .now) j (none-stray (a .image .now) (a .list .now) (p .1) j h),
@@ -40,13 +39,12 @@ loop-less c = omega (arith, c .before .loop-test .taken)
 
 loop-again : tie.Need-loop-again Inv-loop μ-loop
 loop-again c =
-    let a = c .before .before .before .before .before .args in
-    (
+    let a = c .before .before .before .before .before .args in (
       omega (arith, c .before .loop-test .taken),
       c .onward .ensures .1,
       c .onward .ensures .0
-      ∙ ap (λ (f : Found). onward (a .image .now) (a .list .now) (a .day) (a .k) f (c .before .before .loop .j)) (c .before .before .loop .inv .2)
-      ∙ sym (latest-more (a .image .now) (a .list .now) (a .day) (a .k) (c .before .before .loop .j)),
+          ∙ ap (λ (f : Found). onward (a .image .now) (a .list .now) (a .day) (a .k) f (c .before .before .loop .j)) (c .before .before .loop .inv .2)
+          ∙ sym (latest-more (a .image .now) (a .list .now) (a .day) (a .k) (c .before .before .loop .j)),
     )
 
 returns : tie.Need-returns Inv-loop μ-loop
