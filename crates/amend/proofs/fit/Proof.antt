@@ -1,59 +1,67 @@
+-- `amend::fit` meets its contract: the effective image's own refusal, or the image.
+use mathlib.Core.Path.{_≡_, refl, sym, _∙_}
+use native.Mathlib.Omega.{arith}
 use borrow.Author.Needs.{needs}
+use Rattle.image.specs.Check.{checkOf}
+use Rattle.image.specs.Laws.{accepted-whole}
+use Rattle.amended.specs.Amended.{effectiveOf}
+use Rattle.amended.specs.Latest.{indexed-none, getD-zeros}
+use Rattle.amend.specs.Laws.{check-content, left-no, left-effective}
 use Rattle.amend.proofs.fit.Statement.{statement}
 use Rattle.amend.proofs.fit.Tie as tie
-use Rattle.amend.proofs.fit.Reads as reads
-use Rattle.amend.proofs.fit.Lts as lts
-use Rattle.amend.proofs.content.Reads as content-reads
-use Rattle.amend.proofs.put_image.Reads as put-image-reads
-use Rattle.amended.proofs.fill.Reads as fill-reads
 
--- src/lib.rt:186:19
 slice-aggregate-fill : tie.Need-slice-aggregate-fill
 slice-aggregate-fill c = search needs
 
--- src/lib.rt:186:5
 fill-requires : tie.Need-fill-requires
-fill-requires c κs = ?
+fill-requires c κs =
+    let a = c .before .before .before .before .args in
+    let p = c .before .before .before .before .pre in
+    (
+      accepted-whole (a .image .now) (p .0),
+      p .1,
+      indexed-none (a .image .now) (a .list .now) (a .day) _ refl (getD-zeros 2045),
+    )
 
--- src/lib.rt:187:37
 slice-aggregate-content : tie.Need-slice-aggregate-content
 slice-aggregate-content c = search needs
 
--- src/lib.rt:187:11
 content-requires : tie.Need-content-requires
 content-requires c κs = search needs
 
--- src/lib.rt:188:26
 enum-known-n : tie.Need-enum-known-n
 enum-known-n c = search needs
 
--- src/lib.rt:190:23
 enum-told : tie.Need-enum-told
 enum-told c = search needs
 
--- src/lib.rt:190:46
 slice-aggregate-put-image : tie.Need-slice-aggregate-put-image
 slice-aggregate-put-image c = search needs
 
--- src/lib.rt:190:13
 put-image-requires : tie.Need-put-image-requires
 put-image-requires c κs = search needs
 
--- src/lib.rt:191:33
 cast-t20 : tie.Need-cast-t20
-cast-t20 c = search needs
+cast-t20 c = omega (arith, accepted-whole (c .before .before .before .before .before .before .before .before .before .before .before .before .before .before .before .args .image .now) (c .before .before .before .before .before .before .before .before .before .before .before .before .before .before .before .pre .0) .small)
 
--- src/lib.rt:180:1
 returns : tie.Need-returns
-returns c = ?
+returns c =
+    let a = c .before .before .before .before .before .before .before .before .before .before .before .args in
+    let image = effectiveOf (a .image .now) (a .list .now) (a .day) in
+    left-no (checkOf image) image (a .out .now) _
+    (check-content (a .image .now) (a .list .now) (a .day) (c .before .before .before .before .before .before .before .before .before .before .before .pre .0) ∙ sym (c .before .before .before .content .ensures) ∙ c .before .n .given .1)
 
--- src/lib.rt:180:1
 same-length : tie.Need-same-length
 same-length c = search needs
 
--- src/lib.rt:180:1
 returns-2 : tie.Need-returns-2
-returns-2 c = ?
+returns-2 c =
+    let a = c .before .before .before .before .before .before .before .before .before .before .before .before .before .before .before .args in
+    let p = c .before .before .before .before .before .before .before .before .before .before .before .before .before .before .before .pre in
+    left-effective (a .image .now) (a .list .now) (a .day) (a .out .now) _ (checkOf (effectiveOf (a .image .now) (a .list .now) (a .day)))
+    (accepted-whole (a .image .now) (p .0))
+    (check-content (a .image .now) (a .list .now) (a .day) (p .0) ∙ sym (c .before .before .before .before .before .before .before .content .ensures) ∙ c .before .before .before .before .before .enum-told .given .1)
+    (c .before .before .put-image .ensures)
 
 pub fit-spec : {M : Type 1} → statement M
 fit-spec =
