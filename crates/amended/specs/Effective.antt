@@ -144,10 +144,18 @@ module _ (l a : List ℕ) (day : ℕ) (w : Whole l) where
       amended-byte l a day (recordsBefore l tables) k m h b
       ∙ ap (λ (x : List ℕ). byteAt x (slotAt l k + m)) (amended-more l a day k ∙ ap (put k) e)
 
-  whole-replacement : (k j : ℕ) → counting l a day k ≡ At j → length (replacementOf a j) ≡ recordSize
+  pub whole-replacement : (k j : ℕ) → counting l a day k ≡ At j → length (replacementOf a j) ≡ recordSize
   whole-replacement k j e =
       length-take-le recordSize (drop (replacementAt j) a)
       (rw length-drop (omega (arith, within-list a j (latest-below l a day k (amendmentsIn a) j e))))
+
+  pub replaced-byte :
+      (k j m : ℕ) → k < recordsBefore l tables → counting l a day k ≡ At j → m < recordSize
+      → byteAt image (slotAt l k + m) ≡ byteAt (replacementOf a j) m
+  replaced-byte k j m h e b =
+      byte-put k m (At j) h b e
+      ∙ sets-in (replacementOf a j) (amendedTo l a day k) (slotAt l k) m (omega (arith, whole-replacement k j e))
+      (omega (arith, whole-replacement k j e, amended-length l a day k, slot-within k h))
 
   pub record-in :
       (k : ℕ) → k < recordsBefore l tables
@@ -160,9 +168,7 @@ module _ (l a : List ℕ) (day : ℕ) (w : Whole l) where
       go (At j) e =
           record-alike image a (slotAt l k) (replacementAt j)
           (λ m b.
-          byte-put k m (At j) h b e
-          ∙ sets-in (replacementOf a j) (amendedTo l a day k) (slotAt l k) m (omega (arith, whole-replacement k j e))
-          (omega (arith, whole-replacement k j e, amended-length l a day k, slot-within k h))
+          replaced-byte k j m h e b
           ∙ getD-take recordSize (drop (replacementAt j) a) m 0 b
           ∙ getD-drop (replacementAt j) a m 0)
       go Nothing e =
