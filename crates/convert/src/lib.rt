@@ -64,7 +64,7 @@ fn lower_refusal(s: &[u8]) -> Checked
 }
 
 // Bytes of an image, from one place on, to another place of the output.
-fn put_part(out: &mut [u8], to: usize, image: &[u8], from: usize, count: usize)
+pub fn put_part(out: &mut [u8], to: usize, image: &[u8], from: usize, count: usize)
     requires { ⌜ (to + count ≤ length (now out)) × (from + count ≤ length (now image)) ⌝ }
     ensures { λ r. ⌜ now (out .exit) ≡ sets (now (out .entry)) to (take count (drop from (now (image .entry)))) ⌝ }
 {

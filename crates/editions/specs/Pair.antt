@@ -24,7 +24,8 @@ use Rattle.writer.specs.Image.{littles, wattsBytes, endBytes}
 use Rattle.writer.specs.Laws.{watts-length, end-length}
 use Rattle.convert.specs.Convert.{movedOf, raisedOf, loweredOf}
 use Rattle.same_table.specs.Same.{InForm, same-table}
-use Rattle.editions.specs.Alike.{Alike, alike-drop, byte-alike, u16-alike, u32-alike, u64-alike, record-alike, general-alike, u16-little, u32-little}
+use Rattle.alike.specs.Alike.{Alike, alike-drop, byte-alike, u16-alike, u32-alike, u64-alike, record-alike, general-alike}
+use Rattle.editions.specs.Alike.{u16-little, u32-little}
 
 -- ---- the end of an image
 

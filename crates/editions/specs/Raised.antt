@@ -40,7 +40,8 @@ use Rattle.writer.specs.Laws.{watts-length, end-length}
 use Rattle.convert.specs.Convert.{fromTests, otherWatts, raiseTests, lowerTests, movedOf, raisedOf, loweredOf}
 use Rattle.convert.specs.Laws.{from-same, second-sized}
 use Rattle.same_table.specs.Same.{InForm, check-same, tidy-same, fault-same, evaluate-same, unmeasured-same, ceiling-same, list-same, report-same}
-use Rattle.editions.specs.Alike.{Alike, Bytes, alike-both, u16-like, u32-like, u64-like, littles-bytes}
+use Rattle.alike.specs.Alike.{Alike}
+use Rattle.editions.specs.Alike.{Bytes, alike-both, u16-like, u32-like, u64-like, littles-bytes}
 use Rattle.editions.specs.Pair.{distance-back, edition-back, letter-back, channel-back, segment-back}
 use Rattle.editions.specs.Pair.{fixedBytes, firstOf, secondOf, one-ends, two-ends, table-same, two-form, one-form, raised-one, lowered-two}
 
