@@ -1,4 +1,4 @@
--- Whether a finding blocks, and that the decision from it then does.
+-- Whether a finding blocks and its code, and that the decision from it then does and has it.
 use Prim.Native.Nat.{ℕ}
 use mathlib.Core.Bool.{Bool, true, false}
 use mathlib.Core.Path.{_≡_, refl, sym, ap, _∙_}
@@ -15,27 +15,37 @@ use Rattle.part97.specs.Part97.{warned, adviceWarns, advised}
 use Rattle.part97.specs.Finding.{concludedOver, concluded}
 use Rattle.part97.specs.declared.Case.{Case}
 use Rattle.part97.specs.declared.Finding.{Finding}
+use Rattle.barred.specs.declared.Brief.{Brief}
+
+-- a decision in brief
+abbrev pub briefOf : Decision → Brief
+briefOf d = record { blocked = isBlocked (d .verdict); code = d .code }
 
 -- where power limits and the plan are asked, the transmission is lawful
 abbrev pub blockedOver : Verdict → MaybeRange → Bool
 blockedOver verdict (Is r) = false
 blockedOver verdict NoRange = isBlocked verdict
 
+-- a finding in brief
+abbrev pub briefOver : Finding → Brief
+briefOver f = record { blocked = blockedOver (f .verdict) (f .over); code = f .code }
+
 -- a decision that is known to block
-pub simply-blocked : (signal : Draft) (code : Code) (rule : ℕ) (d : Decision) → simpleOf signal Blocked code rule ≡ d → true ≡ isBlocked (d .verdict)
+pub simply-blocked : (signal : Draft) (code : Code) (rule : ℕ) (d : Decision) → simpleOf signal Blocked code rule ≡ d
+    → record { blocked = true; code = code } ≡ briefOf d
 unfolding simpleOf finishOf
-simply-blocked signal code rule d e = ap (λ (x : Decision). isBlocked (x .verdict)) e
+simply-blocked signal code rule d e = ap briefOf e
 
 warned-free : (b : Bool) → isBlocked (warned b) ≡ false
 warned-free true = refl
 warned-free false = refl
 
 module _ (table : Table) (c : Case) (f : Finding) where
-  over : (o : MaybeRange) → isBlocked (concludedOver table c f o .verdict) ≡ blockedOver (f .verdict) o
+  over : (o : MaybeRange) → briefOf (concludedOver table c f o) ≡ record { blocked = blockedOver (f .verdict) o; code = f .code }
   unfolding concludedOver advised finishOf
-  over (Is r) = warned-free (adviceWarns table c r)
+  over (Is r) = ap (λ (b : Bool). record { blocked = b; code = f .code }) (warned-free (adviceWarns table c r))
   over NoRange = refl
 
-  pub finding-blocks : (d : Decision) → concluded table c f ≡ d → blockedOver (f .verdict) (f .over) ≡ isBlocked (d .verdict)
+  pub finding-brief : (d : Decision) → concluded table c f ≡ d → briefOver f ≡ briefOf d
   unfolding concluded
-  finding-blocks d e = sym (over (f .over)) ∙ ap (λ (x : Decision). isBlocked (x .verdict)) e
+  finding-brief d e = sym (over (f .over)) ∙ ap briefOf e

@@ -1,8 +1,9 @@
-// Whether a transmission is blocked, without the answer: what the climb over the rungs asks of each. It uses codes, profile,
-// occupancy, station, layout, table, decision, part97, judge and verdict.
+// Whether a transmission is blocked, and its code, without the answer: what the climb over the rungs asks of each, and the census of
+// each dial. It uses codes, profile, occupancy, station, layout, table, decision, part97, judge and verdict.
 use codes::Direction;
 use codes::EmissionKind;
 use codes::Policy;
+use decision::Code;
 use decision::MaybeRange;
 use decision::Verdict;
 use layout::General;
@@ -18,7 +19,13 @@ ghost use Rattle.layout.specs.Layout.{generalOf};
 ghost use Rattle.table.specs.Table.{tableOf};
 ghost use Rattle.decision.specs.Decision.{isBlocked};
 ghost use Rattle.verdict.specs.Verdict.{underRulesOf, decideOf};
-ghost use Rattle.barred.specs.Barred.{blockedOver};
+ghost use Rattle.barred.specs.Barred.{blockedOver, briefOver, briefOf};
+
+// What is asked of a decision that is not made.
+pub struct Brief {
+    pub blocked: bool,
+    pub code: Code,
+}
 
 fn is_blocked(v: Verdict) -> bool
     ensures { λ x. ⌜ x ≡ isBlocked v ⌝ }
@@ -42,8 +49,19 @@ fn blocks(f: Finding) -> bool
     }
 }
 
+// A finding in brief.
+fn brief_of(f: Finding) -> Brief
+    ensures { λ x. ⌜ x ≡ briefOver f ⌝ }
+{
+    let code = f.code;
+    Brief {
+        blocked: blocks(f),
+        code,
+    }
+}
+
 // Under an accepted table, at a dial: a prerequisite that is missing blocks, and else Part 97 says.
-fn barred_by_rules(
+fn brief_by_rules(
     image: &[u8],
     g: General,
     s: Situation,
@@ -51,17 +69,54 @@ fn barred_by_rules(
     kind: EmissionKind,
     direction: Direction,
     audio: Range,
-) -> bool
+) -> Brief
     requires { ⌜ (Whole (now image)) × (g ≡ generalOf (now image)) ⌝ }
-    ensures { λ x. ⌜ x ≡ isBlocked (underRulesOf (tableOf (now (image .entry))) s dial kind direction audio .verdict) ⌝ }
+    ensures { λ x. ⌜ x ≡ briefOf (underRulesOf (tableOf (now (image .entry))) s dial kind direction audio) ⌝ }
 {
     match verdict::prepare(g, s, dial, kind, direction, audio) {
-        Ready::Met(c) => blocks(judge::judge_case(image, g, c)),
-        Ready::Missing(_, _) => true,
+        Ready::Met(c) => brief_of(judge::judge_case(image, g, c)),
+        Ready::Missing(code, _) => Brief {
+            blocked: true,
+            code,
+        },
     }
 }
 
 // By the policy, at a dial. Under Rules the image is an accepted one.
+pub fn in_brief(
+    image: &[u8],
+    s: Situation,
+    policy: Policy,
+    dial: Figure,
+    kind: EmissionKind,
+    direction: Direction,
+    e: Edges,
+) -> Brief
+    requires { ⌜ (policy ≡ Policy.Rules → Whole (now image)) ⌝ }
+    ensures { λ x. ⌜ x ≡ briefOf (decideOf (tableOf (now (image .entry))) s policy dial kind direction e) ⌝ }
+{
+    match policy {
+        Policy::Unset => Brief {
+            blocked: true,
+            code: Code::NoProfile,
+        },
+        Policy::NoProfile => Brief {
+            blocked: false,
+            code: Code::NoRules,
+        },
+        Policy::Rules => {
+            let g = layout::general_of(image);
+            let audio = e.range(table::reading_of(g));
+            brief_by_rules(image, g, s, dial, kind, direction, audio)
+        }
+        Policy::Broken => Brief {
+            blocked: true,
+            code: Code::ProfileBroken,
+        },
+    }
+}
+
+// Whether that is blocked.
 pub fn barred(
     image: &[u8],
     s: Situation,
@@ -74,14 +129,6 @@ pub fn barred(
     requires { ⌜ (policy ≡ Policy.Rules → Whole (now image)) ⌝ }
     ensures { λ x. ⌜ x ≡ isBlocked (decideOf (tableOf (now (image .entry))) s policy dial kind direction e .verdict) ⌝ }
 {
-    match policy {
-        Policy::Unset => true,
-        Policy::NoProfile => false,
-        Policy::Rules => {
-            let g = layout::general_of(image);
-            let audio = e.range(table::reading_of(g));
-            barred_by_rules(image, g, s, dial, kind, direction, audio)
-        }
-        Policy::Broken => true,
-    }
+    let b = in_brief(image, s, policy, dial, kind, direction, e);
+    b.blocked
 }

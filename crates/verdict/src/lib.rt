@@ -201,7 +201,13 @@ fn beside_valid(kind: u8, direction: u8) -> bool
 }
 
 // Refusals 20 to 22, 1 to 14 and 15.
-fn evaluate_refusals(r: StationRecord, kind: u8, direction: u8, e: Edges, image: &[u8]) -> Checked
+pub fn evaluate_refusals(
+    r: StationRecord,
+    kind: u8,
+    direction: u8,
+    e: Edges,
+    image: &[u8],
+) -> Checked
     ensures { λ x. ⌜ x ≡ refusalOf (evaluateTests r kind direction e (now (image .entry))) ⌝ }
 {
     match entry::admit(r, beside_valid(kind, direction), image) {
