@@ -7,7 +7,7 @@ use crate::ffi::{Edges, Fault, Figures, Station};
 use crate::image::{
     AUTOMATIC, BANDS, CHANNELS, EXCLUDED, PLAN_AVOID, PLAN_DATA, POWER, PRIVILEGES, SEGMENTS,
 };
-use crate::image::{Record, Table, decode, f64_at, u16_at, u32_at};
+use crate::image::{Record, Table, decode, f64_at, front_of, u16_at, u32_at};
 
 /// "not finite or above 2^40 in size"
 pub fn out_of_size(x: f64) -> bool {
@@ -24,8 +24,8 @@ pub fn read(x: f64) -> f64 {
 /// Refusals 1 to 6, in their order, each over the whole image; 0 if none is met.
 pub fn image_1_to_6(image: &[u8]) -> u8 {
     let n = image.len();
-    // "1 image under 92 or over 65,536 bytes"
-    if n < 92 || n > 65_536 {
+    // "1 now means under 92 or over 65,552" (document 02)
+    if n < 92 || n > 65_552 {
         return 1;
     }
     // "Trailer: nine u16 counts, a u32 distance from the trailer's start back to the first byte,
@@ -34,7 +34,8 @@ pub fn image_1_to_6(image: &[u8]) -> u8 {
     if image[end + 24..] != *b"EDGE" {
         return 2;
     }
-    if u16_at(image, end + 22) != 1 {
+    // "3 now passes both editions" (document 02)
+    if !matches!(u16_at(image, end + 22), 1 | 2) {
         return 3;
     }
     // "4 a count over 256, or a length or distance that disagrees"
@@ -42,7 +43,9 @@ pub fn image_1_to_6(image: &[u8]) -> u8 {
     if counts.iter().any(|&count| count > 256) {
         return 4;
     }
-    let front = 64 + 32 * counts.iter().sum::<usize>();
+    // "a length wrong for the edition meets 4" (document 02)
+    let begin = front_of(image);
+    let front = begin + 32 * counts.iter().sum::<usize>();
     if end != front {
         return 4;
     }
@@ -66,16 +69,16 @@ pub fn image_1_to_6(image: &[u8]) -> u8 {
         places.extend(std::iter::repeat_n(table, count));
     }
     for (i, &table) in places.iter().enumerate() {
-        if !record_is_right(table, &image[64 + 32 * i..96 + 32 * i]) {
+        if !record_is_right(table, &image[begin + 32 * i..begin + 32 + 32 * i]) {
             return 5;
         }
     }
     // "6 a figure not finite, above 2^40 in size, or negative zero"
     let bad = |at: usize| bad_figure(image, at);
-    if (0..5).any(|i| bad(8 * i)) {
+    if (0..5).any(|i| bad(8 * i)) || (64..begin).step_by(8).any(bad) {
         return 6;
     }
-    if (0..places.len()).any(|i| (0..3).any(|k| bad(64 + 32 * i + 8 * k))) {
+    if (0..places.len()).any(|i| (0..3).any(|k| bad(begin + 32 * i + 8 * k))) {
         return 6;
     }
     0
@@ -97,14 +100,14 @@ pub fn fault(image: &[u8], refusal: u8) -> Fault {
     }
     let block_meets = match refusal {
         5 => !block_is_right(&image[..64]),
-        6 => [0, 8, 16, 24, 32].iter().any(|&at| bad_figure(image, at)),
+        6 => [0, 8, 16, 24, 32].into_iter().chain((64..front_of(image)).step_by(8)).any(|at| bad_figure(image, at)),
         _ => false,
     };
     if block_meets {
         return Fault { place: 1, ..nowhere };
     }
     let t = decode(image);
-    let mut at = 64;
+    let mut at = front_of(image);
     for (table, records) in t.tables.iter().enumerate() {
         for (record, r) in records.iter().enumerate() {
             if record_meets(refusal, &t, table, r, &image[at..at + 32]) {

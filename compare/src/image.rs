@@ -160,6 +160,25 @@ pub fn f64_at(b: &[u8], at: usize) -> f64 {
     f64::from_bits(u64::from_le_bytes(b[at..at + 8].try_into().unwrap()))
 }
 
+/// Where the tables of an image begin: "Edition 2 has two more f64 in the general block" (document 02).
+pub fn front_of(image: &[u8]) -> usize {
+    if u16_at(image, image.len() - 6) == 2 { 80 } else { 64 }
+}
+
+/// An image of edition 1 raised to edition 2: "channel watts at 64 and segment watts at 72, and the distance back is
+/// 16 longer", "going up always fills in 100 and 9.15" (document 02).
+pub fn raised(image: &[u8]) -> Vec<u8> {
+    let mut out = image[..64].to_vec();
+    out.extend(100f64.to_bits().to_le_bytes());
+    out.extend(9.15f64.to_bits().to_le_bytes());
+    out.extend(&image[64..]);
+    let end = out.len() - 28;
+    let far = u32_at(&out, end + 18) + 16;
+    out[end + 18..end + 22].copy_from_slice(&far.to_le_bytes());
+    out[end + 22..end + 24].copy_from_slice(&2u16.to_le_bytes());
+    out
+}
+
 /// The table of an image that refusals 1 to 4 let pass.
 pub fn decode(image: &[u8]) -> Table {
     let end = image.len() - 28;
@@ -178,7 +197,7 @@ pub fn decode(image: &[u8]) -> Table {
         rules: [46, 48, 50, 52, 54, 56].map(|at| u16_at(image, at)),
         tables: Default::default(),
     };
-    let mut at = 64;
+    let mut at = front_of(image);
     for t in 0..9 {
         for _ in 0..u16_at(image, end + 2 * t) {
             let r = &image[at..at + 32];
