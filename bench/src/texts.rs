@@ -130,9 +130,9 @@ pub fn timed(show: bool, rounds: usize) {
             agree(name, ours, theirs, &figures);
         }
         let ratio = text(rounds, &figures, ffi::text_at, at_into);
-        line(show, &format!("  at, {kind}"), ratio, Some(1.0));
+        line(show, &format!("  at, {kind}"), ratio, Some(0.5));
         let ratio = text(rounds, &figures, ffi::text_khz, khz_into);
-        line(show, &format!("  khz, {kind}"), ratio, Some(1.0));
+        line(show, &format!("  khz, {kind}"), ratio, Some(0.5));
         let string = |hz: f64, _: &mut Line| {
             black_box(khz(hz));
             Ok(())
@@ -140,7 +140,7 @@ pub fn timed(show: bool, rounds: usize) {
         let ratio = text(rounds, &figures, ffi::text_khz, string);
         line(show, &format!("  khz, {kind}, by the Rust's with its String"), ratio, None);
         let ratio = text(rounds, &figures, ffi::text_hertz, hertz_into);
-        line(show, &format!("  whole hertz, {kind}"), ratio, Some(1.0));
+        line(show, &format!("  whole hertz, {kind}"), ratio, Some(0.5));
     }
 }
 
