@@ -43,7 +43,7 @@ use Rattle.dial_rows.specs.Dials.{requestOf, dialRows, pieceRows, onShar
 use Rattle.dial_rows.specs.Dials.{mayUse, privilegeRows, privilegeRowsAt, tooWide, excludedBand, privilegesRows}
 use Rattle.dial_rows.specs.Dials.{segmentRows, segmentRowsAt, dataRows, channelDial, channelHolds, channelSafe, channelRow}
 use Rattle.dial_rows.specs.Dials.{channelRowsAt, channelsOpen, channelFound, channelRows, openRows, bandRows, rowsOf}
-use Rattle.dial_rows.specs.Apart.{le-number}
+use Rattle.order.specs.Greater.{le-number}
 use Rattle.dial_rows.specs.declared.Request.{Request}
 
 -- ---- how many rows

@@ -1,6 +1,6 @@
 // The rows of a dial list, segment by segment, privilege by privilege, automatic segment by automatic segment, and then the 60 m
 // channels: searches that give one row after the other. It uses codes, profile, air, layout, table, find, automatic_97_221 and
-// rows; its laws use lists and bit_order.
+// rows; its laws use apart, lists, order and bit_order.
 use air::DialRange;
 use codes::ControlMode;
 use codes::Direction;

@@ -12,6 +12,8 @@ use Rattle.ceiling.specs.declared.Rung.{Rung}
 use Rattle.ceiling.specs.declared.Rung.the-variants.{Fastest, NoRung}
 use Rattle.dials.specs.declared.DialList.{DialList}
 use Rattle.dials.specs.declared.DialList.the-variants.{Rows}
+use Rattle.report.specs.declared.TableReport.{TableReport}
+use Rattle.report.specs.declared.TableReport.the-variants.{Rows as ReportOf}
 use Rattle.flat.specs.Flat.{guidanceIndex}
 
 -- the most rows that a list can have
@@ -21,6 +23,10 @@ mostRows = 16777472
 -- what the boundary asks of a list's answer
 abbrev pub Counted : DialList → Type 0
 Counted a = (n : ℕ) → a ≡ Rows n → n ≤ mostRows
+
+-- and of a table report's
+abbrev pub ReportCounted : TableReport → Type 0
+ReportCounted a = (n : ℕ) → a ≡ ReportOf n → n ≤ mostRows
 
 -- an answer whose guidance has an index below 256, or none
 abbrev pub Indexed : Decision → Type 0

@@ -46,6 +46,10 @@ use Rattle.distance.specs.declared.Distance.the-variants.{Hertz, NoneListed, Re
 use Rattle.number_texts.specs.Text.{textTests, textAnswer, textBytes}
 use Rattle.number_texts.specs.declared.TextAnswer.{TextAnswer}
 use Rattle.number_texts.specs.declared.TextAnswer.the-variants.{Length, Refused as NoText}
+use Rattle.table.specs.Table.{tableOf}
+use Rattle.report.specs.Report.{reportRows, reportTests, answerOf as reportAnswer, bytesOf as reportBytes}
+use Rattle.report.specs.declared.TableReport.{TableReport}
+use Rattle.report.specs.declared.TableReport.the-variants.{Rows as ReportOf, Refused as NoReport}
 use Rattle.flat.specs.declared.FlatDistance.{FlatDistance}
 use Rattle.flat.specs.declared.FlatStation.{FlatStation}
 use Rattle.flat.specs.declared.FlatEdges.{FlatEdges}
@@ -59,6 +63,7 @@ use Rattle.flat.specs.declared.FlatDecision.{FlatDecision}
 use Rattle.flat.specs.declared.FlatTidiness.{FlatTidiness}
 use Rattle.flat.specs.declared.FlatCeiling.{FlatCeiling}
 use Rattle.flat.specs.declared.FlatDials.{FlatDials}
+use Rattle.flat.specs.declared.FlatReport.{FlatReport}
 use Rattle.flat.specs.declared.FlatFault.{FlatFault}
 use Rattle.flat.specs.declared.FlatText.{FlatText}
 
@@ -230,6 +235,16 @@ pub record FlatDialed (r : StationRecord) (direction : ℕ) (e : Edges) (l lent 
   pub answered : answer ≡ dialsFlat (answerOf (refusalOf (listTests r direction e l lent)) (listRows r direction e l))
   pub bytes : left ≡ bytesOf (refusalOf (listTests r direction e l lent)) (listRows r direction e l) lent
 
+-- a table report: its count of rows, at most 262,400 (Fits), or a refusal's number and count 0
+abbrev pub reportFlat : TableReport → FlatReport
+reportFlat (ReportOf n) = record { count = n; refusal = 0 }
+reportFlat (NoReport n) = record { count = 0; refusal = n }
+
+-- what the exported report promises: the flat form of the answer, and every byte of the rows lent
+pub record FlatReported (l : List ℕ) (class : ℕ) (lent left : List ℕ) (answer : FlatReport) : Type 0 where
+  pub answered : answer ≡ reportFlat (reportAnswer (refusalOf (reportTests l class lent)) (reportRows (tableOf l) class))
+  pub bytes : left ≡ reportBytes (refusalOf (reportTests l class lent)) (reportRows (tableOf l) class) lent
+
 -- how far a dial stands from no row: infinitely, so never nought
 abbrev pub infinityHz : Float
 infinityHz = ofBits binary64 0x7ff0_0000_0000_0000
@@ -250,6 +265,6 @@ pub record FlatTexted (hz : Float) (text lent left : List ℕ) (answer : FlatTex
   pub answered : answer ≡ textFlat (textAnswer (refusalOf (textTests hz text lent)) text)
   pub bytes : left ≡ textBytes (refusalOf (textTests hz text lent)) text lent
 
--- the boundary's version, 0.6.0: 10,000 times the first number, 100 times the second, and the third
+-- the boundary's version, 0.7.0: 10,000 times the first number, 100 times the second, and the third
 abbrev pub versionNumber : ℕ
-versionNumber = 600
+versionNumber = 700

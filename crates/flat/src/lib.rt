@@ -1,5 +1,5 @@
 // The records of the boundary to C: flat structs of numbers, made from the answers and read into the station record and the edges. It
-// uses codes, profile, occupancy, station, fault, tidy, decision, numbers, ceiling, dials, distance and number_texts.
+// uses codes, profile, occupancy, station, fault, tidy, decision, numbers, ceiling, dials, report, distance and number_texts.
 use ceiling::CeilingAnswer;
 use ceiling::Rung;
 use codes::Checked;
@@ -17,6 +17,7 @@ use number_texts::TextAnswer;
 use occupancy::Edges;
 use profile::Range;
 use profile::RuleName;
+use report::TableReport;
 use station::Figure;
 use station::StationRecord;
 use tidy::Tidiness;
@@ -24,10 +25,10 @@ ghost use mathlib.Core.Path.{_≡_};
 ghost use mathlib.Core.Bool.{cond};
 ghost use Prim.Native.Nat.{_<_};
 ghost use Rattle.ceiling.specs.Ceiling.{rungNumber};
-ghost use Rattle.flat.specs.Fits.{FaultFits, RungFits, Counted, Indexed};
+ghost use Rattle.flat.specs.Fits.{FaultFits, RungFits, Counted, ReportCounted, Indexed};
 ghost use Rattle.flat.specs.Flat.{stationRecordOf, stationOf, edgesOf, rangeFlat, segmentFlat, overshootFlat};
 ghost use Rattle.flat.specs.Flat.{guidanceIndex, guidanceFlat, ruleFlat, bandFlat, widthFlat};
-ghost use Rattle.flat.specs.Flat.{faultFlat, tidinessFlat, flatOf, ceilingFlat, dialsFlat, infinityHz, distanceFlat, textFlat};
+ghost use Rattle.flat.specs.Flat.{faultFlat, tidinessFlat, flatOf, ceilingFlat, dialsFlat, reportFlat, infinityHz, distanceFlat, textFlat};
 
 // The station record: codes and presence bytes as document 01 numbers them, figures whatever they are.
 #[repr(C)]
@@ -118,6 +119,13 @@ pub struct FlatTidiness {
 // A dial list: the count of its rows, or the refusal's number and count 0.
 #[repr(C)]
 pub struct FlatDials {
+    pub count: u32,
+    pub refusal: u8,
+}
+
+// A table report: the count of its rows, or the refusal's number and count 0.
+#[repr(C)]
+pub struct FlatReport {
     pub count: u32,
     pub refusal: u8,
 }
@@ -484,6 +492,23 @@ pub fn dials_flat(a: DialList) -> FlatDials
             refusal: 0,
         },
         DialList::Refused(n) => FlatDials {
+            count: 0,
+            refusal: n,
+        },
+    }
+}
+
+// A table report's answer, flat.
+pub fn report_flat(a: TableReport) -> FlatReport
+    requires { ⌜ ReportCounted a ⌝ }
+    ensures { λ r. ⌜ r ≡ reportFlat a ⌝ }
+{
+    match a {
+        TableReport::Rows(n) => FlatReport {
+            count: n as u32,
+            refusal: 0,
+        },
+        TableReport::Refused(n) => FlatReport {
             count: 0,
             refusal: n,
         },

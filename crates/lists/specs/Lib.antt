@@ -1,3 +1,4 @@
 pub mod Each
 pub mod From
 pub mod Laws
+pub mod Pour

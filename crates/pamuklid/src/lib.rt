@@ -1,11 +1,12 @@
 // The boundary to C: the public calls, exported, with flat structs of numbers. It uses station, image, fault, tidy, numbers, verdict,
-// ceiling, dials, distance, number_texts and flat.
+// ceiling, dials, report, distance, number_texts and flat.
 use flat::FlatCeiling;
 use flat::FlatDecision;
 use flat::FlatDials;
 use flat::FlatDistance;
 use flat::FlatEdges;
 use flat::FlatFault;
+use flat::FlatReport;
 use flat::FlatStation;
 use flat::FlatText;
 use flat::FlatTidiness;
@@ -20,10 +21,10 @@ ghost use Rattle.distance.specs.Distance.{distanceOf};
 ghost use Rattle.number_texts.specs.Text.{atText, khzText, hertzText};
 ghost use Rattle.numbers.specs.Refusal.{refusalNumber};
 ghost use Rattle.flat.specs.Flat.{stationRecordOf, stationOf, edgesOf, faultFlat, tidinessFlat, flatOf};
-ghost use Rattle.flat.specs.Flat.{ceilingFlat, FlatDialed, distanceFlat, FlatTexted, versionNumber};
+ghost use Rattle.flat.specs.Flat.{ceilingFlat, FlatDialed, FlatReported, distanceFlat, FlatTexted, versionNumber};
 
-// The version of this boundary: 0.6.0.
-pub const VERSION: u32 = 600;
+// The version of this boundary: 0.7.0.
+pub const VERSION: u32 = 700;
 
 // The version of this boundary, that of the header: 10,000 times the first number, 100 times the second, and the third.
 #[no_mangle]
@@ -55,6 +56,14 @@ pub extern "C" fn pamuklid_tidy(image: &[u8]) -> FlatTidiness
     ensures { λ r. ⌜ r ≡ tidinessFlat (tidyOf (now (image .entry))) ⌝ }
 {
     flat::tidiness_flat(tidy::is_tidy(image))
+}
+
+// What an image's table has of overlaps, and of gaps for a licence class, as rows of 24 bytes.
+#[no_mangle]
+pub extern "C" fn pamuklid_report_of(image: &[u8], license: u8, rows: &mut [u8]) -> FlatReport
+    ensures { λ r. ⌜ FlatReported (now (image .entry)) license (now (rows .entry)) (now (rows .exit)) r ⌝ }
+{
+    flat::report_flat(report::report_of(image, license, rows))
 }
 
 // A fresh station record: region 2, margin 50, and nothing else known.

@@ -17,10 +17,11 @@ use Rattle.bytes.specs.Bytes.{figureBytes, little}
 use Rattle.bytes.specs.Laws.{eight, figure-after, u64-drop}
 use Rattle.lists.specs.Laws.{Every}
 use Rattle.rows.specs.Rows.{rowSize, insertRow, insertAll, sorted, figuresOf, encodeRow, encodeAll, lowAt}
+use Rattle.lists.specs.Pour as offered
 use Rattle.rows.specs.Held.{placeAt, insertFrom, insertAt, offerAt}
 use Rattle.rows.specs.Turns.{length-row}
 use Rattle.rows.specs.Pour.{pour}
-use Rattle.rows.specs.Total.{total-one-way, total-trans}
+use Rattle.order.specs.Total.{total-one-way, total-trans}
 use Rattle.rows.specs.declared.SafeDial.{SafeDial}
 
 unfoldable pub tailOf : SafeDial → List ℕ
@@ -299,7 +300,7 @@ offer-held x held rest g f r h =
 pour-held :
     (ys held : List SafeDial) (rest : List ℕ) → Every LowNumber held → Rising held → Every LowNumber ys → length ys * rowSize ≤ length rest
     → pour (encodeAll held ++ rest) (length held) ys ≡ encodeAll (insertAll held ys) ++ drop (length ys * rowSize) rest
-unfolding pour insertAll
+unfolding offered.pour insertAll
 pour-held [] held rest f r g h = refl
 pour-held (y ∷ ys) held rest f r g h =
     let n : suc (length ys) * rowSize ≡ rowSize + length ys * rowSize = omega arith in

@@ -1,4 +1,3 @@
-pub mod Total
 pub mod Rows
 pub mod Held
 pub mod Turns

@@ -13,7 +13,7 @@ use Rattle.layout.specs.Bytes.{u16At, u32At, u64At}
 use Rattle.bytes.specs.Bytes.{figureBytes, little}
 use Rattle.bytes.specs.Laws.{length-little, sets-next}
 use Rattle.rows.specs.Rows.{rowSize, figuresOf, encodeRow, lowAt}
-use Rattle.rows.specs.Total.{above-not-less}
+use Rattle.order.specs.Total.{above-not-less}
 use Rattle.rows.specs.declared.SafeDial.{SafeDial}
 use Rattle.rows.specs.Held.{followsAt, placeAt, insertFrom, insertAt}
 

@@ -1,5 +1,5 @@
 // Rows of a dial list in lent bytes: 36 bytes a row, in a stable order by lower dial. Every offset of a row stands here.
-// It uses figures, profile, layout and bytes; its laws use lists.
+// It uses figures, profile, layout and bytes; its laws use lists and order.
 use profile::Range;
 ghost use mathlib.Core.Path.{_≡_};
 ghost use Prim.Native.Nat.{_+_, _*_, _-_, _≤_, _<_};

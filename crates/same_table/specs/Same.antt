@@ -39,6 +39,9 @@ use Rattle.ceiling.specs.Ceiling.{judgeBy, burstOf, climbed, rungTests, ceiling
 use Rattle.rows.specs.declared.SafeDial.{SafeDial}
 use Rattle.dials.specs.List.{situationRows, listRows, lentTests, listTests, answerOf, bytesOf, SafeDials}
 use Rattle.dials.specs.declared.DialList.{DialList}
+use Rattle.report_rows.specs.declared.ReportRow.{ReportRow}
+use Rattle.report.specs.Report.{reportRows, reportTests, lentTests as reportLent, answerOf as reportAnswer, bytesOf as reportBytes, Reported}
+use Rattle.report.specs.declared.TableReport.{TableReport}
 use Rattle.fault.specs.Fault.{faultBy, faultOf}
 
 -- in form: none of 1 to 4 refuses it
@@ -104,6 +107,31 @@ module _ (l m : List ℕ) (L : InForm l) (M : InForm m) (same : tableOf l ≡ ta
   -- where a table is wrong
   pub fault-same : faultOf l ≡ faultOf m
   fault-same = ap₂ (λ (c : Checked) (x : Table). record { refusal = c; fault = faultBy c x }) check-same same
+
+  -- the table report, with every lent byte
+  report-rows-same : (class : ℕ) → reportRows (tableOf l) class ≡ reportRows (tableOf m) class
+  report-rows-same class = ap (λ (x : Table). reportRows x class) same
+
+  report-tests-same : (class : ℕ) (lent : List ℕ) → refusalOf (reportTests l class lent) ≡ refusalOf (reportTests m class lent)
+  report-tests-same class lent =
+      ap (λ (c : Checked). cond (ltb 4 class) (Refused 20) c)
+      (past l L ∙ ap (λ (x : Table). refusalOf (contentTests x ++ reportLent (reportRows x class) lent)) same ∙ sym (past m M))
+    where
+      past :
+          (k : List ℕ) → InForm k
+          → refusalOf (checkTests k ++ reportLent (reportRows (tableOf k) class) lent)
+          ≡ refusalOf (contentTests (tableOf k) ++ reportLent (reportRows (tableOf k) class) lent)
+      past k f =
+          ap refusalOf (append-assoc (formTests k) (contentTests (tableOf k)) (reportLent (reportRows (tableOf k) class) lent))
+          ∙ refusal-next (formTests k) (contentTests (tableOf k) ++ reportLent (reportRows (tableOf k) class) lent) f
+
+  pub report-same :
+      (class : ℕ) (lent left : List ℕ) (answer : TableReport) → Reported l class lent left answer → Reported m class lent left answer
+  report-same class lent left answer d =
+      record {
+        answered = d .answered ∙ ap₂ reportAnswer (report-tests-same class lent) (report-rows-same class);
+        bytes = d .bytes ∙ ap₂ (λ (c : Checked) (xs : List ReportRow). reportBytes c xs lent) (report-tests-same class lent) (report-rows-same class);
+      }
 
   -- ---- the calls with a station
 

@@ -238,6 +238,16 @@ module _ (x y : Float) (X : isNan x ≡ false) (Y : isNan y ≡ false) where
           r .yx .less ∙ le-ltb (r .second) (r .first) (omega (arith, eqb-true (r .first) (r .second) (sym (r .xy .alike) ∙ q)))
       go false false p q t = absurd (false≢true t)
 
+  pub not-above-le : lt y x ≡ false → le x y ≡ true
+  unfolding le
+  not-above-le h =
+      let r = ranks x y y X Y Y in
+      rw (r .xy .less) (rw (r .xy .alike) (go (ltb (r .first) (r .second)) r refl (sym (r .yx .less) ∙ h)))
+    where
+      go : (b : Bool) → (r : Ranks x y y) → ltb (r .first) (r .second) ≡ b → ltb (r .second) (r .first) ≡ false → (b || eqb (r .first) (r .second)) ≡ true
+      go true r p q = refl
+      go false r p q = eq-eqb (r .first) (r .second) (omega (arith, ltb-false (r .first) (r .second) p, ltb-false (r .second) (r .first) q))
+
 module _ (x y z : Float) (X : isNan x ≡ false) (Y : isNan y ≡ false) (Z : isNan z ≡ false) where
   -- what is below one is below any that is not below that one
   pub total-trans : totalLess x y ≡ true → totalLess z y ≡ false → totalLess x z ≡ true
@@ -277,3 +287,43 @@ lt-number (fin s m d) (fin t n f) e = (refl, refl)
 -- what lies above another does not come before it
 pub above-not-less : (x y : Float) → lt y x ≡ true → totalLess x y ≡ false
 above-not-less x y e = let n = lt-number y x e in total-one-way y x (n .0) (n .1) (rw e)
+
+-- ---- three figures
+
+pub lt-trans : (x y z : Float) → lt x y ≡ true → lt y z ≡ true → lt x z ≡ true
+lt-trans x y z h k = go (lt x z) refl
+  where
+    a : (isNan x ≡ false) × (isNan y ≡ false)
+    a = lt-number x y h
+
+    b : (isNan y ≡ false) × (isNan z ≡ false)
+    b = lt-number y z k
+
+    go : (t : Bool) → lt x z ≡ t → lt x z ≡ true
+    go true e = e
+    go false e = absurd (true≢false (sym h ∙ not-lt-trans x z y (a .0) (b .1) (a .1) e (lt-one-way y z (a .1) (b .1) k)))
+
+-- below one that is not above a third: below that
+pub lt-not : (x y z : Float) → isNan z ≡ false → lt x y ≡ true → lt z y ≡ false → lt x z ≡ true
+lt-not x y z n h k = go (lt x z) refl
+  where
+    a : (isNan x ≡ false) × (isNan y ≡ false)
+    a = lt-number x y h
+
+    go : (t : Bool) → lt x z ≡ t → lt x z ≡ true
+    go true e = e
+    go false e = absurd (true≢false (sym h ∙ not-lt-trans x z y (a .0) n (a .1) e k))
+
+-- not above one that is below a third: below that
+pub not-lt : (x y z : Float) → isNan x ≡ false → lt y x ≡ false → lt y z ≡ true → lt x z ≡ true
+not-lt x y z n h k = go (lt x z) refl
+  where
+    a : (isNan y ≡ false) × (isNan z ≡ false)
+    a = lt-number y z k
+
+    go : (t : Bool) → lt x z ≡ t → lt x z ≡ true
+    go true e = e
+    go false e = absurd (true≢false (sym k ∙ not-lt-trans y x z (a .0) n (a .1) h e))
+
+pub lt-both : (x y : Float) → lt x y ≡ true → lt y x ≡ true → ⊥
+lt-both x y h k = let a = lt-number x y h in true≢false (sym k ∙ lt-one-way x y (a .0) (a .1) h)
