@@ -7,9 +7,10 @@
  * its own: equal arguments give equal answers, and calls may run at once on several threads.
  *
  * An image, rungs and floor bytes are lent as a pointer and a count of elements. They are only read,
- * during the call, and no byte of them changes. Dial rows, the rows of a report and texts are lent to be
- * written: see pamuklid_safe_dials, pamuklid_report_of and pamuklid_text_at. With a count of 0 a pointer is
- * not followed, but pass one that is not null. Lent rows may not overlap what else is lent to the same call.
+ * during the call, and no byte of them changes; so are the starts, bands and seconds of a log. Dial rows, the
+ * rows of a report, texts and totals are lent to be written: see pamuklid_safe_dials, pamuklid_report_of,
+ * pamuklid_text_at and pamuklid_airtime_of. With a count of 0 a pointer is not followed, but pass one that is
+ * not null. What is lent to be written may not overlap what else is lent to the same call.
  *
  * Structs go by value. Their sizes and offsets are checked below when this header is compiled (C11 or
  * C++11 on); whether the library is of the header's version is asked once, as the program starts:
@@ -28,8 +29,8 @@
 extern "C" {
 #endif
 
-/* The version of this header, 0.7.0: major * 10000 + minor * 100 + patch. */
-#define PAMUKLID_VERSION 700
+/* The version of this header, 0.9.0: major * 10000 + minor * 100 + patch. */
+#define PAMUKLID_VERSION 900
 
 /* Refusals, by number. A call that is refused has answered nothing: send nothing. */
 #define PAMUKLID_ACCEPTED 0                 /* none: the image is accepted, the call was answered */
@@ -61,7 +62,10 @@ extern "C" {
 #define PAMUKLID_REFUSAL_ROWS 23            /* a dial list longer than the whole rows lent */
 #define PAMUKLID_REFUSAL_TEXT 24            /* a text longer than the bytes lent */
 #define PAMUKLID_REFUSAL_REPORT 25          /* a report longer than the whole rows lent */
-/* They are looked for in the order 20, 21, 22, 1 to 14, 15, 16, 23, 24, 25, each over the whole input
+#define PAMUKLID_REFUSAL_STARTS 31          /* a start of a log below the one before */
+#define PAMUKLID_REFUSAL_RUNS 32            /* starts, bands, seconds and totals not one for each record, or
+                                               over 65,536 records */
+/* They are looked for in the order 20, 21, 22, 1 to 14, 15, 16, 23, 24, 25, 31, 32, each over the whole input
  * before the next; 22 and 1 to 14 with PAMUKLID_POLICY_RULES only, except by the calls that are about the
  * image alone (pamuklid_check, pamuklid_tidy, pamuklid_report_of, pamuklid_fault_of), which have 1 to 14
  * always. */
@@ -331,6 +335,16 @@ typedef struct {
                                 PAMUKLID_REFUSAL_TEXT */
 } pamuklid_text;
 
+/* The most records of a log. */
+#define PAMUKLID_MOST_LOG 65536
+
+/* The answer on a log's time on the air. */
+typedef struct {
+    uint32_t count;          /* the totals that were written, one for each record, at most
+                                PAMUKLID_MOST_LOG; 0 on a refusal */
+    uint8_t refusal;         /* PAMUKLID_ACCEPTED; PAMUKLID_REFUSAL_STARTS or PAMUKLID_REFUSAL_RUNS */
+} pamuklid_airtime;
+
 /* An image: its least and its most bytes, those of its general block, of each record and of its trailer, the
  * most records of a table, and the offsets of the two bytes that pamuklid_distance_of asks for. */
 #define PAMUKLID_IMAGE_LEAST 92
@@ -486,6 +500,18 @@ pamuklid_text pamuklid_text_khz(double hz, uint8_t *text, size_t room);
  * pamuklid_text_at. */
 pamuklid_text pamuklid_text_hertz(double hz, uint8_t *text, size_t room);
 
+/* Time on the air, for a limit on how long a station holds a shared channel. Record i of a log began at
+ * starts[i], a second on any clock, on bands[i], any number, and lasted seconds[i]. totals[i] is then the
+ * seconds of its band over itself and the earlier records that start at most 599 seconds before it: of records
+ * that start in the same second those before it in the log. A total stays below 2^32.
+ * Each of totals[0] to totals[count - 1] is written, and there are no others. On a refusal none changes. The
+ * time is that of one pass, whatever the starts.
+ * Refusals: 31 (a start below the one before, anywhere in the log; equal ones are in order), then 32 (the four
+ * counts of elements are not equal, or above PAMUKLID_MOST_LOG). */
+pamuklid_airtime pamuklid_airtime_of(const uint64_t *starts, size_t start_count, const uint8_t *bands,
+                                     size_t band_count, const uint16_t *seconds, size_t second_count,
+                                     uint64_t *totals, size_t total_count);
+
 #ifdef __cplusplus
 }
 #endif
@@ -579,6 +605,10 @@ PAMUKLID_AT(pamuklid_report, refusal, 4);
 PAMUKLID_SIZE(pamuklid_text, 8);
 PAMUKLID_AT(pamuklid_text, length, 0);
 PAMUKLID_AT(pamuklid_text, refusal, 4);
+
+PAMUKLID_SIZE(pamuklid_airtime, 8);
+PAMUKLID_AT(pamuklid_airtime, count, 0);
+PAMUKLID_AT(pamuklid_airtime, refusal, 4);
 
 PAMUKLID_SIZE(pamuklid_tidiness, 2);
 PAMUKLID_AT(pamuklid_tidiness, tidy, 0);

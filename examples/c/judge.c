@@ -191,6 +191,34 @@ static void reports(void)
     report("second band up to 16000000 Hz", copy, image_len, PAMUKLID_LICENSE_GENERAL, 16);
 }
 
+/* The seconds on the air of the ten minutes up to each record of a log. */
+static void times(const char *title, const uint64_t *starts, size_t n, size_t lent)
+{
+    static const uint8_t bands[] = {20, 20, 40, 20, 20};
+    static const uint16_t seconds[] = {60, 30, 45, 15, 100};
+    uint64_t totals[5];
+    pamuklid_airtime a = pamuklid_airtime_of(starts, n, bands, n, seconds, n, totals, lent);
+    printf("%s, totals of %zu records with room for %zu:", title, n, lent);
+    if (a.refusal != PAMUKLID_ACCEPTED) {
+        printf(" refusal %d\n", a.refusal);
+        return;
+    }
+    for (size_t i = 0; i < a.count; i++)
+        printf(" %" PRIu64, totals[i]);
+    printf("\n");
+}
+
+static void logs(void)
+{
+    static const uint64_t starts[] = {1000, 1599, 1599, 1600, 2199};
+    static const uint64_t falling[] = {1000, 1599, 1598, 1600, 2199};
+    times("log", starts, 5, 5);
+    times("log", starts, 0, 0);
+    times("log", starts, 5, 4);
+    times("third start one second early", falling, 5, 5);
+    times("third start one second early", falling, 5, 4);
+}
+
 struct item {
     const char *title;
     double dial, low, high, power;
@@ -399,6 +427,7 @@ int main(int argc, char **argv)
     distances("automatic, originating", PAMUKLID_SIDEBAND_UPPER, dials, 4);
     distances("sideband absent", PAMUKLID_ABSENT, dials, 1);
     panels();
+    logs();
     pamuklid_decision d = pamuklid_unmeasured(station_at(14100000, LOCAL, POWER_UNKNOWN), image,
                                               image_len);
     printf("spectrum not known: ");

@@ -5,6 +5,7 @@ use Prim.Native.Nat.{ℕ}
 use mathlib.Core.Bool.{Bool, cond}
 use mathlib.Core.List.{List}
 use mathlib.Core.Path.{_≡_}
+use lib.ListN.{length}
 use lib.Ieee.{Float, binary64, ofBits}
 use lib.IntN.{ℤ}
 use Rattle.figures.specs.Figure.{zeroHz}
@@ -51,6 +52,10 @@ use Rattle.table.specs.Table.{tableOf}
 use Rattle.report.specs.Report.{reportRows, reportTests, answerOf as reportAnswer, bytesOf as reportBytes}
 use Rattle.report.specs.declared.TableReport.{TableReport}
 use Rattle.report.specs.declared.TableReport.the-variants.{Rows as ReportOf, Refused as NoReport}
+use Rattle.airtime.specs.Airtime.{airtimeTests, airtimeAnswer, airtimeLeft, totalsOf}
+use Rattle.airtime.specs.declared.Airtime.{Airtime}
+use Rattle.airtime.specs.declared.Airtime.the-variants.{Totals, Refused as NoTotals}
+use Rattle.flat.specs.declared.FlatAirtime.{FlatAirtime}
 use Rattle.flat.specs.declared.FlatDistance.{FlatDistance}
 use Rattle.flat.specs.declared.FlatStation.{FlatStation}
 use Rattle.flat.specs.declared.FlatEdges.{FlatEdges}
@@ -267,6 +272,16 @@ pub record FlatTexted (hz : Float) (text lent left : List ℕ) (answer : FlatTex
   pub answered : answer ≡ textFlat (textAnswer (refusalOf (textTests hz text lent)) text)
   pub bytes : left ≡ textBytes (refusalOf (textTests hz text lent)) text lent
 
--- the boundary's version, 0.7.0: 10,000 times the first number, 100 times the second, and the third
+-- time on the air: how many totals there are, or a refusal's number and count 0
+abbrev pub airtimeFlat : Airtime → FlatAirtime
+airtimeFlat (Totals n) = record { count = n; refusal = 0 }
+airtimeFlat (NoTotals n) = record { count = 0; refusal = n }
+
+-- what the exported totals promise: the flat form of the answer, and every element lent
+pub record FlatTotalled (starts bands seconds lent left : List ℕ) (answer : FlatAirtime) : Type 0 where
+  pub answered : answer ≡ airtimeFlat (airtimeAnswer (refusalOf (airtimeTests starts bands seconds lent)) (length starts))
+  pub elements : left ≡ airtimeLeft (refusalOf (airtimeTests starts bands seconds lent)) (totalsOf starts bands seconds) lent
+
+-- the boundary's version, 0.9.0: 10,000 times the first number, 100 times the second, and the third
 abbrev pub versionNumber : ℕ
-versionNumber = 700
+versionNumber = 900

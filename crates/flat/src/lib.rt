@@ -1,6 +1,7 @@
 // The records of the boundary to C: flat structs of numbers, made from the answers and read into the station record and the edges. It
-// uses codes, profile, occupancy, air, station, fault, tidy, decision, numbers, ceiling, dials, report, distance and number_texts.
+// uses codes, profile, occupancy, air, station, fault, tidy, decision, numbers, ceiling, dials, report, distance, number_texts and airtime.
 use air::Margins;
+use airtime::Airtime;
 use ceiling::CeilingAnswer;
 use ceiling::Rung;
 use codes::Checked;
@@ -30,6 +31,7 @@ ghost use Rattle.flat.specs.Fits.{FaultFits, RungFits, Counted, ReportCo
 ghost use Rattle.flat.specs.Flat.{stationRecordOf, stationOf, edgesOf, rangeFlat, segmentFlat, overshootFlat};
 ghost use Rattle.flat.specs.Flat.{guidanceIndex, guidanceFlat, ruleFlat, bandFlat, widthFlat};
 ghost use Rattle.flat.specs.Flat.{faultFlat, tidinessFlat, flatOf, ceilingFlat, dialsFlat, reportFlat, infinityHz, distanceFlat, textFlat};
+ghost use Rattle.flat.specs.Flat.{airtimeFlat};
 
 // The station record: codes and presence bytes as document 01 numbers them, figures whatever they are.
 #[repr(C)]
@@ -144,6 +146,13 @@ pub struct FlatDistance {
 #[repr(C)]
 pub struct FlatText {
     pub length: u32,
+    pub refusal: u8,
+}
+
+// Totals of time on the air: how many were written, or the refusal's number and count 0.
+#[repr(C)]
+pub struct FlatAirtime {
+    pub count: u32,
     pub refusal: u8,
 }
 
@@ -563,6 +572,22 @@ pub fn text_flat(a: TextAnswer) -> FlatText
         },
         TextAnswer::Refused(n) => FlatText {
             length: 0,
+            refusal: n,
+        },
+    }
+}
+
+// An answer on time on the air, flat.
+pub fn airtime_flat(a: Airtime) -> FlatAirtime
+    ensures { λ r. ⌜ r ≡ airtimeFlat a ⌝ }
+{
+    match a {
+        Airtime::Totals(n) => FlatAirtime {
+            count: n,
+            refusal: 0,
+        },
+        Airtime::Refused(n) => FlatAirtime {
+            count: 0,
             refusal: n,
         },
     }

@@ -1,5 +1,6 @@
 // The boundary to C: the public calls, exported, with flat structs of numbers. It uses station, image, fault, tidy, numbers, verdict,
-// ceiling, dials, report, distance, number_texts and flat.
+// ceiling, dials, report, distance, number_texts, airtime and flat.
+use flat::FlatAirtime;
 use flat::FlatCeiling;
 use flat::FlatDecision;
 use flat::FlatDials;
@@ -21,10 +22,10 @@ ghost use Rattle.distance.specs.Distance.{distanceOf};
 ghost use Rattle.number_texts.specs.Text.{atText, khzText, hertzText};
 ghost use Rattle.numbers.specs.Refusal.{refusalNumber};
 ghost use Rattle.flat.specs.Flat.{stationRecordOf, stationOf, edgesOf, faultFlat, tidinessFlat, flatOf};
-ghost use Rattle.flat.specs.Flat.{ceilingFlat, FlatDialed, FlatReported, distanceFlat, FlatTexted, versionNumber};
+ghost use Rattle.flat.specs.Flat.{ceilingFlat, FlatDialed, FlatReported, distanceFlat, FlatTexted, FlatTotalled, versionNumber};
 
-// The version of this boundary: 0.7.0.
-pub const VERSION: u32 = 700;
+// The version of this boundary: 0.9.0.
+pub const VERSION: u32 = 900;
 
 // The version of this boundary, that of the header: 10,000 times the first number, 100 times the second, and the third.
 #[no_mangle]
@@ -185,4 +186,17 @@ pub extern "C" fn pamuklid_text_hertz(hz: f64, text: &mut [u8]) -> FlatText
     ensures { λ r. ⌜ FlatTexted hz (hertzText hz) (now (text .entry)) (now (text .exit)) r ⌝ }
 {
     flat::text_flat(number_texts::hertz(hz, text))
+}
+
+// Of each record of a log the seconds of its band over itself and the earlier records that start at most 599 seconds before it.
+#[no_mangle]
+pub extern "C" fn pamuklid_airtime_of(
+    starts: &[u64],
+    bands: &[u8],
+    seconds: &[u16],
+    totals: &mut [u64],
+) -> FlatAirtime
+    ensures { λ r. ⌜ FlatTotalled (now (starts .entry)) (now (bands .entry)) (now (seconds .entry)) (now (totals .entry)) (now (totals .exit)) r ⌝ }
+{
+    flat::airtime_flat(airtime::totals(starts, bands, seconds, totals))
 }

@@ -139,6 +139,29 @@ fn reports(image: &[u8]) {
     }
 }
 
+/// The seconds on the air of the ten minutes up to each record of a log.
+fn times(title: &str, starts: &[u64], lent: usize) {
+    let (bands, seconds) = ([20, 20, 40, 20, 20], [60, 30, 45, 15, 100]);
+    let n = starts.len();
+    let mut totals = vec![0; lent];
+    print!("{title}, totals of {n} records with room for {lent}:");
+    match pamuklid::airtime(starts, &bands[..n], &seconds[..n], &mut totals) {
+        Err(r) => print!(" {}", refusal(r)),
+        Ok(()) => totals.iter().for_each(|total| print!(" {total}")),
+    }
+    println!();
+}
+
+fn logs() {
+    let starts = [1_000, 1_599, 1_599, 1_600, 2_199];
+    let falling = [1_000, 1_599, 1_598, 1_600, 2_199];
+    times("log", &starts, 5);
+    times("log", &[], 0);
+    times("log", &starts, 4);
+    times("third start one second early", &falling, 5);
+    times("third start one second early", &falling, 4);
+}
+
 fn verdicts(image: &[u8]) {
     use Control::{Automatic, Local};
     use Direction::{Originate, Respond, RespondToAutomatic};
@@ -323,6 +346,7 @@ fn main() -> ExitCode {
     distances(&image, "automatic, originating", Some(Sideband::Upper), &dials);
     distances(&image, "sideband absent", None, &dials[..1]);
     panels();
+    logs();
     let s = station(14_100_000.0, Control::Local, None);
     println!("spectrum not known: {}", answer(pamuklid::unmeasured(&s, &image)));
     let edges = Edges::both(1_250.0, 1_750.0);

@@ -306,6 +306,11 @@ numbered! {
         Text = 24 "text",
         /// The report of a table is longer than the whole rows lent.
         Report = 25 "report",
+        /// A start of a log is below the one before it.
+        Starts = 31 "starts",
+        /// Starts, bands, seconds and totals of a log are not one for each record, or there are more than
+        /// 65,536 records.
+        Runs = 32 "runs",
     }
 }
 

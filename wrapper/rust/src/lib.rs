@@ -19,9 +19,10 @@
 //! | [`DialList::distance`], [`distance`] | how far a dial stands from those of a list |
 //! | [`text_at`], [`text_khz`] | a frequency's text, kilohertz: three decimals, or as many as it needs |
 //! | [`text_hertz`] | a figure's text, whole hertz |
+//! | [`airtime`] | of each record of a log the seconds on the air of the ten minutes up to it |
 //!
 //! No call keeps what it is lent or has a state of its own: equal arguments give equal answers, and
-//! calls may run at once on several threads. Images, edges and rungs are only read. Frequencies are
+//! calls may run at once on several threads. Images, edges, rungs and logs are only read. Frequencies are
 //! in hertz, power in watts. Every figure is accepted as an argument, NaN and infinities too; what is
 //! outside its values is answered by a [`Refusal`].
 //!
@@ -33,7 +34,7 @@
 //! [`Decision`] or [`Ceiling`] is sentences that an operator understands: on one line with `{}`, a line
 //! for each with `{:#}`. [`raw`] is the bare boundary, in numbers.
 //!
-//! Frequencies in words are the texts of the last three calls: dials and edges on the air as
+//! Frequencies in words are the texts of these calls: dials and edges on the air as
 //! [`Kilohertz`], ranges of the table as short as [`Range`] has them, widths, distances and audio as
 //! [`Hertz`]. A text has whole hertz: a figure that is not whole is shown with `about` before it.
 //!
@@ -96,7 +97,7 @@ pub use codes::{
 };
 pub use dials::{DialList, DialRow, DialRows, Distance, ROW};
 pub use fault::{Fault, Place, Table};
-pub use raw::Edges;
+pub use raw::{Edges, MOST_LOG};
 pub use report::{Report, ReportRow, ReportRows, MOST_REPORT, REPORT_ROW};
 pub use station::Station;
 pub use texts::{text_at, text_hertz, text_khz, MOST_TEXT};
@@ -263,4 +264,33 @@ pub fn distance(
     codes::refused(flat.refusal)?;
     let value = Distance::from_numbers(flat.listed, flat.distance_hz);
     Ok(codes::known("listed mark", flat.listed, value))
+}
+
+/// Time on the air, for a limit on how long a station holds a shared channel. Record `i` of a log began at
+/// `starts[i]`, a second on any clock, on `bands[i]`, any number, and lasted `seconds[i]`; `totals[i]` is
+/// then the seconds of its band over itself and the earlier records that start at most 599 seconds before it.
+/// Of records that start in the same second those before it in the log count.
+///
+/// Every total is written; on a refusal none is. Refusals 31 ([`Refusal::Starts`]: a start is below the one
+/// before it; equal ones are in order), then 32 ([`Refusal::Runs`]: the four are not of one length, or longer
+/// than [`MOST_LOG`]).
+///
+/// ```
+/// use pamuklid::{airtime, Refusal};
+///
+/// let (bands, seconds, mut totals) = ([20, 20, 40, 20], [60, 30, 45, 15], [0; 4]);
+/// airtime(&[0, 300, 300, 600], &bands, &seconds, &mut totals)?;
+/// assert_eq!(totals, [60, 90, 45, 45]);
+/// assert_eq!(airtime(&[1, 0], &bands, &seconds, &mut totals), Err(Refusal::Starts));
+/// assert_eq!(airtime(&[0, 1], &bands, &seconds, &mut totals), Err(Refusal::Runs));
+/// # Ok::<(), Refusal>(())
+/// ```
+pub fn airtime(
+    starts: &[u64],
+    bands: &[u8],
+    seconds: &[u16],
+    totals: &mut [u64],
+) -> Result<(), Refusal> {
+    version::checked();
+    codes::refused(raw::airtime(starts, bands, seconds, totals).refusal)
 }

@@ -4,13 +4,13 @@
 //! [`version`] is [`VERSION`].
 //!
 //! The only file with unsafe code: each call lends slices as pointer and count, and the library
-//! promises to follow them no further, to keep none, and to write the dial rows, the rows of a report
-//! and the texts alone.
+//! promises to follow them no further, to keep none, and to write the dial rows, the rows of a report,
+//! the texts and the totals alone.
 
 use std::mem::size_of;
 
 /// The version of the library that this crate was written for: major * 10000 + minor * 100 + patch.
-pub const VERSION: u32 = 700;
+pub const VERSION: u32 = 900;
 /// A control, license or sideband that is not known.
 pub const ABSENT: u8 = 255;
 /// The rung of a ceiling that has none.
@@ -38,6 +38,8 @@ pub const MOST_REPORT: usize = 131_072;
 pub const REPORT_GAP: u8 = 255;
 /// The bytes of the longest text.
 pub const MOST_TEXT: usize = 15;
+/// The most records of a log.
+pub const MOST_LOG: usize = 65_536;
 /// The least bytes of an image.
 pub const IMAGE_LEAST: usize = 92;
 /// The most bytes of an image.
@@ -261,6 +263,16 @@ pub struct Text {
     pub refusal: u8,
 }
 
+/// The answer on a log's time on the air.
+#[repr(C)]
+#[derive(Clone, Copy, Debug)]
+pub struct Airtime {
+    /// The totals that were written, one for each record; 0 on a refusal.
+    pub count: u32,
+    /// 0; or 31, 32.
+    pub refusal: u8,
+}
+
 /// Whether a table is tidy.
 #[repr(C)]
 #[derive(Clone, Copy, Debug)]
@@ -294,6 +306,7 @@ const _: () = {
     assert!(size_of::<Distance>() == 16);
     assert!(size_of::<Report>() == 8);
     assert!(size_of::<Text>() == 8);
+    assert!(size_of::<Airtime>() == 8);
     assert!(size_of::<Tidiness>() == 2);
     assert!(size_of::<Fault>() == 6);
 };
@@ -357,6 +370,16 @@ extern "C" {
     fn pamuklid_text_at(hz: f64, text: *mut u8, room: usize) -> Text;
     fn pamuklid_text_khz(hz: f64, text: *mut u8, room: usize) -> Text;
     fn pamuklid_text_hertz(hz: f64, text: *mut u8, room: usize) -> Text;
+    fn pamuklid_airtime_of(
+        starts: *const u64,
+        start_count: usize,
+        bands: *const u8,
+        band_count: usize,
+        seconds: *const u16,
+        second_count: usize,
+        totals: *mut u64,
+        total_count: usize,
+    ) -> Airtime;
 }
 
 /// `pamuklid_version`: the version of the library that is linked.
@@ -465,6 +488,23 @@ pub fn text_khz(hz: f64, text: &mut [u8]) -> Text {
 #[inline]
 pub fn text_hertz(hz: f64, text: &mut [u8]) -> Text {
     unsafe { pamuklid_text_hertz(hz, text.as_mut_ptr(), text.len()) }
+}
+
+/// `pamuklid_airtime_of`.
+#[inline]
+pub fn airtime(starts: &[u64], bands: &[u8], seconds: &[u16], totals: &mut [u64]) -> Airtime {
+    unsafe {
+        pamuklid_airtime_of(
+            starts.as_ptr(),
+            starts.len(),
+            bands.as_ptr(),
+            bands.len(),
+            seconds.as_ptr(),
+            seconds.len(),
+            totals.as_mut_ptr(),
+            totals.len(),
+        )
+    }
 }
 
 /// The figures of rungs, one rung after the other: edges are four figures in the order of a rung.

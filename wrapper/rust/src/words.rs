@@ -388,6 +388,11 @@ impl Refusal {
             Self::Rows => "the dial list is longer than the rows lent",
             Self::Text => "the text of the figure is longer than the bytes lent",
             Self::Report => "the table's report is longer than the rows lent",
+            Self::Starts => "a record of the log starts before the one above it",
+            Self::Runs => {
+                "the log's starts, bands, seconds and totals are not one for each record, or there \
+                 are more than 65,536 records"
+            }
         }
     }
 
@@ -420,6 +425,8 @@ impl Refusal {
             Self::Rows => "lend more rows",
             Self::Text => "lend more bytes: 15 have room for every text",
             Self::Report => "lend more rows: 131,072 have room for every report",
+            Self::Starts => "put the log's records in the order of their starts",
+            Self::Runs => "give at most 65,536 records, with as many of each",
         }
     }
 }

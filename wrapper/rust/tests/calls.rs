@@ -2,11 +2,11 @@
 //! library's.
 
 use pamuklid::{
-    ceiling, check, distance, evaluate, fault_of, raw, report, safe_dials, text_at, text_hertz,
-    text_khz, tidy, unmeasured, version, Code, Control, DialRow, DialRows, Direction, Distance,
-    Edge, Edges, Fault, Guidance, Kind, License, Overshoot, Place, Policy, Range, Refusal,
-    ReportRow, Rule, Segment, Sideband, SixtyNotes, Station, Table, Verdict, MOST_REPORT,
-    MOST_TEXT, REPORT_ROW, ROW, VERSION,
+    airtime, ceiling, check, distance, evaluate, fault_of, raw, report, safe_dials, text_at,
+    text_hertz, text_khz, tidy, unmeasured, version, Code, Control, DialRow, DialRows, Direction,
+    Distance, Edge, Edges, Fault, Guidance, Kind, License, Overshoot, Place, Policy, Range,
+    Refusal, ReportRow, Rule, Segment, Sideband, SixtyNotes, Station, Table, Verdict, MOST_LOG,
+    MOST_REPORT, MOST_TEXT, REPORT_ROW, ROW, VERSION,
 };
 
 static IMAGE: &[u8] = include_bytes!("../../../tools/reference/practice.bin");
@@ -137,6 +137,52 @@ fn reports_refused() {
     let flat = raw::report(IMAGE, 2, &mut bytes);
     assert_eq!((flat.count, flat.refusal), (1, 0));
     assert_eq!(MOST_REPORT, 2 * (256 * 255 / 2) + 256 * 257);
+}
+
+/// 599 seconds count and 600 do not; the record itself counts, and of equal starts the earlier.
+#[test]
+fn times_on_the_air() {
+    let mut totals = [7; 6];
+    let starts = [0, 599, 600, 600, 600, u64::MAX];
+    let (bands, seconds) = ([20, 20, 20, 255, 20, 20], [1, 10, 100, 1_000, 10_000, 65_535]);
+    assert_eq!(airtime(&starts, &bands, &seconds, &mut totals), Ok(()));
+    assert_eq!(totals, [1, 11, 110, 1_000, 10_110, 65_535]);
+    assert_eq!(airtime(&[], &[], &[], &mut []), Ok(()));
+    let flat = raw::airtime(&starts[..2], &bands[..2], &seconds[..2], &mut totals[..2]);
+    assert_eq!((flat.count, flat.refusal), (2, 0));
+}
+
+/// The most records there may be, all of one band and one start.
+#[test]
+fn longest_log() {
+    let starts = vec![u64::MAX; MOST_LOG + 1];
+    let (bands, seconds) = (vec![0; MOST_LOG + 1], vec![65_535; MOST_LOG + 1]);
+    let mut totals = vec![7; MOST_LOG + 1];
+    assert_eq!(airtime(&starts, &bands, &seconds, &mut totals), Err(Refusal::Runs));
+    assert!(totals.iter().all(|&n| n == 7));
+    let n = MOST_LOG;
+    assert_eq!(airtime(&starts[..n], &bands[..n], &seconds[..n], &mut totals[..n]), Ok(()));
+    assert!(totals[..n].iter().zip(1..).all(|(&total, k)| total == 65_535 * k));
+    assert_eq!(totals[n], 7);
+}
+
+/// Nothing is written where a log is refused; 31 comes before 32.
+#[test]
+fn times_refused() {
+    let (starts, bands, seconds) = ([5, 5, 6], [1, 1, 1], [2, 2, 2]);
+    let mut totals = [7; 3];
+    for short in 0..4 {
+        let to = |run: usize| if run == short { 2 } else { 3 };
+        let (s, b, n) = (&starts[..to(0)], &bands[..to(1)], &seconds[..to(2)]);
+        assert_eq!(airtime(s, b, n, &mut totals[..to(3)]), Err(Refusal::Runs), "run {short}");
+    }
+    for starts in [[5, 4, 6], [5, 6, 5], [1, 0, 0]] {
+        assert_eq!(airtime(&starts, &bands, &seconds, &mut totals), Err(Refusal::Starts));
+        assert_eq!(airtime(&starts, &[], &seconds, &mut totals), Err(Refusal::Starts));
+        let flat = raw::airtime(&starts, &bands, &[], &mut totals);
+        assert_eq!((flat.count, flat.refusal), (0, 31));
+    }
+    assert_eq!(totals, [7; 3]);
 }
 
 /// tools/reference/practice.txt has the offsets.

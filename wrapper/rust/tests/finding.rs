@@ -131,6 +131,6 @@ fn main() {
     let output = cargo("run", &root, &root, "");
     assert!(!output.status.success());
     assert_eq!(String::from_utf8_lossy(&output.stdout), "0.7.1\n", "{}", said(&output));
-    let why = "written for libpamuklid.a 0.7.0, and 0.7.1 is linked: build the library again";
+    let why = "written for libpamuklid.a 0.9.0, and 0.9.1 is linked: build the library again";
     assert!(said(&output).contains(why), "{}", said(&output));
 }

@@ -138,6 +138,7 @@ fn every_number() {
         ("REPORT_ROW", raw::REPORT_ROW),
         ("MOST_REPORT", raw::MOST_REPORT),
         ("MOST_TEXT", raw::MOST_TEXT),
+        ("MOST_LOG", raw::MOST_LOG),
         ("IMAGE_LEAST", raw::IMAGE_LEAST),
         ("IMAGE_MOST", raw::IMAGE_MOST),
         ("IMAGE_GENERAL", raw::IMAGE_GENERAL),
@@ -255,6 +256,7 @@ fn plain(word: &str) -> String {
         "uint8_t" => "u8",
         "uint16_t" => "u16",
         "uint32_t" => "u32",
+        "uint64_t" => "u64",
         "int32_t" => "i32",
         "size_t" => "usize",
         _ => "",
@@ -403,8 +405,8 @@ fn structs_and_calls() {
     let (structs, calls) = of_rust(&file("src/raw.rs"));
     let (their_structs, their_calls) = of_rust(&library());
     let names = |of: &Structs| of.keys().cloned().collect::<BTreeSet<_>>();
-    assert_eq!(c_structs.len(), 10);
-    assert_eq!(c_calls.len(), 14);
+    assert_eq!(c_structs.len(), 11);
+    assert_eq!(c_calls.len(), 15);
     assert_eq!(names(&structs), names(&c_structs));
     assert_eq!(names(&structs), names(&their_structs));
     for (name, fields) in &structs {

@@ -42,7 +42,7 @@ fn figures() {
     reads(range(5_330_600.0, 5_333_450.0), "5330.6 to 5333.450 kHz");
     let segment = Segment { range: range(14_095_000.0, 14_099_500.0), rule: Rule::Table(13) };
     reads(segment, "14095 to 14099.5 kHz (rule 13 of the table)");
-    reads(Version { major: 0, minor: 7, patch: 0 }, "0.7.0");
+    reads(Version { major: 0, minor: 9, patch: 0 }, "0.9.0");
     reads(Version::from_number(123_456), "12.34.56");
 }
 
@@ -205,6 +205,12 @@ fn refusals() {
         (23, "the dial list is longer than the rows lent"),
         (24, "the text of the figure is longer than the bytes lent"),
         (25, "the table's report is longer than the rows lent"),
+        (31, "a record of the log starts before the one above it"),
+        (
+            32,
+            "the log's starts, bands, seconds and totals are not one for each record, or there are \
+             more than 65,536 records",
+        ),
     ];
     assert_eq!(texts.len(), Refusal::ALL.len());
     for (&refusal, (number, text)) in Refusal::ALL.iter().zip(texts) {

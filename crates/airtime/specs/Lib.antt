@@ -1,0 +1,4 @@
+pub mod Airtime
+pub mod Sum
+pub mod Laws
+pub mod Examples

@@ -1,0 +1,58 @@
+-- `run_airtime::make_bands` is safe and ends. The measure is what is left of the run.
+use Prim.Native.Nat.{_-_, _≤_, _<_}
+use mathlib.Core.Path.{_≡_}
+use native.Mathlib.Omega.{arith}
+use lib.ListN.{length}
+use native.Mathlib.Nat.{mod-lt}
+use borrow.Author.Needs.{needs}
+use Rattle.run_airtime.proofs.make_bands.Statement.{statement}
+use Rattle.run_airtime.proofs.make_bands.Tie as tie
+
+abbrev Inv-loop : tie.InvT-loop
+Inv-loop bands out₀ i₀ out i = (i ≤ length out₀) × (length out ≡ length out₀)
+
+abbrev μ-loop : tie.MeasureT-loop
+μ-loop bands out₀ i₀ out i = length out₀ - i
+
+loop-holds : tie.Need-loop-holds Inv-loop μ-loop
+loop-holds c = omega arith
+
+rem-out : tie.Need-rem-out Inv-loop μ-loop
+rem-out c = omega arith
+
+cast-out : tie.Need-cast-out Inv-loop μ-loop
+cast-out c = omega (arith, mod-lt (c .before .loop .i) (c .before .before .pre .0))
+
+slice-write-out : tie.Need-slice-write-out Inv-loop μ-loop
+slice-write-out c = omega arith
+
+add-i : tie.Need-add-i Inv-loop μ-loop
+add-i c = omega arith
+
+loop-less : tie.Need-loop-less Inv-loop μ-loop
+loop-less c = omega arith
+
+loop-again : tie.Need-loop-again Inv-loop μ-loop
+loop-again c = (omega arith, search needs)
+
+same-length : tie.Need-same-length Inv-loop μ-loop
+same-length c = omega arith
+
+returns : tie.Need-returns Inv-loop μ-loop
+returns c = omega arith
+
+pub make-bands-spec : {M : Type 1} → statement M
+make-bands-spec =
+    tie.close
+    (tie.spec
+    Inv-loop
+    μ-loop
+    loop-holds
+    rem-out
+    cast-out
+    slice-write-out
+    add-i
+    loop-less
+    loop-again
+    same-length
+    returns)

@@ -1,0 +1,61 @@
+-- `run_airtime::make_seconds` is safe and ends. The measure is what is left of the run.
+use Prim.Native.Nat.{_-_, _≤_, _<_}
+use mathlib.Core.Path.{_≡_}
+use native.Mathlib.Omega.{arith}
+use lib.ListN.{length}
+use borrow.Author.Needs.{needs}
+use Rattle.run_airtime.proofs.make_seconds.Statement.{statement}
+use Rattle.run_airtime.proofs.make_seconds.Tie as tie
+
+abbrev Inv-loop : tie.InvT-loop
+Inv-loop factor out₀ seconds₀ i₀ out seconds i = (i ≤ length out₀) × ((length out ≡ length out₀) × (seconds < 65536))
+
+abbrev μ-loop : tie.MeasureT-loop
+μ-loop factor out₀ seconds₀ i₀ out seconds i = length out₀ - i
+
+loop-holds : tie.Need-loop-holds Inv-loop μ-loop
+loop-holds c = omega arith
+
+cast-out : tie.Need-cast-out Inv-loop μ-loop
+cast-out c = omega arith
+
+mul-out : tie.Need-mul-out Inv-loop μ-loop
+mul-out c = omega arith
+
+slice-write-out : tie.Need-slice-write-out Inv-loop μ-loop
+slice-write-out c = omega arith
+
+add-seconds : tie.Need-add-seconds Inv-loop μ-loop
+add-seconds c = omega arith
+
+add-i : tie.Need-add-i Inv-loop μ-loop
+add-i c = omega arith
+
+loop-less : tie.Need-loop-less Inv-loop μ-loop
+loop-less c = omega arith
+
+loop-again : tie.Need-loop-again Inv-loop μ-loop
+loop-again c = (omega arith, (search needs, omega arith))
+
+same-length : tie.Need-same-length Inv-loop μ-loop
+same-length c = omega arith
+
+returns : tie.Need-returns Inv-loop μ-loop
+returns c = omega arith
+
+pub make-seconds-spec : {M : Type 1} → statement M
+make-seconds-spec =
+    tie.close
+    (tie.spec
+    Inv-loop
+    μ-loop
+    loop-holds
+    cast-out
+    mul-out
+    slice-write-out
+    add-seconds
+    add-i
+    loop-less
+    loop-again
+    same-length
+    returns)

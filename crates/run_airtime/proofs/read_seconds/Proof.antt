@@ -1,0 +1,65 @@
+-- `run_airtime::read_seconds` is safe and ends. The measure is what is left of the run.
+use Prim.Native.Nat.{_-_, _≤_, _<_}
+use mathlib.Core.Path.{_≡_}
+use native.Mathlib.Omega.{arith}
+use lib.ListN.{length}
+use borrow.Author.Needs.{needs}
+use Rattle.run_airtime.proofs.read_seconds.Statement.{statement}
+use Rattle.run_airtime.proofs.read_seconds.Tie as tie
+
+abbrev Inv-loop : tie.InvT-loop
+Inv-loop s at out₀ i₀ out i = (i ≤ length out₀) × (length out ≡ length out₀)
+
+abbrev μ-loop : tie.MeasureT-loop
+μ-loop s at out₀ i₀ out i = length out₀ - i
+
+loop-holds : tie.Need-loop-holds Inv-loop μ-loop
+loop-holds c = omega arith
+
+mul-u16-at : tie.Need-mul-u16-at Inv-loop μ-loop
+mul-u16-at c = omega arith
+
+add-u16-at : tie.Need-add-u16-at Inv-loop μ-loop
+add-u16-at c = omega arith
+
+u16-at-requires : tie.Need-u16-at-requires Inv-loop μ-loop
+u16-at-requires c κs = omega arith
+
+mul-out : tie.Need-mul-out Inv-loop μ-loop
+mul-out c = omega arith
+
+slice-write-out : tie.Need-slice-write-out Inv-loop μ-loop
+slice-write-out c = omega arith
+
+add-i : tie.Need-add-i Inv-loop μ-loop
+add-i c = omega arith
+
+loop-less : tie.Need-loop-less Inv-loop μ-loop
+loop-less c = omega arith
+
+loop-again : tie.Need-loop-again Inv-loop μ-loop
+loop-again c = (omega arith, search needs)
+
+same-length : tie.Need-same-length Inv-loop μ-loop
+same-length c = omega arith
+
+returns : tie.Need-returns Inv-loop μ-loop
+returns c = omega arith
+
+pub read-seconds-spec : {M : Type 1} → statement M
+read-seconds-spec =
+    tie.close
+    (tie.spec
+    Inv-loop
+    μ-loop
+    loop-holds
+    mul-u16-at
+    add-u16-at
+    u16-at-requires
+    mul-out
+    slice-write-out
+    add-i
+    loop-less
+    loop-again
+    same-length
+    returns)
