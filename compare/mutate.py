@@ -3,8 +3,8 @@
 builds the driver against that copy and sees whether a run notices a difference.
 
     python3 compare/mutate.py [--rust] [--stub] [--only TEXT] [--from N] [--work DIR] [--seed S]
-                              [--verdicts N] [--ceilings N] [--dials N] [--texts N] [--check]
-                              [-v] [--report FILE]
+                              [--verdicts N] [--ceilings N] [--dials N] [--texts N] [--reports N]
+                              [--check] [-v] [--report FILE]
 
 Without --stub the library is linked (PAMUKLID_LIB_DIR); with --stub its place is taken by a second,
 unchanged copy of the Rust, which measures how sharp the cases are without the library. --rust plants
@@ -44,6 +44,7 @@ def main():
     args.add_argument("--ceilings", type=int, default=40000)
     args.add_argument("--dials", type=int, default=40000)
     args.add_argument("--texts", type=int, default=200000)
+    args.add_argument("--reports", type=int, default=100000)
     args.add_argument("--check", action="store_true")
     args.add_argument("--report")
     args.add_argument("-v", action="store_true", dest="verbose")
@@ -77,7 +78,7 @@ def plant_all(args, rust, work):
     place["stub.rs"] = os.path.join(driver, "src/stub.rs")
     text["stub.rs"] = open(os.path.join(HERE, "src/stub.rs"), encoding="utf-8").read()
     os.makedirs(os.path.join(work, "own"), exist_ok=True)
-    for name in ["expect.rs", "adapter.rs", "distance.rs", "sixty.rs"]:
+    for name in ["expect.rs", "adapter.rs", "distance.rs", "report.rs", "sixty.rs"]:
         place[name] = os.path.join(driver, "src", name)
         text[name] = open(os.path.join(HERE, "src", name), encoding="utf-8").read()
         put(os.path.join(work, "own", name), text[name])
@@ -104,7 +105,8 @@ def plant_all(args, rust, work):
         build += ["--features", "stub"]
     program = os.path.join(work, "target/mutant/pamuklid-compare")
     run = [program, "--brief", "--seed", str(args.seed), "--verdicts", str(args.verdicts),
-           "--ceilings", str(args.ceilings), "--dials", str(args.dials), "--texts", str(args.texts)]
+           "--ceilings", str(args.ceilings), "--dials", str(args.dials), "--texts", str(args.texts),
+           "--reports", str(args.reports)]
 
     def attempt():
         """(built, exit status, first line that says what)"""
@@ -175,10 +177,10 @@ def report(args, lines, summary):
            "One mistake at a time was planted in a copy of the Rust, or of the driver's own part; the "
            "driver was built with it and run beside %s, and had to notice a difference. Made by "
            "`python3 compare/mutate.py --report FILE` on %s: seed %d, the fixed cases and up to %d "
-           "verdicts, %d ceilings, %d dial lists and the texts of %d figures for each mistake, to the "
-           "first difference." % (
+           "verdicts, %d ceilings, %d dial lists, the texts of %d figures and %d reports for each "
+           "mistake, to the first difference." % (
                against, time.strftime("%Y-%m-%d", time.gmtime()), args.seed, args.verdicts,
-               args.ceilings, args.dials, args.texts),
+               args.ceilings, args.dials, args.texts, args.reports),
            "", summary + ".", "",
            "`mod.rs`, `profile.rs` and `occupancy.rs` are the Rust: mistakes at the comparisons, the "
            "`find` and `any`, the sums and the early returns of `check`, `evaluate` and what it calls, "

@@ -2,10 +2,10 @@
 file), new text. `same` says why a mistake changes no answer inside document 01's limits: such a one
 must survive, every other must be noticed.
 
-Files: profile.rs, occupancy.rs and mod.rs are the Rust; expect.rs, adapter.rs, distance.rs and sixty.rs
-are the driver's own part, written from documents 01 and 02 (refusals 1 to 6, 15, 16, 20 to 24 and their
-order, where a table is wrong, tidy, the distance of a dial, channel against segment, and what the Rust
-says only in words); stub.rs, with --stub, stands for a wrong library.
+Files: profile.rs, occupancy.rs and mod.rs are the Rust; expect.rs, adapter.rs, distance.rs, sixty.rs and
+report.rs are the driver's own part, written from documents 01 and 02 (refusals 1 to 6, 15, 16, 20 to 25
+and their order, where a table is wrong, tidy, the distance of a dial, channel against segment, the report
+of a table, and what the Rust says only in words); stub.rs, with --stub, stands for a wrong library.
 """
 
 MUTATIONS = []
@@ -1061,3 +1061,73 @@ at(N, "p.class == s.license && span(p).holds(x.air)", "p.class == s.license && s
 at(N, "envelope.map_or(own, |before| union(before, own))", "envelope.map_or(own, |_| own)")
 at(N, "if floors[i] == 1 { floor } else { ordinary }", "if floors[i] == 0 { floor } else { ordinary }")
 at(N, "            None => adapter::evaluate(p, s, 0, direction, &e)?,\n", "            None => break,\n")
+
+# -------------------------------------------------------------------- the report of a table
+W = "report.rs"
+# touching counted as sharing
+at(W, ".then(a.1.cmp(&b.1))", ".then(b.1.cmp(&a.1))")
+LATER = "low: if n < place { began } else { later },"
+at(W, LATER, "low: began,")
+at(W, LATER, "low: later,")
+at(W, LATER, "low: if n <= place { began } else { later },")
+at(W, "first: index.min(other),", "first: index,")
+at(W, "second: index.max(other),", "second: other,")
+at(W, "kind: kind as u8,\n                class,", "kind: kind as u8,\n                class: 0,")
+at(W, "for (n, &(other, later)) in open.iter().enumerate() {",
+   "for (n, &(other, later)) in open.iter().enumerate().take(1) {")
+# the last pair forgotten, and the last record
+at(W, "    out.sort_by_key(|row| (row.kind, row.first, row.second));",
+   "    out.sort_by_key(|row| (row.kind, row.first, row.second));\n    out.pop();")
+at(W, "records.iter().enumerate()", "records.iter().take(255).enumerate()")
+ORDER = "(row.kind, row.first, row.second)"
+at(W, ORDER, "(row.kind, row.second, row.first)")
+at(W, ORDER, "(row.first, row.second, row.kind)")
+at(W, ORDER, "(row.kind, row.class, row.first, row.second)")
+at(W, ORDER, "(row.kind, row.first)")
+at(W, "for class in 0..=4 {", "for class in 1..=4 {")
+at(W, "for class in 0..=4 {", "for class in 0..=3 {")
+at(W, "for class in 0..=4 {", "for class in [class] {")
+at(W, "filter(move |(_, p)| p.class == class)", "filter(move |(_, p)| p.class <= class)")
+at(W, "filter(move |(_, p)| p.class == class)",
+   "filter(move |(_, p)| p.class == class && (p.flags & 1 == 0 || p.emissions & 1 != 0))")
+at(W, "for table in [BANDS, SEGMENTS] {", "for table in [BANDS] {")
+at(W, "for table in [BANDS, SEGMENTS] {", "for table in [BANDS, SEGMENTS, crate::image::AUTOMATIC] {")
+at(W, "if open == 1 {", "if open > 0 {")
+PAST = "if low >= segment.high {"
+at(W, PAST, "if low > segment.high {", same="the gap up to the segment's end is listed either way")
+at(W, PAST, "if false {")
+at(W, "if low > from {", "if low >= from {")
+at(W, "if low > from {", "if false {")
+at(W, "if high > from {", "if true {")
+at(W, "if from < segment.high {", "if from <= segment.high {")
+at(W, "if from < segment.high {", "if false {")
+at(W, "let mut from = segment.low;", "let mut from = f64::NEG_INFINITY;")
+GAP = "Row { low, high, kind: GAP, class, first, second: first }"
+at(W, GAP, "Row { low, high, kind: GAP, class: 0, first, second: first }")
+at(W, GAP, "Row { low, high, kind: GAP, class, first, second: 0 }")
+at(W, "if class > 4 { 20 } else { image }", "if class > 5 { 20 } else { image }")
+at(W, "if class > 4 { 20 } else { image }", "if class > 3 { 20 } else { image }")
+at(W, "if class > 4 { 20 } else { image }", "if class > 4 && class != 255 { 20 } else { image }")
+at(W, "if class > 4 { 20 } else { image }", "if image == 0 && class > 4 { 20 } else { image }")
+at(W, "count > lent / ROW", "ROW * count > lent + 23")
+at(W, "count > lent / ROW", "count >= lent / ROW")
+at(W, "count > lent / ROW", "count > lent.div_ceil(ROW)")
+at(W, "count > lent / ROW", "count as u16 as usize > lent / ROW")
+HOME = "b.band == s.band && b.low <= s.low && s.high <= b.high"
+at(W, HOME, "b.low <= s.low && s.high <= b.high")
+at(W, HOME, "b.band == s.band")
+at(W, HOME, "b.band == s.band && b.low < s.low && s.high <= b.high")
+at(W, HOME, "b.band == s.band && b.low <= s.low && s.high < b.high")
+at(W, "self.kind != GAP", "true")
+at(W, "self.kind != GAP", "self.kind == 0")
+at(W, "self.first.to_le_bytes()", "self.first.to_be_bytes()")
+at(W, "out[16..18].copy_from_slice(&[self.kind, self.class]);",
+   "out[16..18].copy_from_slice(&[self.class, self.kind]);")
+at("stub.rs", "        return Report { count: 0, refusal: 25 };",
+   "        lent.fill(0);\n        return Report { count: 0, refusal: 25 };")
+at("stub.rs", "        return Report { count: 0, refusal: 25 };",
+   "        return Report { count: rows.len() as u32, refusal: 25 };")
+at("stub.rs", "Report { count: rows.len() as u32, refusal: 0 }",
+   "Report { count: (rows.len() as u16).into(), refusal: 0 }")
+at("stub.rs", "Report { count: rows.len() as u32, refusal: 0 }",
+   "lent[report::ROW * rows.len()..].fill(0);\n    Report { count: rows.len() as u32, refusal: 0 }")

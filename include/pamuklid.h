@@ -7,9 +7,9 @@
  * its own: equal arguments give equal answers, and calls may run at once on several threads.
  *
  * An image, rungs and floor bytes are lent as a pointer and a count of elements. They are only read,
- * during the call, and no byte of them changes. Dial rows and texts are lent to be written: see
- * pamuklid_safe_dials and pamuklid_text_at. With a count of 0 a pointer is not followed, but pass one
- * that is not null. Lent rows may not overlap what else is lent to the same call.
+ * during the call, and no byte of them changes. Dial rows, the rows of a report and texts are lent to be
+ * written: see pamuklid_safe_dials, pamuklid_report_of and pamuklid_text_at. With a count of 0 a pointer is
+ * not followed, but pass one that is not null. Lent rows may not overlap what else is lent to the same call.
  *
  * Structs go by value. Their sizes and offsets are checked below when this header is compiled (C11 or
  * C++11 on); whether the library is of the header's version is asked once, as the program starts:
@@ -28,8 +28,8 @@
 extern "C" {
 #endif
 
-/* The version of this header, 0.6.0: major * 10000 + minor * 100 + patch. */
-#define PAMUKLID_VERSION 600
+/* The version of this header, 0.7.0: major * 10000 + minor * 100 + patch. */
+#define PAMUKLID_VERSION 700
 
 /* Refusals, by number. A call that is refused has answered nothing: send nothing. */
 #define PAMUKLID_ACCEPTED 0                 /* none: the image is accepted, the call was answered */
@@ -52,17 +52,19 @@ extern "C" {
 #define PAMUKLID_REFUSAL_SIGNAL_EDGE 15     /* an edge not finite or above 2^40 in size */
 #define PAMUKLID_REFUSAL_RUNGS 16           /* rungs not in fours, more than 256 of them, or floor bytes
                                                that are not one for each rung, 0 or 1 */
-#define PAMUKLID_REFUSAL_STATION_CODE 20    /* a station code, a presence byte, the plan mark, the kind or
-                                               the direction outside its values */
+#define PAMUKLID_REFUSAL_STATION_CODE 20    /* a station code, a presence byte, the plan mark, the kind, the
+                                               direction or the license of a report outside its values */
 #define PAMUKLID_REFUSAL_STATION_FIGURE 21  /* a station figure, or a dial asked, not finite or above 2^40
                                                in size (only where it is known); a figure to be written,
                                                not finite or above 2^43 in size */
 #define PAMUKLID_REFUSAL_NO_IMAGE 22        /* PAMUKLID_POLICY_RULES and an image of no bytes */
 #define PAMUKLID_REFUSAL_ROWS 23            /* a dial list longer than the whole rows lent */
 #define PAMUKLID_REFUSAL_TEXT 24            /* a text longer than the bytes lent */
-/* They are looked for in the order 20, 21, 22, 1 to 14, 15, 16, 23, 24, each over the whole input before
- * the next; 22 and 1 to 14 with PAMUKLID_POLICY_RULES only, except by the calls that are about the image
- * alone (pamuklid_check, pamuklid_tidy, pamuklid_fault_of), which have 1 to 14 always. */
+#define PAMUKLID_REFUSAL_REPORT 25          /* a report longer than the whole rows lent */
+/* They are looked for in the order 20, 21, 22, 1 to 14, 15, 16, 23, 24, 25, each over the whole input
+ * before the next; 22 and 1 to 14 with PAMUKLID_POLICY_RULES only, except by the calls that are about the
+ * image alone (pamuklid_check, pamuklid_tidy, pamuklid_report_of, pamuklid_fault_of), which have 1 to 14
+ * always. */
 
 /* pamuklid_station: policy */
 #define PAMUKLID_POLICY_UNSET 0    /* none was chosen: everything is blocked */
@@ -290,6 +292,34 @@ typedef struct {
     uint8_t refusal;      /* PAMUKLID_ACCEPTED; else the image's refusal, 1 to 14 */
 } pamuklid_tidiness;
 
+/* The most rows that a report can have: 2 * 32640 pairs of bands and of data segments, and 256 segments with
+ * 257 gaps each. */
+#define PAMUKLID_MOST_REPORT 131072
+
+/* A report's answer. */
+typedef struct {
+    uint32_t count;          /* the rows that were written, at most PAMUKLID_MOST_REPORT; 0 on a refusal */
+    uint8_t refusal;         /* PAMUKLID_ACCEPTED: reported; else PAMUKLID_REFUSAL_... */
+} pamuklid_report;
+
+/* A row of a report is PAMUKLID_REPORT_ROW bytes, little-endian; an f64 is its 64 bits. By offset: */
+#define PAMUKLID_REPORT_ROW 24
+#define PAMUKLID_REPORT_ROW_LOW 0      /* f64, the stretch: from here to the next. Both are ends of records,
+                                          the lower below the higher */
+#define PAMUKLID_REPORT_ROW_HIGH 8     /* f64 */
+#define PAMUKLID_REPORT_ROW_KIND 16    /* u8, PAMUKLID_REPORT_... */
+#define PAMUKLID_REPORT_ROW_LICENSE 17 /* u8, PAMUKLID_LICENSE_... of two privileges, or of the gap: the one
+                                          asked for; of bands and segments 0 */
+#define PAMUKLID_REPORT_ROW_FIRST 18   /* u16, the index of the first record in its table, the smaller */
+#define PAMUKLID_REPORT_ROW_SECOND 20  /* u16, the index of the second; a gap has its segment's in both */
+#define PAMUKLID_REPORT_ROW_ZERO 22    /* two bytes, 0 */
+
+/* The kind of a row: two records that share a stretch, by the number of their table; or a gap */
+#define PAMUKLID_REPORT_BANDS 0      /* two bands */
+#define PAMUKLID_REPORT_SEGMENTS 1   /* two data segments */
+#define PAMUKLID_REPORT_PRIVILEGES 3 /* two privileges of one class */
+#define PAMUKLID_REPORT_GAP 255      /* a stretch of a data segment that no privilege of the class covers */
+
 /* The bytes of the longest text, "-8796093022.208". */
 #define PAMUKLID_MOST_TEXT 15
 
@@ -359,6 +389,21 @@ pamuklid_fault pamuklid_fault_of(const uint8_t *image, size_t n);
  * data segments and no two privileges of one class share a stretch. A table that is not tidy is judged all
  * the same; list and verdict may then differ. Reads image[0] to image[n - 1]. */
 pamuklid_tidiness pamuklid_tidy(const uint8_t *image, size_t n);
+
+/* A table's report, for a trustee who edits it: where records overlap, and where a class has no privilege for
+ * data, as rows in the bytes lent. license: PAMUKLID_LICENSE_..., the class whose gaps are asked for.
+ * First come the pairs of bands, then of data segments, then of privileges of one class (every class) that
+ * share a stretch of positive length, by the first and the second index, the first the smaller; ranges that
+ * only touch share none. Then the gaps, by segment, the lowest first: stretches of positive length, as long
+ * as they can be, of which no privilege of the class covers a part, whatever emissions it lists. Touching
+ * privileges leave no gap between them.
+ * A table is tidy exactly if it has no overlap and each data segment lies in a band of its number.
+ * rows[0] to rows[PAMUKLID_REPORT_ROW * count - 1] are written, every byte of them; bytes past them stay as
+ * lent. On a refusal no byte of rows changes. rows_len / PAMUKLID_REPORT_ROW whole rows have room; a longer
+ * report meets 25 (the rows are counted first), and PAMUKLID_MOST_REPORT rows have room for every one.
+ * Reads image[0] to image[n - 1]. Refusals 20 (license), 1 to 14, 25. */
+pamuklid_report pamuklid_report_of(const uint8_t *image, size_t n, uint8_t license, uint8_t *rows,
+                                   size_t rows_len);
 
 /* A fresh station: PAMUKLID_POLICY_UNSET, region 2, margin 50, plan off, all else absent. It permits
  * nothing. A station of zero bytes is not fresh: control, license and sideband 0 are local, Novice and
@@ -515,6 +560,10 @@ PAMUKLID_SIZE(pamuklid_distance, 16);
 PAMUKLID_AT(pamuklid_distance, distance_hz, 0);
 PAMUKLID_AT(pamuklid_distance, listed, 8);
 PAMUKLID_AT(pamuklid_distance, refusal, 9);
+
+PAMUKLID_SIZE(pamuklid_report, 8);
+PAMUKLID_AT(pamuklid_report, count, 0);
+PAMUKLID_AT(pamuklid_report, refusal, 4);
 
 PAMUKLID_SIZE(pamuklid_text, 8);
 PAMUKLID_AT(pamuklid_text, length, 0);

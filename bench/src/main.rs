@@ -7,6 +7,7 @@
 //! It prints ratios, library by Rust; with --show also the nanoseconds of each side.
 
 mod ffi;
+mod reports;
 mod rust {
     include!(concat!(env!("OUT_DIR"), "/rust.rs"));
 }
@@ -412,6 +413,10 @@ fn stacks(s: &Subject) {
         black_box(ffi::safe_dials(c.station, 0, c.edges, &s.image, &mut rows));
     });
     println!("  dial list         {n:>6}");
+    let n = stack::depth(|| {
+        black_box(ffi::report(&s.image, 2, &mut rows));
+    });
+    println!("  report            {n:>6}");
 }
 
 /// Tables of the largest one's shape and several sizes: the time that a record more costs.
@@ -502,8 +507,10 @@ fn main() {
     faults(&largest, rounds);
     growth(show, rounds);
     long_lists(show, rounds);
+    reports::timed(show, rounds, &hf, &largest);
     texts::timed(show, rounds);
     stacks(&hf);
     stacks(&largest);
+    reports::stacks();
     texts::stacks();
 }

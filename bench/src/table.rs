@@ -59,12 +59,12 @@ fn has_limit(segment: usize) -> bool {
     segment % 10 == 0
 }
 
-/// The order in which a list table has its data segments.
+/// The order in which a table has its records.
 #[derive(Clone, Copy, PartialEq)]
 pub enum Order {
-    /// By frequency: every row goes last.
+    /// By frequency: every row of a dial list goes last.
     Rising,
-    /// The other way: every row goes first.
+    /// The other way: every row of a dial list goes first.
     Falling,
     /// By chance, the same in every run.
     Mixed,
@@ -103,6 +103,21 @@ impl Table {
             .map(|i| Record { rule: RULE + 1, ..wide(i, i + 1) })
             .collect();
         tables[PRIVILEGES] = vec![Record { class: 4, ..whole }; privileges];
+        Table { tables }
+    }
+
+    /// A table with the longest report, for an Extra: alike bands and alike data segments, and privileges
+    /// side by side, in an order, that leave gaps all over them.
+    pub fn crowded(order: Order) -> Table {
+        let whole = span(start(0), 0.0, 1e6);
+        let mut tables: [Vec<Record>; 9] = Default::default();
+        tables[BANDS] = vec![whole; 256];
+        tables[SEGMENTS] = vec![Record { rule: RULE + 1, ..whole }; 256];
+        tables[PRIVILEGES] = ordered(256, order)
+            .into_iter()
+            .map(|i| 1e3 * (i + 1) as f64)
+            .map(|low| Record { class: 4, ..span(start(0), low, low + 500.0) })
+            .collect();
         Table { tables }
     }
 

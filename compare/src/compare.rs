@@ -11,6 +11,7 @@ use crate::ffi::{self, Decision, Edges, Fault, Figures, Parts, Station, StationP
 use crate::image;
 use crate::oracle::adapter::{self, Prepared};
 use crate::oracle::sixty::{self, Change, Climb};
+use crate::report::{self, Row};
 
 pub type Told<T> = Result<T, String>;
 
@@ -113,7 +114,7 @@ pub fn ceiling(
     Ok((want, climb))
 }
 
-/// How many bytes are lent for the rows of a list, and what they hold before.
+/// How many bytes are lent for the rows of a list or a report, and what they hold before.
 #[derive(Clone, Copy, Debug)]
 pub enum Room {
     Rows(usize),
@@ -124,19 +125,35 @@ pub enum Room {
 }
 
 impl Room {
-    /// Exact; a few bytes more; whole rows more; a row or a byte too short; none at all.
-    pub fn draw(rng: &mut Rng) -> Self {
+    /// Exact; a few bytes more; whole rows more; a row or a byte too short; none at all. A row has so many
+    /// bytes.
+    pub fn draw(rng: &mut Rng, row: usize) -> Self {
         match rng.below(12) {
             0..=4 => Self::More(0),
-            5 => Self::More(1 + rng.below(35)),
-            6 => Self::More(36 * (1 + rng.below(4))),
-            7 => Self::More(36 * rng.below(3) + rng.below(36)),
+            5 => Self::More(1 + rng.below(row - 1)),
+            6 => Self::More(row * (1 + rng.below(4))),
+            7 => Self::More(row * rng.below(3) + rng.below(row)),
             8 => Self::Fewer(1),
-            9 => Self::Fewer(36),
-            10 => Self::Fewer(1 + rng.below(36)),
+            9 => Self::Fewer(row),
+            10 => Self::Fewer(1 + rng.below(row)),
             _ => Self::Rows(0),
         }
     }
+
+    /// The bytes lent where so many are needed.
+    fn bytes(self, needed: usize, row: usize) -> usize {
+        match self {
+            Self::Rows(n) => row * n,
+            Self::More(n) => needed + n,
+            Self::Fewer(n) => needed.saturating_sub(n),
+        }
+    }
+}
+
+/// Bytes that hold anything.
+fn filled(fill: u64, n: usize) -> Vec<u8> {
+    let mut rng = Rng::new(fill, 0);
+    (0..n).map(|_| rng.next() as u8).collect()
 }
 
 /// A dial list: the refusal, the rows' bytes (none on a refusal), and how many bytes were lent.
@@ -159,13 +176,8 @@ pub fn dials(
     if rows.chunks(36).any(|r| (0..4).any(|i| odd(image::f64_at(r, 8 * i)))) {
         return Err("the Rust lists a negative zero or a NaN".to_owned());
     }
-    let lent = match room {
-        Room::Rows(n) => 36 * n,
-        Room::More(n) => rows.len() + n,
-        Room::Fewer(n) => rows.len().saturating_sub(n),
-    };
-    let mut rng = Rng::new(fill, 0);
-    let before: Vec<u8> = (0..lent).map(|_| rng.next() as u8).collect();
+    let lent = room.bytes(rows.len(), 36);
+    let before = filled(fill, lent);
     let mut after = before.clone();
     let tables = image.to_vec();
     let got = ffi::safe_dials(*s, direction, *e, &tables, &mut after);
@@ -184,6 +196,76 @@ pub fn dials(
     unchanged(&before[n..], &after[n..], "bytes past the rows")?;
     unchanged(image, &tables, "image")?;
     Ok(Found { refusal, rows, lent })
+}
+
+/// A table's report: the refusal, the rows (none on a refusal), how many the table has, and how many bytes
+/// were lent.
+pub struct Reported {
+    pub refusal: u8,
+    pub rows: Vec<Row>,
+    pub needed: usize,
+    pub lent: usize,
+}
+
+/// The bytes on either side of those lent for a report, which are looked at too.
+const BESIDE: usize = 8;
+
+pub fn report(image: &[u8], p: &Prepared, class: u8, room: Room, fill: u64) -> Told<Reported> {
+    let refusal = report::refusal(p.refusal, class);
+    let rows = match &p.table {
+        Some(table) if refusal == 0 => report::rows(table, class),
+        _ => Vec::new(),
+    };
+    let needed = rows.len();
+    let lent = room.bytes(report::ROW * needed, report::ROW);
+    let (refusal, rows) = match refusal {
+        0 if report::too_few(needed, lent) => (25, Vec::new()),
+        _ => (refusal, rows),
+    };
+    let mut after = filled(fill, BESIDE + lent + BESIDE);
+    let mut want = after.clone();
+    for (place, row) in want[BESIDE..].chunks_mut(report::ROW).zip(&rows) {
+        place.copy_from_slice(&row.encode());
+    }
+    let tables = image.to_vec();
+    let got = ffi::report(&tables, class, &mut after[BESIDE..BESIDE + lent]);
+    equal("the report's refusal", got.refusal, refusal)?;
+    equal("the report's count", got.count as usize, rows.len())?;
+    if after != want {
+        let bytes = |of: &[u8], i: usize| {
+            let at = BESIDE + report::ROW * i;
+            of[at..at + report::ROW].to_vec()
+        };
+        if let Some(i) = (0..rows.len()).find(|&i| bytes(&after, i) != bytes(&want, i)) {
+            let got = report_text(&bytes(&after, i));
+            return Err(format!(
+                "row {i}: library {got}, expected {}",
+                report_text(&bytes(&want, i))
+            ));
+        }
+        let i = (0..after.len()).find(|&i| after[i] != want[i]).unwrap_or(0);
+        return Err(format!("the call changed byte {} of {lent} lent", i as i64 - BESIDE as i64));
+    }
+    unchanged(image, &tables, "image")?;
+    if let Some(table) = p.table.as_ref().filter(|_| refusal == 0) {
+        // "Tidy shall follow from no overlap rows in bands, segments and all classes plus the band test."
+        let tidy = !rows.iter().any(Row::is_overlap) && report::at_home(table);
+        equal("tidy, by the report", ffi::tidy(&tables).tidy, tidy.into())?;
+    }
+    Ok(Reported { refusal, rows, needed, lent })
+}
+
+fn report_text(r: &[u8]) -> String {
+    format!(
+        "{:?} to {:?}, kind {}, class {}, first {}, second {}, zero {:?}",
+        image::f64_at(r, 0),
+        image::f64_at(r, 8),
+        r[16],
+        r[17],
+        image::u16_at(r, 18),
+        image::u16_at(r, 20),
+        &r[22..]
+    )
 }
 
 /// The distance of a dial.
@@ -224,6 +306,7 @@ pub enum Call {
     Unmeasured,
     Ceiling { direction: u8, ladder: Ladder },
     Dials { direction: u8, e: Edges, room: Room, fill: u64 },
+    Report { class: u8, room: Room, fill: u64 },
 }
 
 #[derive(Clone)]
@@ -251,6 +334,9 @@ impl Case {
             }
             Call::Dials { direction, e, room, fill } => {
                 dials(&self.image, &p, &self.s, *direction, e, *room, *fill).err()
+            }
+            Call::Report { class, room, fill } => {
+                report(&self.image, &p, *class, *room, *fill).err()
             }
         }
     }
@@ -347,9 +433,10 @@ impl Case {
             Call::Unmeasured => "unmeasured",
             Call::Ceiling { .. } => "ceiling",
             Call::Dials { .. } => "safe_dials",
+            Call::Report { .. } => "report",
         };
         println!("call: {name}");
-        if !matches!(self.call, Call::Image) {
+        if !matches!(self.call, Call::Image | Call::Report { .. }) {
             for (name, x) in self.s.floats() {
                 println!("  {name}: {}", figure(x));
             }
@@ -376,6 +463,10 @@ impl Case {
             Call::Dials { direction, e, room, .. } => {
                 println!("  direction {direction}");
                 println!("  edges: {}", edges_text(e));
+                println!("  room for rows: {room:?} bytes");
+            }
+            Call::Report { class, room, .. } => {
+                println!("  class {class}");
                 println!("  room for rows: {room:?} bytes");
             }
         }

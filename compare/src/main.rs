@@ -1,7 +1,7 @@
 //! Runs the Rust, unchanged, beside the proved library, and compares every part of every answer.
 //!
-//!     pamuklid-compare [--verdicts N] [--ceilings N] [--dials N] [--texts N] [--direction D]
-//!                      [--seed S] [--few] [--brief]
+//!     pamuklid-compare [--verdicts N] [--ceilings N] [--dials N] [--texts N] [--reports N]
+//!                      [--direction D] [--seed S] [--few] [--brief]
 //!     pamuklid-compare --replay FILE [--seed S]
 //!
 //! Exit 0: no difference, and everything that can be reached was; 1: a difference, printed with all
@@ -26,6 +26,8 @@ mod oracle;
 mod original;
 mod reach;
 mod replay;
+mod report;
+mod reports;
 #[cfg(feature = "stub")]
 mod stub;
 mod tables;
@@ -96,6 +98,7 @@ pub struct Run {
     pub changed: (u64, u64),
     pub left: (u64, u64),
     pub texts: texts::Met,
+    pub reports: reports::Met,
     directions: Directions,
     brief: bool,
 }
@@ -118,6 +121,7 @@ impl Run {
             changed: (0, 0),
             left: (0, 0),
             texts: texts::Met::default(),
+            reports: reports::Met::default(),
             directions: Directions::new(only),
             brief,
         }
@@ -487,7 +491,7 @@ fn one_list(run: &mut Run, rng: &mut Rng, w: &World, (image, p): (&[u8], &Prepar
     if spoil.edges {
         damage::spoil_edges(rng, &mut e);
     }
-    let (room, fill) = (Room::draw(rng), rng.next());
+    let (room, fill) = (Room::draw(rng, 36), rng.next());
     let found = run.dials(image, p, &s, direction, &e, room, fill);
     if found.refusal == 0 && s.policy == 2 {
         run.demand_3(rng, (image, p), &s, direction, &e, &found.rows);
@@ -535,6 +539,7 @@ struct Wanted {
     ceilings: u64,
     dials: u64,
     texts: u64,
+    reports: u64,
 }
 
 fn run_all(run: &mut Run, wanted: &Wanted) {
@@ -604,7 +609,7 @@ fn run_all(run: &mut Run, wanted: &Wanted) {
             };
             let e = Edges::of([0.25, 0.5, 0.25, 0.5]);
             for _ in 0..3 {
-                let (room, fill) = (Room::draw(rng), rng.next());
+                let (room, fill) = (Room::draw(rng, 36), rng.next());
                 let direction = run.directions.turn(0);
                 run.dials(&w.image, &p, &s, direction, &e, room, fill);
             }
@@ -641,6 +646,7 @@ fn run_all(run: &mut Run, wanted: &Wanted) {
         run.image(&damage::several(&mut Rng::new(run.seed, run.place + (1 << 33)), &w));
     }
     brushes(run, &wanted);
+    reports::run(run, wanted.reports);
 }
 
 /// Every bit of the sample images turned over, one at a time: the check, the tidy question, and where
@@ -660,15 +666,20 @@ fn every_bit(run: &mut Run) {
 fn usage() -> ! {
     eprintln!(
         "usage: pamuklid-compare [--verdicts N] [--ceilings N] [--dials N] [--texts N] \
-         [--direction D] [--seed S] [--few] [--brief]\n\
+         [--reports N] [--direction D] [--seed S] [--few] [--brief]\n\
          \x20      pamuklid-compare --replay FILE [--seed S]"
     );
     exit(2)
 }
 
 fn main() {
-    let mut wanted =
-        Wanted { verdicts: 1_000_000, ceilings: 100_000, dials: 100_000, texts: 10_000_000 };
+    let mut wanted = Wanted {
+        verdicts: 1_000_000,
+        ceilings: 100_000,
+        dials: 100_000,
+        texts: 10_000_000,
+        reports: 1_000_000,
+    };
     let (mut seed, mut only, mut few, mut brief, mut replay) = (1, None, false, false, None);
     let mut args = std::env::args().skip(1);
     while let Some(arg) = args.next() {
@@ -678,6 +689,7 @@ fn main() {
             "--ceilings" => wanted.ceilings = number(),
             "--dials" => wanted.dials = number(),
             "--texts" => wanted.texts = number(),
+            "--reports" => wanted.reports = number(),
             "--direction" => match number() {
                 direction @ 0..=3 => only = Some(direction as u8),
                 _ => usage(),
@@ -733,6 +745,14 @@ fn main() {
     println!(
         "texts: {} figures compared, each in three texts; {} calls refused",
         run.texts.figures, run.texts.refused
+    );
+    println!(
+        "reports: {} compared, with {} rows, {} of them overlaps and {} gaps; {} calls refused",
+        run.reports.reports,
+        run.reports.rows,
+        run.reports.overlaps,
+        run.reports.gaps,
+        run.reports.refused
     );
     run.texts.count(&mut run.reach);
     let missing = run.reach.missing(only);

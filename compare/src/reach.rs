@@ -5,7 +5,7 @@ use std::collections::BTreeMap;
 use crate::ffi::{Decision, Station};
 use crate::oracle::adapter::Ceiling;
 use crate::oracle::sixty::{Change, Climb};
-use crate::texts;
+use crate::{reports, texts};
 
 pub type Key = (&'static str, u16, u16);
 
@@ -279,6 +279,7 @@ impl Reach {
         }
         out.extend(LIMITS.map(|code| ("ceiling limit", code, 0)));
         out.extend(texts::required());
+        out.extend(reports::required());
         out.extend([0, 1, 2, 3, 4, 11, 14].map(|number| ("fault without a place", number, 0)));
         for (number, general, tables) in FAULTS {
             if general {
@@ -300,12 +301,17 @@ impl Reach {
         Self::required(only).into_iter().filter(|k| !self.counts.contains_key(k)).collect()
     }
 
-    /// Every count, except the long runs of notes, indices and directions, of which the least is given.
+    /// Every count, except the long runs of notes, indices, directions and classes, of which the least is
+    /// given.
     pub fn print(&self) {
         let mut long: BTreeMap<(&str, u16), (u64, u64)> = BTreeMap::new();
         for (&(what, a, b), &n) in &self.counts {
             match what {
-                _ if what == "note at" || NO_DIRECTION.contains(&what) => {
+                "note at" | "report, no class" => {
+                    let e = long.entry((what, 0)).or_insert((0, u64::MAX));
+                    *e = (e.0 + 1, e.1.min(n));
+                }
+                _ if NO_DIRECTION.contains(&what) => {
                     let e = long.entry((what, 0)).or_insert((0, u64::MAX));
                     *e = (e.0 + 1, e.1.min(n));
                 }

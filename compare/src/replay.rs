@@ -282,7 +282,7 @@ impl<'a> Page<'a> {
         e: &Edges,
         most: u32,
     ) {
-        let found = run.dials(self.image, self.p, s, direction, e, Room::draw(rng), 0);
+        let found = run.dials(self.image, self.p, s, direction, e, Room::draw(rng, 36), 0);
         let n = found.rows.len() / 36;
         if n > 40 {
             return;

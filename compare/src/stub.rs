@@ -5,10 +5,10 @@ use std::cell::RefCell;
 use std::rc::Rc;
 
 use crate::ffi::{
-    Ceiling, Decision, Dials, Distance, Edges, Fault, Station, Text, Tidiness, VERSION,
+    Ceiling, Decision, Dials, Distance, Edges, Fault, Report, Station, Text, Tidiness, VERSION,
 };
 use crate::original::adapter::{self, Prepared};
-use crate::original::{distance, expect, sixty};
+use crate::original::{distance, expect, report, sixty};
 use crate::texts::Line;
 
 thread_local! {
@@ -50,6 +50,30 @@ extern "C" fn pamuklid_fault_of(image: *const u8, n: usize) -> Fault {
 extern "C" fn pamuklid_tidy(image: *const u8, n: usize) -> Tidiness {
     let (tidy, refusal) = adapter::tidy(&prepared(unsafe { slice(image, n) }));
     Tidiness { tidy, refusal }
+}
+
+#[unsafe(no_mangle)]
+extern "C" fn pamuklid_report_of(
+    image: *const u8,
+    n: usize,
+    license: u8,
+    rows: *mut u8,
+    rows_len: usize,
+) -> Report {
+    let p = prepared(unsafe { slice(image, n) });
+    let lent = unsafe { std::slice::from_raw_parts_mut(rows, rows_len) };
+    let refusal = report::refusal(p.refusal, license);
+    let Some(table) = p.table.as_ref().filter(|_| refusal == 0) else {
+        return Report { count: 0, refusal };
+    };
+    let rows = report::rows(table, license);
+    if report::too_few(rows.len(), lent.len()) {
+        return Report { count: 0, refusal: 25 };
+    }
+    for (place, row) in lent.chunks_mut(report::ROW).zip(&rows) {
+        place.copy_from_slice(&row.encode());
+    }
+    Report { count: rows.len() as u32, refusal: 0 }
 }
 
 #[unsafe(no_mangle)]

@@ -49,7 +49,7 @@ fn rule(rng: &mut Rng) -> u16 {
     }
 }
 
-fn range_of(rng: &mut Rng, pool: &[f64]) -> (f64, f64) {
+pub fn range_of(rng: &mut Rng, pool: &[f64]) -> (f64, f64) {
     for _ in 0..20 {
         let (a, b) = (rng.pick(pool), rng.pick(pool));
         if a != b {

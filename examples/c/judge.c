@@ -120,6 +120,76 @@ static void images(void)
     }
 }
 
+/* Rows are little-endian whatever the machine is. */
+static double row_figure(const uint8_t *at)
+{
+    uint64_t bits = 0;
+    double x;
+    for (int i = 7; i >= 0; i--)
+        bits = bits << 8 | at[i];
+    memcpy(&x, &bits, sizeof x);
+    return x;
+}
+
+static int row_index(const uint8_t *at)
+{
+    return at[0] | at[1] << 8;
+}
+
+static void print_row(const uint8_t *row)
+{
+    double low = row_figure(row + PAMUKLID_REPORT_ROW_LOW);
+    double high = row_figure(row + PAMUKLID_REPORT_ROW_HIGH);
+    int first = row_index(row + PAMUKLID_REPORT_ROW_FIRST);
+    int second = row_index(row + PAMUKLID_REPORT_ROW_SECOND);
+    const char *records = "privileges";
+    switch (row[PAMUKLID_REPORT_ROW_KIND]) {
+    case PAMUKLID_REPORT_GAP:
+        printf("  no privilege for %.12g to %.12g of segment %d\n", low, high, first);
+        return;
+    case PAMUKLID_REPORT_BANDS:
+        records = "bands";
+        break;
+    case PAMUKLID_REPORT_SEGMENTS:
+        records = "segments";
+        break;
+    default:
+        break;
+    }
+    printf("  %s %d and %d share %.12g to %.12g\n", records, first, second, low, high);
+}
+
+/* A table's slips. */
+static void report(const char *title, const uint8_t *bytes, size_t n, uint8_t license, size_t row_count)
+{
+    static uint8_t rows[16 * PAMUKLID_REPORT_ROW];
+    pamuklid_report r = pamuklid_report_of(bytes, n, license, rows, row_count * PAMUKLID_REPORT_ROW);
+    printf("%s, report for class %d with room for %zu: ", title, license, row_count);
+    if (r.refusal != PAMUKLID_ACCEPTED) {
+        printf("refusal %d\n", r.refusal);
+        return;
+    }
+    printf("count %" PRIu32 "\n", r.count);
+    for (size_t i = 0; i < r.count; i++)
+        print_row(rows + PAMUKLID_REPORT_ROW * i);
+}
+
+static void reports(void)
+{
+    static uint8_t copy[sizeof image];
+    static const uint8_t high[] = {0, 0, 0, 0, 0x80, 0x84, 0x6e, 0x41}; /* 16000000 Hz */
+    report("image", image, image_len, PAMUKLID_LICENSE_GENERAL, 16);
+    report("image", image, image_len, PAMUKLID_LICENSE_EXTRA, 16);
+    report("image", image, image_len, PAMUKLID_LICENSE_EXTRA, 1);
+    report("image", image, image_len, PAMUKLID_LICENSE_EXTRA + 1, 16);
+    report("no bytes", image, 0, PAMUKLID_LICENSE_EXTRA, 16);
+    if (image_len < BAND_60 + 16)
+        return;
+    memcpy(copy, image, image_len);
+    memcpy(copy + BAND_60 + 8, high, sizeof high);
+    report("second band up to 16000000 Hz", copy, image_len, PAMUKLID_LICENSE_GENERAL, 16);
+}
+
 struct item {
     const char *title;
     double dial, low, high, power;
@@ -201,17 +271,6 @@ static void ceilings(void)
     };
     print_ceiling(rungs, 3);
     print_ceiling(rungs, 0);
-}
-
-/* Rows are little-endian whatever the machine is. */
-static double row_figure(const uint8_t *at)
-{
-    uint64_t bits = 0;
-    double x;
-    for (int i = 7; i >= 0; i--)
-        bits = bits << 8 | at[i];
-    memcpy(&x, &bits, sizeof x);
-    return x;
 }
 
 static void list(size_t row_count)
@@ -304,6 +363,7 @@ int main(int argc, char **argv)
     fclose(file);
     printf("version %" PRIu32 "\n", pamuklid_version());
     images();
+    reports();
     verdicts();
     ceilings();
     list(16);

@@ -8,9 +8,10 @@ use serde::Serialize;
 /// The exit status.
 #[derive(Clone, Copy, Debug, PartialEq, Eq)]
 pub enum Status {
-    /// Yes: it may be sent, the table is accepted, dials are listed, the dial is listed; the text asked for.
+    /// Yes: it may be sent, the table is accepted, its records do not overlap, dials are listed, the dial is listed; the
+    /// text asked for.
     Yes = 0,
-    /// No: it is blocked, the table is refused, none is listed.
+    /// No: it is blocked, the table is refused, its records overlap, none is listed.
     No = 1,
     /// Not answered: a refusal, a bad argument, a read or a write that failed.
     NotAnswered = 2,

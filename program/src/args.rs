@@ -44,6 +44,11 @@ fn kind() -> impl TypedValueParser<Value = Kind> {
     PossibleValuesParser::new(Kind::NAMES.iter().copied()).map(|word| Kind::from_name(&word).unwrap_or(Kind::Data))
 }
 
+pub fn class() -> impl TypedValueParser<Value = License> {
+    PossibleValuesParser::new(License::NAMES.iter().copied())
+        .map(|word| License::from_name(&word).unwrap_or(License::Novice))
+}
+
 fn region(text: &str) -> Result<u8, String> {
     match text {
         "0" | "1" | "2" | "3" => Ok(text.as_bytes()[0] - b'0'),

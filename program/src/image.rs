@@ -36,6 +36,8 @@ const fn form(at: usize, size: usize, name: &'static str, holds: Holds, bit: Opt
 /// The place of the flags in the general block, and in a record.
 const GENERAL_FLAGS: usize = 42;
 const RECORD_FLAGS: usize = 27;
+/// The place of the band's number in a record.
+const RECORD_BAND: usize = 24;
 
 const GENERAL: [Form; 18] = [
     form(42, 1, "flags", Holds::UpTo(31), None),
@@ -106,7 +108,7 @@ fn record_forms(table: Table) -> [Form; 9] {
         form(0, 8, low_name, low.0, low.1),
         form(8, 8, "high", high.0, high.1),
         form(16, 8, if table == Table::Segments { "own limit" } else { "figure" }, figure.0, figure.1),
-        form(24, 1, "band", band.0, band.1),
+        form(RECORD_BAND, 1, "band", band.0, band.1),
         form(25, 1, if table == Table::Power { "class bits" } else { "class" }, class.0, class.1),
         form(26, 1, "emission bits", emissions.0, emissions.1),
         form(
@@ -162,6 +164,13 @@ pub fn bands(image: &[u8]) -> impl Iterator<Item = (f64, f64)> + '_ {
         let at = place.bytes(image)?.start;
         Some((f64_at(image, at), f64_at(image, at + 8)))
     })
+}
+
+/// The number of the band that a record is, or names: of bands and data segments.
+pub fn band_of(image: &[u8], table: Table, index: u16) -> Option<u8> {
+    let named = matches!(table, Table::Bands | Table::Segments);
+    let at = Place::Record { table, index }.bytes(image).filter(|_| named)?.start;
+    image.get(at + RECORD_BAND).copied()
 }
 
 /// Whether an accepted image has a band plan.

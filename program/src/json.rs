@@ -1,7 +1,8 @@
 //! The answers as JSON: one object each, described in docs/PROGRAM.md. A part that is absent is null.
 
 use pamuklid::{
-    Code, Decision, DialRow, Direction, Edges, Fault, Guidance, Kind, Overshoot, Place, Range, Refusal, Rule, Station,
+    Code, Decision, DialRow, Direction, Edges, Fault, Guidance, Kind, Overshoot, Place, Range, Refusal, ReportRow,
+    Rule, Station, Table as Tables,
 };
 use serde::Serialize;
 
@@ -364,6 +365,43 @@ impl RowJson {
             rule: RuleJson::of(row.rule),
             blocked_at_lower: ends[0],
             blocked_at_upper: ends[1],
+        }
+    }
+}
+
+// ------------------------------------------------------------------------------------ a table's report
+
+#[derive(Serialize)]
+pub struct SlipJson {
+    /// overlap or gap
+    kind: &'static str,
+    /// bands, segments or privileges; of a gap segments
+    table: &'static str,
+    /// of privileges, and of a gap
+    class: Option<&'static str>,
+    first: u16,
+    second: u16,
+    /// the numbers of their bands
+    first_band: Option<u8>,
+    second_band: Option<u8>,
+    stretch: RangeJson,
+}
+
+impl SlipJson {
+    pub fn of(row: &ReportRow, bands: Option<[u8; 2]>) -> Self {
+        let (kind, table, license, first, second) = match *row {
+            ReportRow::Overlap { table, license, first, second, .. } => ("overlap", table, license, first, second),
+            ReportRow::Gap { license, segment, .. } => ("gap", Tables::Segments, Some(license), segment, segment),
+        };
+        Self {
+            kind,
+            table: table.name(),
+            class: license.map(|license| license.name()),
+            first,
+            second,
+            first_band: bands.map(|bands| bands[0]),
+            second_band: bands.map(|bands| bands[1]),
+            stretch: RangeJson::of(row.stretch()),
         }
     }
 }

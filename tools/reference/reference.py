@@ -8,6 +8,9 @@ of it is read, "DECISION" a decision on an open point (docs/DECISIONS.md).
     place_of(image)       where that refusal is met
     tidy_question(image)  (refusal, None) or (0, True) or (0, False)
     read_station(...)     the first of 20, 21, 22, or the station as it is read
+    write_image(...)      (refusal, None), or (0, the image of these fields and records)
+    raise_image(image)    (refusal, None), or (0, its edition 2 form)
+    lower_image(image)    (refusal, None), or (0, its edition 1 form)
 """
 
 import math
@@ -489,6 +492,93 @@ def tidy_question(image):
     apart = (not two_share(tables[BANDS]) and not two_share(tables[SEGMENTS])
              and not any(two_share(privileges) for privileges in by_class))
     return 0, at_home and apart
+
+
+# ---------------------------------------------------------------------------------------------
+# Writing and converting images (document 02, 6)
+
+FIELDS = [("data_limit", "d"), ("elsewhere_limit", "d"), ("channel_width", "d"),
+          ("carrier_offset", "d"), ("carrier_tolerance", "d"), ("region", "B"), ("reading", "B"),
+          ("flags", "B"), ("channel_band", "B"), ("sideband", "B"), ("emissions", "B"),
+          ("data_rule", "H"), ("elsewhere_rule", "H"), ("automatic_rule", "H"),
+          ("channels_rule", "H"), ("emissions_rule", "H"), ("privileges_rule", "H")]
+
+
+def put(kind, value):
+    """A number, "little-endian; f64 means its 64 bits": a figure is given by its bits here. DECISION:
+    a figure that is no number has many bits, and gets 7FF8000000000000."""
+    if kind == "d":
+        return struct.pack("<Q", value if figure_of(value) == figure_of(value) else 0x7FF8000000000000)
+    return struct.pack("<" + kind, value)
+
+
+def write_image(fields, counts, figures, codes, rules, room):
+    """"Add a writer of either edition from given fields and records [...] The writer refuses with the
+    number that its image would get"; "23, last, also meets an output shorter than the image to be
+    written". The records come in three runs, table after table: three figures (by their bits), four
+    codes and two rules each.
+
+    An image of over 2,045 records is over 65,552 bytes long in either edition: 1. DECISION: runs that
+    disagree with the counts meet 4; the watts given for edition 1 are not looked at."""
+    total = sum(counts)
+    if total > 2045:
+        return 1, None
+    if fields["edition"] not in (1, 2):
+        return 3, None
+    if any(count > 256 for count in counts):
+        return 4, None
+    if (len(figures), len(codes), len(rules)) != (3 * total, 4 * total, 2 * total):
+        return 4, None
+    image = b"".join(put(kind, fields[name]) for name, kind in FIELDS) + bytes(6)
+    if fields["edition"] == 2:
+        image += put("d", fields["channel_watts"]) + put("d", fields["segment_watts"])
+    for i in range(total):
+        image += b"".join(put("d", x) for x in figures[3 * i:3 * i + 3])
+        image += bytes(codes[4 * i:4 * i + 4])
+        image += b"".join(put("H", x) for x in rules[2 * i:2 * i + 2])
+    distance = len(image)
+    image += b"".join(put("H", count) for count in counts)
+    image += put("I", distance) + put("H", fields["edition"]) + b"EDGE"
+    refusal = check_image(image)
+    if refusal != 0:
+        return refusal, None
+    return (23, None) if room < len(image) else (0, image)
+
+
+def refusal_from(image, edition):
+    """"a converter meets 3 on an image that already has the edition it converts to": the image's own
+    checks, with 3 on every edition but the one that is converted."""
+    for number, met in enumerate(IMAGE_CHECKS, start=1):
+        if trailer(image)["edition"] != edition if number == 3 else met(image):
+            return number
+    return 0
+
+
+def raise_image(image, room):
+    """"going up always fills in 100 and 9.15", "the distance back is 16 longer"; then 23."""
+    refusal = refusal_from(image, 1)
+    if refusal == 0 and room < len(image) + 16:
+        refusal = 23
+    if refusal != 0:
+        return refusal, None
+    start = trailer(image)["start"]
+    watts_bytes = struct.pack("<dd", CHANNEL_WATTS, SEGMENT_WATTS)
+    return 0, (image[:64] + watts_bytes + image[64:start + 18] + struct.pack("<IH", start + 16, 2)
+               + b"EDGE")
+
+
+def lower_image(image, room):
+    """"It refuses (26, after the image checks) to lower an image whose watts differ from those two";
+    then 23."""
+    refusal = refusal_from(image, 2)
+    if refusal == 0 and watts(image) != (CHANNEL_WATTS, SEGMENT_WATTS):
+        refusal = 26
+    if refusal == 0 and room < len(image) - 16:
+        refusal = 23
+    if refusal != 0:
+        return refusal, None
+    start = trailer(image)["start"]
+    return 0, image[:64] + image[80:start + 18] + struct.pack("<IH", start - 16, 1) + b"EDGE"
 
 
 # ---------------------------------------------------------------------------------------------

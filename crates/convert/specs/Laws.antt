@@ -1,7 +1,7 @@
 -- Laws of the converters: how their tests stand to the image check's, and that what is put is the other edition's image.
-use Prim.Native.Nat.{ℕ, _+_, _*_, _-_, _≤_, _<_}
-use mathlib.Core.Bool.{Bool, true, false, not, cond, _&&_, true≢false, false≢true}
-use mathlib.Core.List.{List, [], _∷_, _++_, append-assoc, append-nil}
+use Prim.Native.Nat.{ℕ, _+_, _-_, _≤_}
+use mathlib.Core.Bool.{Bool, true, false, not, cond, true≢false, false≢true}
+use mathlib.Core.List.{List, [], _++_, append-assoc, append-nil}
 use mathlib.Core.Path.{_≡_, refl, sym, ap, _∙_}
 use native.Mathlib.Nat.{le-refl}
 use native.Mathlib.Omega.{arith}
@@ -13,10 +13,9 @@ use Rattle.codes.specs.Refusal.{refusalOf}
 use Rattle.codes.specs.Laws.{none-fails}
 use Rattle.codes.specs.declared.Checked.{Checked}
 use Rattle.codes.specs.declared.Checked.the-variants.{Accepted, Refused}
-use Rattle.layout.specs.Layout.{generalSize, wattsSize, trailerSize, tables, isSecond, editionOf, trailerOf, recordsBefore, tablesFrom}
-use Rattle.layout.specs.Layout.{fixedChannelWatts, fixedSegmentWatts, generalOf}
+use Rattle.layout.specs.Layout.{generalSize, wattsSize, trailerSize, editionOf, trailerOf, tablesFrom}
+use Rattle.layout.specs.Layout.{fixedChannelWatts, fixedSegmentWatts}
 use Rattle.layout.specs.Form.{sizeWrong, lettersWrong, editionWrong, countsWrong, formTests, Whole}
-use Rattle.layout.specs.declared.General.{General}
 use Rattle.table.specs.Table.{tableOf}
 use Rattle.image.specs.Check.{contentTests, checkOf}
 use Rattle.image.specs.Laws.{accepted-whole}
@@ -24,7 +23,7 @@ use Rattle.bytes.specs.Laws.{sets-next}
 use Rattle.given.specs.Tests.{neitherEdition}
 use Rattle.writer.specs.Image.{wattsBytes, endBytes}
 use Rattle.writer.specs.Laws.{watts-length, end-length}
-use Rattle.convert.specs.Convert.{fromTests, otherWatts, movedOf, raisedOf, loweredOf}
+use Rattle.convert.specs.Convert.{fromTests, movedOf, raisedOf, loweredOf}
 
 -- a refusal that comes before the edition is looked at
 abbrev pub early : Checked → Bool

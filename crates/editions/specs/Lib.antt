@@ -1,3 +1,4 @@
 pub mod Alike
 pub mod Pair
 pub mod Raised
+pub mod Written

@@ -1,27 +1,25 @@
 -- An image of edition 1 and its edition 2 form, part by part: the same general block, records and counts; in edition 2 the two watts between,
 -- and another end. They hold the same table, and where one is in form the other is.
 use Prim.Native.Nat.{ℕ, zero, suc, _+_, _*_, _-_, _≤_, _<_}
-use mathlib.Core.Bool.{Bool, true, false, not, cond, _&&_, _||_}
-use mathlib.Core.List.{List, [], _∷_, _++_}
+use mathlib.Core.Bool.{Bool, true, false, not, cond, _&&_}
+use mathlib.Core.List.{List, [], _++_}
 use mathlib.Core.Path.{_≡_, refl, sym, ap, ap₂, _∙_}
 use native.Mathlib.Omega.{arith}
 use borrow.Author.Tests.{eq-eqb, le-ltb}
-use lib.Dec.{eqb, ltb}
-use lib.ListN.{length, getD, take, drop, length-append, List·getD-append}
+use lib.Dec.{eqb}
+use lib.ListN.{length, take, drop, length-append, List·getD-append}
 use lib.Seq.{getD-append-add, drop-append-add, drop-at, take-at}
 use Rattle.scan.specs.Laws.{some-all}
-use Rattle.codes.specs.Refusal.{refusalOf}
 use Rattle.codes.specs.declared.Checked.{Checked}
 use Rattle.codes.specs.declared.Checked.the-variants.{Accepted, Refused}
 use Rattle.layout.specs.Bytes.{byteAt, u16At, u32At, u64At}
-use Rattle.layout.specs.Layout.{generalSize, wattsSize, recordSize, trailerSize, tables, trailerOf, editionOf, isSecond, lettersOf, distanceBack, countOf}
+use Rattle.layout.specs.Layout.{generalSize, wattsSize, recordSize, trailerSize, tables, trailerOf, editionOf, lettersOf, distanceBack, countOf}
 use Rattle.layout.specs.Layout.{fixedChannelWatts, fixedSegmentWatts, wattsAt, recordsBefore, tablesFrom, placeOf, recordOf, generalOf}
-use Rattle.layout.specs.Form.{letters, sizeWrong, letterRight, lettersWrong, editionWrong, overfullAt, overfull, lengthWrong, distanceWrong, countsWrong}
-use Rattle.layout.specs.Form.{formTests, Whole}
-use Rattle.layout.specs.Laws.{whole-of, records-more, table-within}
+use Rattle.layout.specs.Form.{letters, sizeWrong, letterRight, lettersWrong, editionWrong, overfullAt, countsWrong}
+use Rattle.layout.specs.Form.{Whole}
+use Rattle.layout.specs.Laws.{table-within}
 use Rattle.table.specs.Table.{tableOf}
 use Rattle.bytes.specs.Bytes.{little}
-use Rattle.bytes.specs.Laws.{u64-little}
 use Rattle.writer.specs.Image.{littles, wattsBytes, endBytes}
 use Rattle.writer.specs.Laws.{watts-length, end-length}
 use Rattle.convert.specs.Convert.{movedOf, raisedOf, loweredOf}
@@ -121,7 +119,7 @@ form-of l edition a b ends n few ends-at =
 at-seam : (p q : List ℕ) (n i : ℕ) → length p ≡ n → byteAt (p ++ q) (n + i) ≡ byteAt q i
 at-seam p q n i e = ap (λ (k : ℕ). byteAt (p ++ q) (k + i)) (sym e) ∙ getD-append-add p q i 0
 
-past-seam : (p q : List ℕ) (n i : ℕ) → length p ≡ n → drop (n + i) (p ++ q) ≡ drop i q
+pub past-seam : (p q : List ℕ) (n i : ℕ) → length p ≡ n → drop (n + i) (p ++ q) ≡ drop i q
 past-seam p q n i e = ap (λ (k : ℕ). drop (k + i) (p ++ q)) (sym e) ∙ drop-append-add p q i
 
 abbrev pub fixedBytes : List ℕ

@@ -5,13 +5,13 @@ use mathlib.Core.Bool.{Bool, true, false, cond, not, _&&_, _||_}
 use mathlib.Core.List.{List, [], _∷_, _++_}
 use mathlib.Core.Path.{_≡_, refl, sym, ap, ap₂, subst, _∙_}
 use native.Mathlib.Omega.{arith}
-use borrow.Author.Tests.{eqb-true, eq-eqb, not-false}
+use borrow.Author.Tests.{eqb-true, not-false}
 use lib.Dec.{eqb}
-use lib.ListN.{length, getD, take, drop, take-append-drop, length-append, length-take, length-drop}
+use lib.ListN.{length, take, drop, take-append-drop, length-drop}
 use lib.Seq.{length-take-le, drop-drop, ext-getD, getD-take, getD-drop}
 use lib.Ieee.{Float}
 use Rattle.scan.specs.Laws.{and-true}
-use Rattle.codes.specs.Refusal.{refusalOf}
+use Rattle.codes.specs.Refusal.{test, refusalOf}
 use Rattle.codes.specs.Laws.{none-fails, refusal-both, refusal-next}
 use Rattle.codes.specs.declared.Checked.the-variants.{Accepted}
 use Rattle.occupancy.specs.declared.Edges.{Edges}
@@ -20,7 +20,7 @@ use Rattle.layout.specs.Bytes.{byteAt, u16At, u32At, u64At}
 use Rattle.layout.specs.Layout.{generalSize, wattsSize, trailerSize, trailerOf, lettersOf, editionOf, distanceBack, fixedChannelWatts, fixedSegmentWatts}
 use Rattle.layout.specs.Layout.{wattsAt, generalOf}
 use Rattle.layout.specs.declared.General.{General}
-use Rattle.layout.specs.Form.{letters, letterRight, lettersWrong, overfull, lengthWrong, distanceWrong, formTests, Whole}
+use Rattle.layout.specs.Form.{letters, letterRight, overfull, lengthWrong, distanceWrong, formTests, Whole}
 use Rattle.layout.specs.Laws.{or-false-both, whole-of}
 use Rattle.table.specs.Table.{Table, tableOf}
 use Rattle.image.specs.Check.{contentTests, checkOf}
@@ -32,16 +32,18 @@ use Rattle.ceiling.specs.Ceiling.{ceilingOf}
 use Rattle.dials.specs.List.{SafeDials}
 use Rattle.dials.specs.declared.DialList.{DialList}
 use Rattle.distance.specs.Distance.{distanceOf}
-use Rattle.bytes.specs.Bytes.{little}
-use Rattle.writer.specs.Image.{littles, wattsBytes, endBytes}
+use Rattle.report.specs.Report.{Reported}
+use Rattle.report.specs.declared.TableReport.{TableReport}
+use Rattle.given.specs.Tests.{neitherEdition}
+use Rattle.writer.specs.Image.{wattsBytes, endBytes}
 use Rattle.writer.specs.Laws.{watts-length, end-length}
 use Rattle.convert.specs.Convert.{fromTests, otherWatts, raiseTests, lowerTests, movedOf, raisedOf, loweredOf}
 use Rattle.convert.specs.Laws.{from-same, second-sized}
-use Rattle.same_table.specs.Same.{InForm, check-same, tidy-same, fault-same, evaluate-same, unmeasured-same, ceiling-same, list-same}
+use Rattle.same_table.specs.Same.{InForm, check-same, tidy-same, fault-same, evaluate-same, unmeasured-same, ceiling-same, list-same, report-same}
 use Rattle.alike.specs.Alike.{Alike}
 use Rattle.editions.specs.Alike.{Bytes, alike-both, u16-like, u32-like, u64-like, littles-bytes}
 use Rattle.editions.specs.Pair.{distance-back, edition-back, letter-back, channel-back, segment-back}
-use Rattle.editions.specs.Pair.{fixedBytes, firstOf, secondOf, table-same, two-form, one-form, raised-one, lowered-two}
+use Rattle.editions.specs.Pair.{fixedBytes, firstOf, secondOf, one-ends, two-ends, table-same, two-form, one-form, raised-one, lowered-two}
 
 -- ---- an accepted image, from its numbers to its bytes
 
@@ -114,6 +116,12 @@ module _ (l : List ℕ) (B : Bytes l) (accepted : checkOf l ≡ Accepted) where
       last i h =
           let x : trailerOf l + 18 + 6 + i ≡ lettersOf l + i = omega arith in
           rw x (letter-right i h ∙ sym (letter-back (trailerOf l) edition i h))
+
+-- an accepted image is one that a converter from its edition takes
+taken : (l : List ℕ) (edition : ℕ) → neitherEdition edition ≡ false → checkOf l ≡ Accepted → editionOf l ≡ edition → refusalOf (fromTests edition l) ≡ Accepted
+taken l edition n accepted e =
+    let none = none-fails (formTests l) (unfold checkOf in refusal-both (formTests l) (contentTests (tableOf l)) accepted .0) in
+    sym (from-same l edition (none .0) (none .1 .0) n e) ∙ accepted
 
 -- ---- raising
 
@@ -192,6 +200,10 @@ module _ (l : List ℕ) (B : Bytes l) (accepted : checkOf l ≡ Accepted) (first
       → SafeDials r direction e l lent left answer → SafeDials r direction e (raisedOf l) lent left answer
   raised-list = list-same l (raisedOf l) form raised-form raised-table
 
+  pub raised-report :
+      (class : ℕ) (lent left : List ℕ) (answer : TableReport) → Reported l class lent left answer → Reported (raisedOf l) class lent left answer
+  raised-report = report-same l (raisedOf l) form raised-form raised-table
+
   pub raised-tidy : tidyOf l ≡ tidyOf (raisedOf l)
   raised-tidy = tidy-same l (raisedOf l) form raised-form raised-table
 
@@ -206,7 +218,24 @@ module _ (l : List ℕ) (B : Bytes l) (accepted : checkOf l ≡ Accepted) (first
   raised-distance dial count rows =
       ap (λ (g : General). distanceOf dial (g .flags) (g .«channel_band») count rows) (ap (λ (t : Table). t .general) raised-table)
 
-  -- Lowering a raised image gives the first bytes,
+  -- A raised image can be lowered,
+  pub lower-takes : refusalOf (lowerTests (raisedOf l)) ≡ Accepted
+  lower-takes =
+      refusal-next (fromTests 2 (raisedOf l)) (test 26 (otherWatts (generalOf (raisedOf l))) ∷ [])
+      (taken (raisedOf l) 2 refl raised-accepted
+      (ap editionOf raised-is ∙ two-ends A M d A-length M-length d-low d-high .edition-is))
+      ∙ ap (λ (g : General). refusalOf (test 26 (otherWatts g) ∷ [])) (sym (ap (λ (t : Table). t .general) raised-table))
+      ∙ ap (λ (b : Bool). refusalOf (test 26 b ∷ [])) own
+    where
+      fixed-at : (at fixed : ℕ) → wattsAt l at fixed ≡ fixed
+      fixed-at at fixed = unfold wattsAt in ap (λ (k : ℕ). cond (eqb k 2) (u64At l at) fixed) first
+
+      own : otherWatts (generalOf l) ≡ false
+      own =
+          unfold generalOf in
+          ap₂ (λ (x y : ℕ). not (eqb x fixedChannelWatts && eqb y fixedSegmentWatts)) (fixed-at 64 fixedChannelWatts) (fixed-at 72 fixedSegmentWatts)
+
+  -- and lowering it gives the first bytes.
   pub lower-raised : loweredOf (raisedOf l) ≡ l
   lower-raised = ap loweredOf raised-is ∙ lowered-two A M d A-length M-length d-low d-high ∙ sym split
 
@@ -303,6 +332,12 @@ module _ (l : List ℕ) (B : Bytes l) (accepted : checkOf l ≡ Accepted) (secon
   pub lowered-accepted : checkOf (loweredOf l) ≡ Accepted
   lowered-accepted = check-same (loweredOf l) l lowered-form (in-form l B accepted) lowered-table ∙ accepted
 
-  -- and raising it gives the bytes back.
+  -- and can be raised,
+  pub raise-takes : refusalOf (raiseTests (loweredOf l)) ≡ Accepted
+  raise-takes =
+      taken (loweredOf l) 1 refl lowered-accepted
+      (ap editionOf lowered-is ∙ one-ends A₂ M₂ d₂ A₂-length M₂-length d₂-low d₂-high .edition-is)
+
+  -- which gives the bytes back.
   pub raise-lowered : raisedOf (loweredOf l) ≡ l
   raise-lowered = ap raisedOf lowered-is ∙ raised-one A₂ M₂ d₂ A₂-length M₂-length d₂-low d₂-high ∙ sym split₂

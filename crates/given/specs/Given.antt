@@ -1,7 +1,7 @@
 -- What an image is written from: the fields of the general block, nine counts, and the records in runs of numbers, table after table. Figures
 -- are given as figures and codes as numbers; no offset is named here.
 use Prim.Native.Nat.{ℕ, zero, suc, _+_, _*_}
-use mathlib.Core.Bool.{Bool, cond}
+use mathlib.Core.Bool.{cond}
 use mathlib.Core.List.{List}
 use lib.Dec.{eqb, ltb}
 use lib.ListN.{getD}

@@ -2,7 +2,7 @@
 use Prim.Native.Nat.{ℕ, zero, suc, _+_, _*_, _-_, _≤_, _<_}
 use mathlib.Core.Bool.{false}
 use mathlib.Core.List.{List}
-use mathlib.Core.Path.{_≡_, refl, sym, ap, subst, _∙_}
+use mathlib.Core.Path.{_≡_, sym, ap, subst, _∙_}
 use native.Mathlib.Numerals.{add-one}
 use native.Mathlib.Nat.{zero-add, suc-add, le-refl}
 use native.Mathlib.Omega.{arith}
@@ -75,6 +75,7 @@ pub record Sound (edition : ℕ) (n : List ℕ) (r : Runs) : Type 0 where
   pub few : beforeFrom n tables ≤ 2045
   pub edition-right : neitherEdition edition ≡ false
   pub full : overfullFrom n ≡ false
+  pub agree : runsWrong r (beforeFrom n tables) ≡ false
   pub held : Held r (beforeFrom n tables)
 
 pub sound-of : (edition : ℕ) (g : General) (n : List ℕ) (r : Runs) → refusalOf (givenTests edition g n r) ≡ Accepted → Sound edition n r
@@ -85,5 +86,6 @@ sound-of edition g n r e =
       few = ltb-false _ _ (none .0);
       edition-right = none .1 .0;
       full = wrong .0;
+      agree = wrong .1;
       held = runs-held r (beforeFrom n tables) (wrong .1);
     }

@@ -12,8 +12,8 @@ ghost use lib.ListN.{length, getD};
 ghost use lib.Ieee.{nan, binary64, toBits};
 ghost use Rattle.scan.specs.First.{first};
 ghost use Rattle.codes.specs.Refusal.{refusalOf};
-ghost use Rattle.image.specs.Check.{miscoded, unsound, bare, contentTests};
-ghost use Rattle.given.specs.Given.{runs, countFrom, beforeFrom, recordFrom, wattsFrom, generalFrom, recordGiven, tableWith};
+ghost use Rattle.image.specs.Check.{miscoded, unsound, contentTests};
+ghost use Rattle.given.specs.Given.{runs, countFrom, beforeFrom, recordFrom, wattsFrom, generalFrom, tableWith};
 ghost use Rattle.given.specs.Tests.{neitherEdition, overfullFrom, runsWrong, givenTests, Held, asksFrom, firstGiven};
 ghost use Rattle.given.specs.Tests.{someGiven, bareGiven, homelessGiven};
 

@@ -136,3 +136,7 @@ pub ranges-within :
     (l : List ℕ) (g : Ranges) → Whole l → g .table < tables → g ≡ rangesOf l (g .table) → g .start + recordSize * g .count + trailerSize ≤ length l
 ranges-within l g w h e =
     omega (arith, ap (λ (x : Ranges). x .start) e, ap (λ (x : Ranges). x .count) e, table-within l w (g .table) h)
+
+-- and are few
+pub ranges-few : (l : List ℕ) (g : Ranges) → Whole l → g .table < tables → g ≡ rangesOf l (g .table) → g .count ≤ 256
+ranges-few l g w h e = omega (arith, ap (λ (x : Ranges). x .count) e, w .few (g .table) h)

@@ -13,7 +13,7 @@ use Rattle.codes.specs.Refusal.{Test, refusalOf}
 use Rattle.codes.specs.Laws.{refusal-next, refusal-stays}
 use Rattle.codes.specs.declared.Checked.{Checked}
 use Rattle.codes.specs.declared.Checked.the-variants.{Accepted, Refused}
-use Rattle.layout.specs.Layout.{generalSize, recordSize, trailerSize, tables}
+use Rattle.layout.specs.Layout.{generalSize, trailerSize, tables}
 use Rattle.layout.specs.declared.Record.{Record}
 use Rattle.layout.specs.declared.General.{General}
 use Rattle.lists.specs.Each.{each}

@@ -6,7 +6,8 @@ use std::process::ExitCode;
 
 use pamuklid::{
     raw, text_at, text_hertz, text_khz, Control, Decision, Direction, Distance, Edges, Kind,
-    License, Overshoot, Place, Policy, Refusal, Sideband, Station, MOST_TEXT, ROW,
+    License, Overshoot, Place, Policy, Refusal, ReportRow, Sideband, Station, Table, MOST_TEXT,
+    REPORT_ROW, ROW,
 };
 
 fn station(dial_hz: f64, control: Control, power_w: Option<f64>) -> Station {
@@ -81,6 +82,59 @@ fn images(image: &[u8]) {
             place.copy_from_slice(&bytes);
             print_image(title, &image);
         }
+    }
+}
+
+fn print_row(row: ReportRow) {
+    match row {
+        ReportRow::Gap { segment, stretch, .. } => {
+            let (low, high) = (stretch.low_hz, stretch.high_hz);
+            println!("  no privilege for {low} to {high} of segment {segment}");
+        }
+        ReportRow::Overlap { table, first, second, stretch, .. } => {
+            let records = match table {
+                Table::Bands => "bands",
+                Table::Segments => "segments",
+                _ => "privileges",
+            };
+            let (low, high) = (stretch.low_hz, stretch.high_hz);
+            println!("  {records} {first} and {second} share {low} to {high}");
+        }
+    }
+}
+
+/// A table's slips.
+fn report(title: &str, image: &[u8], license: u8, row_count: usize) {
+    let mut bytes = vec![0; row_count * REPORT_ROW];
+    print!("{title}, report for class {license} with room for {row_count}: ");
+    let listed = match License::from_number(license) {
+        Some(license) => pamuklid::report(image, license, &mut bytes),
+        // the crate has no such class, and the library refuses it
+        None => {
+            let refused = raw::report(image, license, &mut bytes).refusal;
+            return println!("refusal {refused}");
+        }
+    };
+    match listed {
+        Err(r) => println!("{}", refusal(r)),
+        Ok(report) => {
+            println!("count {}", report.rows().len());
+            report.rows().for_each(print_row);
+        }
+    }
+}
+
+fn reports(image: &[u8]) {
+    let (general, extra) = (License::General.number(), License::Extra.number());
+    report("image", image, general, 16);
+    report("image", image, extra, 16);
+    report("image", image, extra, 1);
+    report("image", image, extra + 1, 16);
+    report("no bytes", &[], extra, 16);
+    let mut copy = image.to_vec();
+    if let Some(high) = copy.get_mut(BAND_60 + 8..BAND_60 + 16) {
+        high.copy_from_slice(&16_000_000.0f64.to_bits().to_le_bytes());
+        report("second band up to 16000000 Hz", &copy, general, 16);
     }
 }
 
@@ -233,6 +287,7 @@ fn main() -> ExitCode {
     };
     println!("version {}", raw::version());
     images(&image);
+    reports(&image);
     verdicts(&image);
     let rungs =
         [Edges::both(1_250.0, 1_750.0), Edges::both(1_000.0, 2_000.0), Edges::both(0.0, 2_900.0)];

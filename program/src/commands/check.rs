@@ -68,7 +68,7 @@ pub fn answer(args: &Args, style: Style) -> Result<Answer, Failure> {
         _ => format!(
             "{}, and not tidy: a data segment lies in no band of its number, or two bands, two data segments or two \
              privileges of one class overlap. Verdicts go by the first record that holds, and the dial list may go by \
-             another.\n",
+             another. Overlaps are listed by pamuklid report.\n",
             style.warning("Accepted")
         ),
     });

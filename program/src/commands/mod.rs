@@ -7,6 +7,7 @@ mod dials;
 mod distance;
 mod judge;
 mod man;
+mod report;
 mod text;
 
 use clap::Subcommand;
@@ -17,6 +18,7 @@ use crate::answer::{Answer, Failure, Style};
 pub enum Command {
     Judge(judge::Args),
     Check(check::Args),
+    Report(report::Args),
     Dials(dials::Args),
     Distance(distance::Args),
     Text(text::Args),
@@ -29,6 +31,7 @@ impl Command {
         match self {
             Self::Judge(args) => judge::answer(args, style),
             Self::Check(args) => check::answer(args, style),
+            Self::Report(args) => report::answer(args, style),
             Self::Dials(args) => dials::answer(args, style),
             Self::Distance(args) => distance::answer(args, style),
             Self::Text(args) => text::answer(args, style),

@@ -256,7 +256,7 @@ numbered! {
 }
 
 numbered! {
-    /// Why a call was not answered. The order of looking: 20, 21, 22, 1 to 14, 15, 16, 23, 24.
+    /// Why a call was not answered. The order of looking: 20, 21, 22, 1 to 14, 15, 16, 23, 24, 25.
     Refusal: "refusal" {
         /// The image has under 92 or over 65,536 bytes.
         ImageLength = 1 "image_length",
@@ -291,8 +291,8 @@ numbered! {
         SignalEdge = 15 "signal_edge",
         /// The rungs are more than 256, or their floor marks are not one each.
         Rungs = 16 "rungs",
-        /// A code of the station, the direction or the kind is outside its values; this crate's enums
-        /// have no such code.
+        /// A code of the station, the direction, the kind or the license of a report is outside its
+        /// values; this crate's enums have no such code.
         StationCode = 20 "station_code",
         /// A figure of the station, or a dial whose distance is asked, is not finite or above 2^40 in
         /// size; or a figure to be written is not finite or above 2^43 in size.
@@ -304,6 +304,8 @@ numbered! {
         Rows = 23 "rows",
         /// The text of a figure is longer than the bytes lent.
         Text = 24 "text",
+        /// The report of a table is longer than the whole rows lent.
+        Report = 25 "report",
     }
 }
 

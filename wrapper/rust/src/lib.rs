@@ -10,6 +10,7 @@
 //! | [`check`] | whether an image is accepted |
 //! | [`fault_of`] | where a table is wrong |
 //! | [`tidy`] | whether an image's table is tidy |
+//! | [`report`] | where records of a table overlap, and where a class has no privilege for data |
 //! | [`Station::fresh`] | a fresh station, in region 2 with a margin of 50 Hz: it permits nothing |
 //! | [`evaluate`] | the verdict on a transmission |
 //! | [`unmeasured`] | the answer for a signal whose spectrum is not known |
@@ -81,6 +82,7 @@ mod codes;
 mod dials;
 mod fault;
 pub mod raw;
+mod report;
 mod station;
 mod texts;
 mod version;
@@ -94,6 +96,7 @@ pub use codes::{
 pub use dials::{DialList, DialRow, DialRows, Distance, ROW};
 pub use fault::{Fault, Place, Table};
 pub use raw::Edges;
+pub use report::{Report, ReportRow, ReportRows, MOST_REPORT, REPORT_ROW};
 pub use station::Station;
 pub use texts::{text_at, text_hertz, text_khz, MOST_TEXT};
 pub use version::{version, Version, VERSION};
@@ -126,11 +129,42 @@ pub fn fault_of(image: &[u8]) -> Result<(), Fault> {
 /// bands, no two segments and no two privileges of one class share a stretch. Refusals 1 to 14.
 ///
 /// A table that is not tidy is judged all the same; the dial list and the verdict may then differ.
+/// Where it overlaps, [`report`] says.
 pub fn tidy(image: &[u8]) -> Result<bool, Refusal> {
     version::checked();
     let flat = raw::tidy(image);
     codes::refused(flat.refusal)?;
     Ok(codes::marked("tidy mark", flat.tidy))
+}
+
+/// What a trustee should see of a table before it is loaded: every pair of bands, of data segments or of
+/// privileges of one class that shares a stretch of positive length, whatever class is asked for; and every
+/// stretch of a data segment that no privilege of the class `license` covers, whatever emissions a privilege
+/// lists. Ranges that only touch share nothing, and leave no gap between them.
+///
+/// The rows are written into the bytes lent, [`REPORT_ROW`] bytes each, and read from there.
+/// [`MOST_REPORT`] rows have room for every report. Bytes past the last row stay as they were; on a
+/// refusal every byte does. Refusals 1 to 14, then 25 ([`Refusal::Report`]: the report is longer than the
+/// whole rows lent; lend more).
+///
+/// A table is [`tidy`] exactly if no two records overlap, and each data segment lies in a band of its
+/// number.
+///
+/// ```
+/// use pamuklid::{report, License, Refusal};
+///
+/// assert_eq!(report(&[], License::General, &mut []).err(), Some(Refusal::ImageLength));
+/// ```
+pub fn report<'a>(
+    image: &[u8],
+    license: License,
+    rows: &'a mut [u8],
+) -> Result<Report<'a>, Refusal> {
+    version::checked();
+    let flat = raw::report(image, license.number(), rows);
+    codes::refused(flat.refusal)?;
+    let bytes: &'a [u8] = rows;
+    Ok(Report::new(&bytes[..REPORT_ROW * flat.count as usize]))
 }
 
 /// Judges a transmission: one that a station would send in a direction, of a kind, with these audio

@@ -4,12 +4,13 @@
 //! [`version`] is [`VERSION`].
 //!
 //! The only file with unsafe code: each call lends slices as pointer and count, and the library
-//! promises to follow them no further, to keep none, and to write the dial rows and the texts alone.
+//! promises to follow them no further, to keep none, and to write the dial rows, the rows of a report
+//! and the texts alone.
 
 use std::mem::size_of;
 
 /// The version of the library that this crate was written for: major * 10000 + minor * 100 + patch.
-pub const VERSION: u32 = 600;
+pub const VERSION: u32 = 700;
 /// A control, license or sideband that is not known.
 pub const ABSENT: u8 = 255;
 /// The rung of a ceiling that has none.
@@ -28,6 +29,13 @@ pub const RUNG_FIGURES: usize = 4;
 pub const ROW: usize = 36;
 /// The most rows that a dial list can have.
 pub const MOST_ROWS: usize = 16_777_472;
+/// The bytes of a row of a table's report.
+pub const REPORT_ROW: usize = 24;
+/// The most rows that a table's report can have.
+pub const MOST_REPORT: usize = 131_072;
+/// The kind of a report's row: a stretch of a data segment that no privilege of the class covers. The other
+/// kinds are the numbers of their tables.
+pub const REPORT_GAP: u8 = 255;
 /// The bytes of the longest text.
 pub const MOST_TEXT: usize = 15;
 /// The least bytes of an image.
@@ -231,6 +239,16 @@ pub struct Distance {
     pub refusal: u8,
 }
 
+/// The answer of a table's report.
+#[repr(C)]
+#[derive(Clone, Copy, Debug)]
+pub struct Report {
+    /// The rows that were written, at most [`MOST_REPORT`]; 0 on a refusal.
+    pub count: u32,
+    /// 0; or 20, the image's refusal, 1 to 14, or 25.
+    pub refusal: u8,
+}
+
 /// A text's answer.
 #[repr(C)]
 #[derive(Clone, Copy, Debug)]
@@ -272,6 +290,7 @@ const _: () = {
     assert!(size_of::<Ceiling>() == 368);
     assert!(size_of::<Dials>() == 8);
     assert!(size_of::<Distance>() == 16);
+    assert!(size_of::<Report>() == 8);
     assert!(size_of::<Text>() == 8);
     assert!(size_of::<Tidiness>() == 2);
     assert!(size_of::<Fault>() == 6);
@@ -282,6 +301,13 @@ extern "C" {
     fn pamuklid_check(image: *const u8, n: usize) -> u8;
     fn pamuklid_fault_of(image: *const u8, n: usize) -> Fault;
     fn pamuklid_tidy(image: *const u8, n: usize) -> Tidiness;
+    fn pamuklid_report_of(
+        image: *const u8,
+        n: usize,
+        license: u8,
+        rows: *mut u8,
+        rows_len: usize,
+    ) -> Report;
     fn pamuklid_fresh() -> Station;
     fn pamuklid_evaluate(
         s: Station,
@@ -348,6 +374,13 @@ pub fn fault_of(image: &[u8]) -> Fault {
 #[inline]
 pub fn tidy(image: &[u8]) -> Tidiness {
     unsafe { pamuklid_tidy(image.as_ptr(), image.len()) }
+}
+
+/// `pamuklid_report_of`.
+#[inline]
+pub fn report(image: &[u8], license: u8, rows: &mut [u8]) -> Report {
+    let (at, len) = (rows.as_mut_ptr(), rows.len());
+    unsafe { pamuklid_report_of(image.as_ptr(), image.len(), license, at, len) }
 }
 
 /// `pamuklid_fresh`.

@@ -13,6 +13,7 @@ use crate::codes::{
 };
 use crate::dials::{DialRow, Distance};
 use crate::fault::{Fault, Place, Table};
+use crate::report::ReportRow;
 use crate::texts::{text_at, text_hertz, text_khz, MOST_TEXT};
 
 // ------------------------------------------------------------------------------------- figures
@@ -386,6 +387,7 @@ impl Refusal {
             Self::NoImage => "rules are in force and there is no image",
             Self::Rows => "the dial list is longer than the rows lent",
             Self::Text => "the text of the figure is longer than the bytes lent",
+            Self::Report => "the table's report is longer than the rows lent",
         }
     }
 
@@ -417,6 +419,7 @@ impl Refusal {
             Self::NoImage => "load the table's image",
             Self::Rows => "lend more rows",
             Self::Text => "lend more bytes: 15 have room for every text",
+            Self::Report => "lend more rows: 131,072 have room for every report",
         }
     }
 }
@@ -723,6 +726,24 @@ impl Display for Place {
             Self::General => f.pad("the general block"),
             Self::Record { table, index } => {
                 write!(f, "record {index} of the {table}, counted from 0")
+            }
+        }
+    }
+}
+
+/// Records by their indices, counted from 0; the stretch as a [`Range`].
+impl Display for ReportRow {
+    fn fmt(&self, f: &mut Formatter<'_>) -> fmt::Result {
+        match self {
+            Self::Overlap { table, license, first, second, stretch } => {
+                write!(f, "{table} {first} and {second}")?;
+                if let Some(license) = license {
+                    write!(f, " of {license}")?;
+                }
+                write!(f, " share {stretch}")
+            }
+            Self::Gap { license, segment, stretch } => {
+                write!(f, "no privilege of {license} covers {stretch} of data segment {segment}")
             }
         }
     }

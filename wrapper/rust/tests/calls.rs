@@ -2,10 +2,11 @@
 //! library's.
 
 use pamuklid::{
-    ceiling, check, distance, evaluate, fault_of, raw, safe_dials, text_at, text_hertz, text_khz,
-    tidy, unmeasured, version, Code, Control, DialRow, DialRows, Direction, Distance, Edge, Edges,
-    Fault, Guidance, Kind, License, Overshoot, Place, Policy, Range, Refusal, Rule, Segment,
-    Sideband, SixtyNotes, Station, Table, Verdict, MOST_TEXT, ROW, VERSION,
+    ceiling, check, distance, evaluate, fault_of, raw, report, safe_dials, text_at, text_hertz,
+    text_khz, tidy, unmeasured, version, Code, Control, DialRow, DialRows, Direction, Distance,
+    Edge, Edges, Fault, Guidance, Kind, License, Overshoot, Place, Policy, Range, Refusal,
+    ReportRow, Rule, Segment, Sideband, SixtyNotes, Station, Table, Verdict, MOST_REPORT,
+    MOST_TEXT, REPORT_ROW, ROW, VERSION,
 };
 
 static IMAGE: &[u8] = include_bytes!("../../../tools/reference/practice.bin");
@@ -64,6 +65,77 @@ fn image_calls() {
     assert_eq!((raw::tidy(&untidy).tidy, raw::tidy(&untidy).refusal), (0, 0));
     assert_eq!((raw::tidy(IMAGE).tidy, raw::tidy(IMAGE).refusal), (1, 0));
     assert_eq!((raw::tidy(&damaged).tidy, raw::tidy(&damaged).refusal), (0, 2));
+}
+
+/// General has 14,025,000–14,150,000 and 5,330,000–5,407,000, the others nothing; the data segments are
+/// 14,000,000–14,150,000 and 5,351,500–5,366,500.
+#[test]
+fn reports() {
+    let gap = |license, segment, low, high| ReportRow::Gap {
+        license,
+        segment,
+        stretch: range(low, high),
+    };
+    let mut bytes = [7; 3 * REPORT_ROW];
+    let listed = report(IMAGE, License::General, &mut bytes).unwrap();
+    let general = gap(License::General, 0, 14_000_000.0, 14_025_000.0);
+    assert_eq!(listed.rows().collect::<Vec<_>>(), [general]);
+    let mut row = [0; REPORT_ROW];
+    row[..8].copy_from_slice(&14_000_000.0f64.to_bits().to_le_bytes());
+    row[8..16].copy_from_slice(&14_025_000.0f64.to_bits().to_le_bytes());
+    (row[16], row[17]) = (255, 2);
+    assert_eq!(listed.rows().bytes(), row);
+    assert!(bytes[REPORT_ROW..].iter().all(|&b| b == 7));
+    for license in [License::Novice, License::Technician, License::Advanced, License::Extra] {
+        let listed = report(IMAGE, license, &mut bytes).unwrap();
+        let whole = [
+            gap(license, 0, 14_000_000.0, 14_150_000.0),
+            gap(license, 1, 5_351_500.0, 5_366_500.0),
+        ];
+        assert_eq!(listed.rows().len(), 2);
+        assert_eq!(listed.rows().collect::<Vec<_>>(), whole);
+    }
+    // band 60 up to 15,000,000, and the second privilege up to 14,030,000
+    let mut slips = with(104, &15_000_000.0f64.to_bits().to_le_bytes());
+    slips[264..272].copy_from_slice(&14_030_000.0f64.to_bits().to_le_bytes());
+    let overlap = |table, license, low, high| ReportRow::Overlap {
+        table,
+        license,
+        first: 0,
+        second: 1,
+        stretch: range(low, high),
+    };
+    let listed = report(&slips, License::General, &mut bytes).unwrap();
+    // the privilege now covers what was a gap
+    let rows = [
+        overlap(Table::Bands, None, 14_000_000.0, 14_350_000.0),
+        overlap(Table::Privileges, Some(License::General), 14_025_000.0, 14_030_000.0),
+    ];
+    assert_eq!(listed.rows().collect::<Vec<_>>(), rows);
+    assert_eq!(tidy(&slips), Ok(false));
+}
+
+/// No byte is written where a report is refused.
+#[test]
+fn reports_refused() {
+    let mut bytes = [7; 2 * REPORT_ROW];
+    let refused = |image: &[u8], license, bytes: &mut [u8]| report(image, license, bytes).err();
+    assert_eq!(refused(&[], License::Extra, &mut bytes), Some(Refusal::ImageLength));
+    assert_eq!(refused(&with(376, b"F"), License::Extra, &mut bytes), Some(Refusal::Letters));
+    for lent in [0, REPORT_ROW, 2 * REPORT_ROW - 1] {
+        let lent = &mut bytes[..lent];
+        assert_eq!(refused(IMAGE, License::Extra, lent), Some(Refusal::Report));
+    }
+    for license in [5, 255] {
+        for image in [IMAGE, &[]] {
+            let flat = raw::report(image, license, &mut bytes);
+            assert_eq!((flat.count, flat.refusal), (0, 20));
+        }
+    }
+    assert_eq!(bytes, [7; 2 * REPORT_ROW]);
+    let flat = raw::report(IMAGE, 2, &mut bytes);
+    assert_eq!((flat.count, flat.refusal), (1, 0));
+    assert_eq!(MOST_REPORT, 2 * (256 * 255 / 2) + 256 * 257);
 }
 
 /// tools/reference/practice.txt has the offsets.

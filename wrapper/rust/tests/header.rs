@@ -8,7 +8,7 @@ use std::path::Path;
 
 use pamuklid::{
     raw, Code, Control, DialRow, Direction, Edge, Guidance, Kind, License, Overshoot, Policy,
-    Refusal, Rule, Sideband, Table, Verdict, VERSION,
+    Range, Refusal, ReportRow, Rule, Sideband, Table, Verdict, VERSION,
 };
 
 fn file(name: &str) -> String {
@@ -119,6 +119,12 @@ fn every_number() {
     for (name, place) in [("NONE", 0), ("GENERAL", 1), ("RECORD", 2)] {
         numbers.take(&format!("PLACE_{name}"), place);
     }
+    for (name, table) in
+        [("BANDS", Table::Bands), ("SEGMENTS", Table::Segments), ("PRIVILEGES", Table::Privileges)]
+    {
+        numbers.take(&format!("REPORT_{name}"), table.number().into());
+    }
+    numbers.take("REPORT_GAP", raw::REPORT_GAP.into());
     numbers.take("ABSENT", raw::ABSENT.into());
     numbers.take("RUNG_NONE", raw::RUNG_NONE.into());
     numbers.take("TABLE_NONE", raw::TABLE_NONE.into());
@@ -129,6 +135,8 @@ fn every_number() {
         ("RUNG_FIGURES", raw::RUNG_FIGURES),
         ("ROW", raw::ROW),
         ("MOST_ROWS", raw::MOST_ROWS),
+        ("REPORT_ROW", raw::REPORT_ROW),
+        ("MOST_REPORT", raw::MOST_REPORT),
         ("MOST_TEXT", raw::MOST_TEXT),
         ("IMAGE_LEAST", raw::IMAGE_LEAST),
         ("IMAGE_MOST", raw::IMAGE_MOST),
@@ -144,6 +152,9 @@ fn every_number() {
     for (name, at) in ROW_PARTS {
         numbers.take(&format!("ROW_{name}"), at as i64);
     }
+    for (name, at) in REPORT_PARTS {
+        numbers.take(&format!("REPORT_ROW_{name}"), at as i64);
+    }
     assert!(numbers.0.is_empty(), "not accounted for: {:?}", numbers.0);
 }
 
@@ -156,6 +167,39 @@ const ROW_PARTS: [(&str, usize); 7] = [
     ("ZERO", 33),
     ("RULE", 34),
 ];
+
+const REPORT_PARTS: [(&str, usize); 7] = [
+    ("LOW", 0),
+    ("HIGH", 8),
+    ("KIND", 16),
+    ("LICENSE", 17),
+    ("FIRST", 18),
+    ("SECOND", 20),
+    ("ZERO", 22),
+];
+
+/// The parts of a report's row, each at its offset.
+#[test]
+fn report_parts() {
+    let at = |name: &str| REPORT_PARTS.iter().find(|part| part.0 == name).unwrap().1;
+    let mut bytes = [0; raw::REPORT_ROW];
+    for (name, x) in [("LOW", 1.0f64), ("HIGH", 2.0)] {
+        bytes[at(name)..at(name) + 8].copy_from_slice(&x.to_bits().to_le_bytes());
+    }
+    bytes[at("KIND")] = Table::Privileges.number();
+    bytes[at("LICENSE")] = License::Extra.number();
+    (bytes[at("FIRST")], bytes[at("SECOND")]) = (7, 8);
+    let want = ReportRow::Overlap {
+        table: Table::Privileges,
+        license: Some(License::Extra),
+        first: 7,
+        second: 8,
+        stretch: Range { low_hz: 1.0, high_hz: 2.0 },
+    };
+    assert_eq!(ReportRow::from_bytes(&bytes), Some(want));
+    bytes[at("ZERO")] = 9;
+    assert_eq!(ReportRow::from_bytes(&bytes), Some(want));
+}
 
 /// The parts of a row, each at its offset.
 #[test]
@@ -348,8 +392,8 @@ fn structs_and_calls() {
     let (structs, calls) = of_rust(&file("src/raw.rs"));
     let (their_structs, their_calls) = of_rust(&library());
     let names = |of: &Structs| of.keys().cloned().collect::<BTreeSet<_>>();
-    assert_eq!(c_structs.len(), 9);
-    assert_eq!(c_calls.len(), 13);
+    assert_eq!(c_structs.len(), 10);
+    assert_eq!(c_calls.len(), 14);
     assert_eq!(names(&structs), names(&c_structs));
     assert_eq!(names(&structs), names(&their_structs));
     for (name, fields) in &structs {

@@ -5,8 +5,8 @@ use std::fmt::Display;
 
 use pamuklid::{
     Ceiling, Code, Control, Decision, DialRow, Direction, Distance, Edge, Fault, Guidance, Hertz,
-    Kilohertz, Kind, License, Overshoot, Place, Policy, PowerNotes, Range, Refusal, Rule, Segment,
-    Sideband, SixtyNotes, Table, Verdict, Version,
+    Kilohertz, Kind, License, Overshoot, Place, Policy, PowerNotes, Range, Refusal, ReportRow,
+    Rule, Segment, Sideband, SixtyNotes, Table, Verdict, Version,
 };
 
 fn range(low_hz: f64, high_hz: f64) -> Range {
@@ -42,7 +42,7 @@ fn figures() {
     reads(range(5_330_600.0, 5_333_450.0), "5330.6 to 5333.450 kHz");
     let segment = Segment { range: range(14_095_000.0, 14_099_500.0), rule: Rule::Table(13) };
     reads(segment, "14095 to 14099.5 kHz (rule 13 of the table)");
-    reads(Version { major: 0, minor: 6, patch: 0 }, "0.6.0");
+    reads(Version { major: 0, minor: 7, patch: 0 }, "0.7.0");
     reads(Version::from_number(123_456), "12.34.56");
 }
 
@@ -204,6 +204,7 @@ fn refusals() {
         (22, "rules are in force and there is no image"),
         (23, "the dial list is longer than the rows lent"),
         (24, "the text of the figure is longer than the bytes lent"),
+        (25, "the table's report is longer than the rows lent"),
     ];
     assert_eq!(texts.len(), Refusal::ALL.len());
     for (&refusal, (number, text)) in Refusal::ALL.iter().zip(texts) {
@@ -294,6 +295,40 @@ fn faults() {
     reads(
         Fault { refusal: Refusal::Letters, place: None },
         "refusal 2: the image does not end with the letters EDGE",
+    );
+}
+
+#[test]
+fn rows_of_a_report() {
+    let overlap = |table, license, first, second, stretch| ReportRow::Overlap {
+        table,
+        license,
+        first,
+        second,
+        stretch,
+    };
+    reads(
+        overlap(Table::Bands, None, 0, 3, range(7_000_000.0, 7_125_500.0)),
+        "bands 0 and 3 share 7000 to 7125.5 kHz",
+    );
+    reads(
+        overlap(Table::Segments, None, 254, 255, range(14_100_500.0, 14_112_050.0)),
+        "data segments 254 and 255 share 14100.5 to 14112.050 kHz",
+    );
+    let class = Some(License::General);
+    reads(
+        overlap(Table::Privileges, class, 2, 5, range(14_025_000.0, 14_150_000.0)),
+        "privileges 2 and 5 of General share 14025 to 14150 kHz",
+    );
+    let gap = |license, stretch| ReportRow::Gap { license, segment: 0, stretch };
+    reads(
+        gap(License::Extra, range(14_000_000.0, 14_025_000.0)),
+        "no privilege of Amateur Extra covers 14000 to 14025 kHz of data segment 0",
+    );
+    // by an eighth of a hertz
+    reads(
+        gap(License::Novice, range(14_000_000.0, 14_000_000.125)),
+        "no privilege of Novice covers 14000 to about 14000.000 kHz of data segment 0",
     );
 }
 

@@ -9,7 +9,7 @@ use Rattle.lists.specs.From.{from}
 use Rattle.lists.specs.Pour.{Pouring, pouring-none, pouring-step, pouring-done}
 use Rattle.table.specs.Table.{tableOf}
 use Rattle.sweep.specs.Sweep.{gives}
-use Rattle.sweep.specs.Laws.{swept-below, swept-more, swept-none, ranges-count}
+use Rattle.sweep.specs.Laws.{swept-below, swept-more, swept-none, ranges-count, ranges-few}
 use Rattle.report_rows.specs.Rows.{offerAt}
 use Rattle.report.specs.Report.{overlapRow, pairRows}
 use borrow.Author.Needs.{needs}
@@ -65,7 +65,9 @@ span-of-requires : tie.Need-span-of-requires Inv-loop μ-loop
 span-of-requires c κs = search needs
 
 add-from : tie.Need-add-from Inv-loop μ-loop
-add-from c = omega (arith, c .before .before .before .before .before .pre .3, c .before .before .before .before .before .good)
+add-from c =
+    let s = c .before .before .before .before .before in
+    omega (arith, s .pre .3, ranges-few (s .args .image .now) (s .args .g) (s .pre .0) (s .pre .1) (s .pre .2))
 
 loop-holds : tie.Need-loop-holds Inv-loop μ-loop
 loop-holds c = (pouring-none _ _ _ _ _ refl, refl)

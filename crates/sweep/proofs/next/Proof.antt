@@ -6,7 +6,7 @@ use lib.ListN.{length}
 use Rattle.layout.specs.Layout.{recordSize, trailerSize}
 use Rattle.table.specs.Table.{tableOf}
 use Rattle.sweep.specs.Sweep.{sharedWith, sweep}
-use Rattle.sweep.specs.Laws.{sweep-here, sweep-step, sweep-end, ranges-read, ranges-within}
+use Rattle.sweep.specs.Laws.{sweep-here, sweep-step, sweep-end, ranges-few, ranges-read, ranges-within}
 use borrow.Author.Needs.{needs}
 use Rattle.sweep.proofs.next.Statement.{statement}
 use Rattle.sweep.proofs.next.Tie as tie
@@ -61,7 +61,9 @@ enum-told : tie.Need-enum-told Inv-loop μ-loop
 enum-told c = search needs
 
 add-i : tie.Need-add-i Inv-loop μ-loop
-add-i c = omega arith
+add-i c =
+    let s = c .before .before .before .before .before .before .before .before .before in
+    omega (arith, ranges-few (s .args .image .now) (s .args .g) (s .pre .0) (s .pre .1) (s .pre .2), c .before .before .before .before .before .if1 .taken)
 
 loop-less : tie.Need-loop-less Inv-loop μ-loop
 loop-less c = omega arith

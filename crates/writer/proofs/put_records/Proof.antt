@@ -1,7 +1,6 @@
 -- `writer::put_records` meets its contract: one record behind the other.
 use Prim.Native.Nat.{_-_}
 use native.Mathlib.Omega.{arith}
-use borrow.Author.Needs.{needs}
 use Rattle.given.specs.Given.{runs, recordFrom}
 use Rattle.writer.specs.Image.{recordBytes}
 use Rattle.writer.specs.Laws.{record-length, Gathered, gathered-none, gathered-more, gathered-all}
@@ -41,7 +40,8 @@ loop-less c = omega (arith, c .before .before .before .before .before .loop-test
 loop-again : tie.Need-loop-again Inv-loop μ-loop
 loop-again c =
     rw (c .before .before .put-record .ensures)
-    (rw (c .before .before .before .before .record-from .ensures) (gathered-more _ _ _ _ _ _ _ _ (c .before .before .before .before .before .before .loop .inv) (c .before .before .before .before .before .loop-test .taken)))
+    (rw (c .before .before .before .before .record-from .ensures) (gathered-more _ _ _ _ _ _ _ _ (c .before .before .before .before .before .before
+    .loop .inv) (c .before .before .before .before .before .loop-test .taken)))
 
 same-length : tie.Need-same-length Inv-loop μ-loop
 same-length c = c .before .loop .inv .same
