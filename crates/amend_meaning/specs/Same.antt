@@ -165,8 +165,7 @@ again-accepted l a day lent e =
     let none = none-fails (test 27 (listWrong l a) ∷ test 28 (ltb (length lent) (length l)) ∷ []) (last .0) in
     let w = accepted-whole l (both .0) in
     let n : length l ≤ length lent = ltb-false (length lent) (length l) (none .1 .0) in
-    let same = again-same l a day w (none .0) in
-    (
+    let same = again-same l a day w (none .0) in (
       amend-check image a day lent (last .1) (right-again l a day w (none .0)) (rw (same-length l a day w) n) ∙ ap checkOf same ∙ last .1,
       same,
     )

@@ -5,6 +5,7 @@ use scan::Found;
 ghost use mathlib.Core.Path.{_≡_};
 ghost use mathlib.Core.Bool.{false};
 ghost use Prim.Native.Nat.{_+_, _*_, _≤_, _<_};
+ghost use lib.Dec.{ltb};
 ghost use lib.ListN.{length};
 ghost use Rattle.layout.specs.Form.{Whole};
 ghost use Rattle.layout.specs.Layout.{recordAt, recordsBefore};
@@ -77,13 +78,20 @@ fn named_at(image: &[u8], list: &[u8], j: usize) -> usize
     layout::records_before(image, table_at(list, j)) as usize + index_at(list, j)
 }
 
+// Whether an amendment's day is after the one asked.
+fn is_after(own: u32, day: u32) -> bool
+    ensures { λ r. ⌜ r ≡ ltb day own ⌝ }
+{
+    day < own
+}
+
 // What is found after amendment j, which names the record: j, where it is in force and not of an earlier day than what was found before.
 fn next_entry(list: &[u8], day: u32, entry: u64, j: usize) -> u64
     requires { ⌜ (40 * j + 40 ≤ length (now list)) × (Entry entry j) ⌝ }
     ensures { λ r. ⌜ (foundFrom r ≡ superseded (now (list .entry)) day (foundFrom entry) j) × (r ≤ j + 1) ⌝ }
 {
     let own = day_at(list, j);
-    if day < own {
+    if is_after(own, day) {
         return entry;
     }
     if entry == 0 {

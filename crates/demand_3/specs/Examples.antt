@@ -230,8 +230,8 @@ unfolding
     allowedOnSixty judgeData insideSegment outsideSegments overshootOf nearestUpTo considered automaticData automaticElsewhere advised
     adviceWarns adviceOf guidanceOf planSays wantsPlan notesUpTo anyNote noted privilegedOf draftAutomatic draftInside draftOf refusedOf
     simpleOf finishOf noAdvice edgesRead edgesValid situationOf codesValid figuresValid checkOf codedBlock miscoded soundBlock unsound bare
-    unlimited asks soundBits soundRecord codedOf codedGeneral tablesFrom recordsBefore recordAt wattsAt generalOf u16At u32At u64At firstFrom lt le eq ne neg add
-    sub mul div ofInt ofBits recordIn tidyTable twoShare inEighths recordInEighths blockInEighths tableInEighths edgesInEighths stationInEighths
+    unlimited asks soundBits soundRecord codedOf codedGeneral tablesFrom recordsBefore recordAt wattsAt generalOf u16At u32At u64At firstFrom lt le eq ne neg
+    add sub mul div ofInt ofBits recordIn tidyTable twoShare inEighths recordInEighths blockInEighths tableInEighths edgesInEighths stationInEighths
     tuned prerequisitesMet guardedWidth positiveWidth channelBandHolds onChannelBand isOutside consideredAt leastUpTo
     distanceOf
 opened = tt

@@ -448,7 +448,8 @@ module _ (e : ℕ) (g : General) (n : List ℕ) (r : Runs) (f : Fitting e g n r)
 
       go : (b : Bool) → tooMany n ≡ b → checkOf (imageOf e g n r) ≡ refusalOf (givenTests e g n r)
       go true m =
-          ap (λ (s : Bool). refusal s (lettersWrong (imageOf e g n r)) (editionWrong (imageOf e g n r)) (countsWrong (imageOf e g n r)) (tableOf (imageOf e g n r)))
+          ap (λ (s : Bool). refusal s (lettersWrong (imageOf e g n r)) (editionWrong (imageOf e g n r)) (countsWrong (imageOf e g n r)) (tableOf
+          (imageOf e g n r)))
           (long (ltb-true _ _ m))
           ∙ sym (ap (λ (s : Bool). given s (neitherEdition e) (givenWrong n r)) m)
       go false m =

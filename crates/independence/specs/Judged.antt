@@ -252,7 +252,8 @@ module _ (table : Table) (c : Case) (power : Figure) (plan : Bool) where
   segment-same band s =
       on-cond (isData (c .kind) && lt (generalLimit table .«max_bandwidth_hz») (c .width))
       (leaf (draftInside c band (s .range) (s .rule)) Blocked TooWide (generalLimit table .rule))
-      (allowed-same (draftInside c band (s .range) (s .rule)) (exceeds power (segmentWatts table)) (exceeds (c .power) (segmentWatts table)) SixtySegment (s .rule)
+      (allowed-same (draftInside c band (s .range) (s .rule)) (exceeds power (segmentWatts table)) (exceeds (c .power)
+      (segmentWatts table)) SixtySegment (s .rule)
       (record { «channel_power» = false; shared = false; «segment_power» = exceeds power (segmentWatts table) })
       (record { «channel_power» = false; shared = false; «segment_power» = exceeds (c .power) (segmentWatts table) }))
 

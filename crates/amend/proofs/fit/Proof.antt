@@ -16,8 +16,7 @@ slice-aggregate-fill c = search needs
 fill-requires : tie.Need-fill-requires
 fill-requires c κs =
     let a = c .before .before .before .before .args in
-    let p = c .before .before .before .before .pre in
-    (
+    let p = c .before .before .before .before .pre in (
       accepted-whole (a .image .now) (p .0),
       p .1,
       indexed-none (a .image .now) (a .list .now) (a .day) _ refl (getD-zeros 2045),

@@ -61,8 +61,7 @@ record-at-requires : tie.Need-record-at-requires Inv-loop μ-loop
 record-at-requires c κs =
     let a = c .before .before .before .before .before .before .before .args in
     let p = c .before .before .before .before .before .before .before .pre in
-    let k : c .before .loop .i < countOf (a .image .now) segments = omega (arith, c .before .before .count-of .ensures, c .loop-test .taken) in
-    (
+    let k : c .before .loop .i < countOf (a .image .now) segments = omega (arith, c .before .before .count-of .ensures, c .loop-test .taken) in (
       p,
       omega (arith, slot-below (a .image .now) (a .list .now) (a .day) (p .whole) segments (c .before .loop .i) (omega arith) k, c .before .before .before .records-before .ensures),
     )

@@ -31,7 +31,7 @@ mul-from c =
     omega (
       arith,
       within-list (a .list .now) _
-      (latest-below (a .image .now) (a .list .now) (a .day) (a .k) (amendmentsIn (a .list .now)) _ (sym (c .before .before .before .before .counting .ensures) ∙ c .before .before .j .given .1)),
+          (latest-below (a .image .now) (a .list .now) (a .day) (a .k) (amendmentsIn (a .list .now)) _ (sym (c .before .before .before .before .counting .ensures) ∙ c .before .before .j .given .1)),
     )
 
 add-from : tie.Need-add-from
@@ -40,14 +40,13 @@ add-from c =
     omega (
       arith,
       within-list (a .list .now) _
-      (latest-below (a .image .now) (a .list .now) (a .day) (a .k) (amendmentsIn (a .list .now)) _ (sym (c .before .before .before .before .counting .ensures) ∙ c .before .before .j .given .1)),
+          (latest-below (a .image .now) (a .list .now) (a .day) (a .k) (amendmentsIn (a .list .now)) _ (sym (c .before .before .before .before .counting .ensures) ∙ c .before .before .j .given .1)),
     )
 
 put-part-requires : tie.Need-put-part-requires
 put-part-requires c κs =
     let a = c .before .before .before .before .before .before .before .before .before .before .args in
-    let p = c .before .before .before .before .before .before .before .before .before .before .pre in
-    (
+    let p = c .before .before .before .before .before .before .before .before .before .before .pre in (
       omega (
         arith,
         c .before .tables-from .ensures,
@@ -57,7 +56,7 @@ put-part-requires c κs =
       omega (
         arith,
         within-list (a .list .now) _
-        (latest-below (a .image .now) (a .list .now) (a .day) (a .k) (amendmentsIn (a .list .now)) _ (sym (c .before .before .before .before .before .counting .ensures) ∙ c .before .before .before .j .given .1)),
+            (latest-below (a .image .now) (a .list .now) (a .day) (a .k) (amendmentsIn (a .list .now)) _ (sym (c .before .before .before .before .before .counting .ensures) ∙ c .before .before .before .j .given .1)),
       ),
     )
 

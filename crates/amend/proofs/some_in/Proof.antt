@@ -37,8 +37,7 @@ record-at-requires : tie.Need-record-at-requires Inv-loop μ-loop
 record-at-requires c κs =
     let a = c .before .before .before .before .before .before .before .args in
     let p = c .before .before .before .before .before .before .before .pre in
-    let k : c .before .loop .i < countOf (a .image .now) (a .t) = omega (arith, c .before .before .count-of .ensures, c .loop-test .taken) in
-    (
+    let k : c .before .loop .i < countOf (a .image .now) (a .t) = omega (arith, c .before .before .count-of .ensures, c .loop-test .taken) in (
       p .0,
       omega (arith, slot-below (a .image .now) (a .list .now) (a .day) (p .0 .whole) (a .t) (c .before .loop .i) (p .1) k, c .before .before .before .records-before .ensures),
     )

@@ -1,7 +1,8 @@
 -- `amended::next_entry` meets its contract: on each way to a return, the days say which of the two counts.
-use Prim.Native.Nat.{_-_, _<_, _≤_}
+use mathlib.Core.Path.{sym, _∙_}
 use native.Mathlib.Omega.{arith}
 use borrow.Author.Needs.{needs}
+use borrow.Author.Tests.{ltb-true, ltb-false}
 use Rattle.amended.specs.Latest.{next-future, next-first, next-earlier, next-later}
 use Rattle.amended.proofs.next_entry.Statement.{statement}
 use Rattle.amended.proofs.next_entry.Tie as tie
@@ -9,18 +10,24 @@ use Rattle.amended.proofs.next_entry.Tie as tie
 day-at-requires : tie.Need-day-at-requires
 day-at-requires c κs = search needs
 
+is-after-requires : tie.Need-is-after-requires
+is-after-requires c κs = search needs
+
 returns : tie.Need-returns
 returns c =
-    let a = c .before .before .before .args in
-    (next-future (a .list .now) (a .day) (a .entry) (a .j) (omega (arith, c .before .day-at .ensures, c .if1 .taken)), omega arith)
+    let a = c .before .before .before .before .args in (
+      next-future (a .list .now) (a .day) (a .entry) (a .j) (omega (arith, c .before .before .day-at .ensures, ltb-true (a .day) (c .before .before .day-at .result) (sym (c .before .is-after .ensures) ∙ c .if1 .taken))),
+      omega arith,
+    )
 
 add-result : tie.Need-add-result
 add-result c = search needs
 
 returns-2 : tie.Need-returns-2
 returns-2 c =
-    let a = c .before .before .before .before .args in (
-      next-first (a .list .now) (a .day) (a .entry) (a .j) (omega (arith, c .before .before .day-at .ensures, c .before .if1 .left)) (c .if2 .taken),
+    let a = c .before .before .before .before .before .args in (
+      next-first (a .list .now) (a .day) (a .entry) (a .j)
+          (omega (arith, c .before .before .before .day-at .ensures, ltb-false (a .day) (c .before .before .before .day-at .result) (sym (c .before .before .is-after .ensures) ∙ c .before .if1 .left))) (c .if2 .taken),
       omega arith,
     )
 
@@ -32,9 +39,10 @@ day-at-requires-2 c κs = search needs
 
 returns-3 : tie.Need-returns-3
 returns-3 c =
-    let a = c .before .before .before .before .before .before .args in (
-      next-earlier (a .list .now) (a .day) (a .entry) (a .j) (omega (arith, c .before .before .before .before .day-at .ensures, c .before .before .before .if1 .left)) (c .before .before .if2 .left)
-          (omega (arith, c .before .before .before .before .day-at .ensures, c .before .day-at2 .ensures, c .if3 .taken)),
+    let a = c .before .before .before .before .before .before .before .args in (
+      next-earlier (a .list .now) (a .day) (a .entry) (a .j)
+          (omega (arith, c .before .before .before .before .before .day-at .ensures, ltb-false (a .day) (c .before .before .before .before .before .day-at .result) (sym (c .before .before .before .before .is-after .ensures) ∙ c .before .before .before .if1 .left))) (c .before .before .if2 .left)
+          (omega (arith, c .before .before .before .before .before .day-at .ensures, c .before .day-at2 .ensures, c .if3 .taken)),
       omega arith,
     )
 
@@ -43,9 +51,10 @@ add-result-2 c = search needs
 
 returns-4 : tie.Need-returns-4
 returns-4 c =
-    let a = c .before .before .before .before .before .before .args in (
-      next-later (a .list .now) (a .day) (a .entry) (a .j) (omega (arith, c .before .before .before .before .day-at .ensures, c .before .before .before .if1 .left)) (c .before .before .if2 .left)
-          (omega (arith, c .before .before .before .before .day-at .ensures, c .before .day-at2 .ensures, c .if3 .left)),
+    let a = c .before .before .before .before .before .before .before .args in (
+      next-later (a .list .now) (a .day) (a .entry) (a .j)
+          (omega (arith, c .before .before .before .before .before .day-at .ensures, ltb-false (a .day) (c .before .before .before .before .before .day-at .result) (sym (c .before .before .before .before .is-after .ensures) ∙ c .before .before .before .if1 .left))) (c .before .before .if2 .left)
+          (omega (arith, c .before .before .before .before .before .day-at .ensures, c .before .day-at2 .ensures, c .if3 .left)),
       omega arith,
     )
 
@@ -54,6 +63,7 @@ next-entry-spec =
     tie.close
     (tie.spec
     day-at-requires
+    is-after-requires
     returns
     add-result
     returns-2

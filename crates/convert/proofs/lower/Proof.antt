@@ -23,13 +23,15 @@ enum-told c = search needs
 put-lowered-requires : tie.Need-put-lowered-requires
 put-lowered-requires c κs =
     let l = c .before .before .before .before .before .before .args .image .now in
-    let e = refusal-both (fromTests 2 l) (test 26 (otherWatts (generalOf l)) ∷ []) (sym (c .before .before .before .lower-refusal .ensures) ∙ c .before .enum-told .given .1) .0 in
+    let e = refusal-both (fromTests 2 l) (test 26 (otherWatts (generalOf l)) ∷ []) (sym (c .before .before .before .lower-refusal .ensures) ∙ c
+    .before .enum-told .given .1) .0 in
     (from-whole l 2 refl e, from-accepted l 2 refl e .1)
 
 returns : tie.Need-returns
 returns c =
     let a = c .before .before .before .before .before .before .args in
-    left-refused (lowerTests (a .image .now)) (loweredOf (a .image .now)) (a .out .now) _ (sym (c .before .before .before .lower-refusal .ensures) ∙ c .before .n .given .1)
+    left-refused (lowerTests (a .image .now)) (loweredOf (a .image .now)) (a .out .now) _ (sym (c .before .before .before .lower-refusal .ensures) ∙ c
+    .before .n .given .1)
 
 same-length : tie.Need-same-length
 same-length c = search needs
@@ -37,7 +39,8 @@ same-length c = search needs
 returns-2 : tie.Need-returns-2
 returns-2 c =
     let a = c .before .before .before .before .before .before .before .before .before .args in
-    left-next (lowerTests (a .image .now)) (loweredOf (a .image .now)) (a .out .now) _ _ (sym (c .before .before .before .before .before .before .lower-refusal .ensures) ∙ c .before .before .before .before .enum-told .given .1)
+    left-next (lowerTests (a .image .now)) (loweredOf (a .image .now)) (a .out .now) _ _ (sym (c .before .before .before .before .before .before
+    .lower-refusal .ensures) ∙ c .before .before .before .before .enum-told .given .1)
     (c .before .before .put-lowered .ensures)
 
 pub lower-spec : {M : Type 1} → statement M

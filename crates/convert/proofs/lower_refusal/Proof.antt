@@ -15,7 +15,8 @@ use Rattle.convert.proofs.lower_refusal.Tie as tie
 -- what was asked of the watts
 watts : (c : tie.After-other-watts) → c .other-watts .result ≡ otherWatts (generalOf (c .before .before .before .before .before .before .args .s .now))
 watts c =
-    c .other-watts .ensures (generalOf (c .before .before .before .before .before .before .args .s .now)) (ap (λ (g : General). g .«channel_watts») (c .before .general-of .ensures))
+    c .other-watts .ensures (generalOf (c .before .before .before .before .before .before .args .s .now)) (ap (λ (g : General). g .«channel_watts») (c
+    .before .general-of .ensures))
     (ap (λ (g : General). g .«segment_watts») (c .before .general-of .ensures))
 
 refusal-requires : tie.Need-refusal-requires
@@ -39,7 +40,8 @@ returns : tie.Need-returns
 returns c =
     let l = c .before .before .before .before .before .before .before .args .s .now in
     sym
-    (refusal-next (fromTests 2 l) (test 26 (otherWatts (generalOf l)) ∷ []) (sym (c .before .before .before .before .before .refusal .ensures) ∙ c .before .before .before .enum-told .given .1)
+    (refusal-next (fromTests 2 l) (test 26 (otherWatts (generalOf l)) ∷ []) (sym (c .before .before .before .before .before .refusal .ensures) ∙ c
+    .before .before .before .enum-told .given .1)
     ∙ rw (← watts (c .before)) (rw (c .if1 .taken)))
 
 returns-2 : tie.Need-returns-2
@@ -51,7 +53,8 @@ returns-3 : tie.Need-returns-3
 returns-3 c =
     let l = c .before .before .before .before .before .before .before .args .s .now in
     sym
-    (refusal-next (fromTests 2 l) (test 26 (otherWatts (generalOf l)) ∷ []) (sym (c .before .before .before .before .before .refusal .ensures) ∙ c .before .before .before .enum-told .given .1)
+    (refusal-next (fromTests 2 l) (test 26 (otherWatts (generalOf l)) ∷ []) (sym (c .before .before .before .before .before .refusal .ensures) ∙ c
+    .before .before .before .enum-told .given .1)
     ∙ rw (← watts (c .before)) (rw (c .if1 .left)))
 
 pub lower-refusal-spec : {M : Type 1} → statement M

@@ -60,9 +60,14 @@ returns-2 : tie.Need-returns-2
 returns-2 c =
     let a = c .before .before .before .before .before .before .before .before .before .before .before .before .before .before .before .args in
     let l = a .image .now in
-    let sized = second-sized l (c .before .before .before .before .before .before .before .before .before .before .before .before .before .before .before .pre .0) (c .before .before .before .before .before .before .before .before .before .before .before .before .before .before .before .pre .1) in
+    let sized = second-sized l (c .before .before .before .before .before .before .before .before .before .before .before .before .before .before
+    .before .pre .0) (c .before .before .before .before .before .before .before .before .before .before .before .before .before .before .before .pre .1) in
     let n : length l - 16 ≡ length (loweredOf l) = omega (arith, lowered-length l sized) in
-    left-put (loweredOf l) (a .out .now) _ _ (omega (arith, c .before .before .before .before .before .before .before .before .before .before .before .before .if1 .left))
+    left-put (loweredOf l) (a .out .now) _ _ (omega (
+      arith,
+      c .before .before .before .before .before .before .before .before .before .before .before
+          .before .if1 .left,
+    ))
     (rw (c .before .before .put-end .ensures)
     (rw (c .before .before .before .before .before .before .put-part2 .ensures)
     (rw (c .before .before .before .before .before .before .before .before .before .before .put-part .ensures)

@@ -32,7 +32,8 @@ returns : tie.Need-returns
 returns c =
     let a = c .before .before .before .before .before .before .before .args in
     rw (c .before .before .copy .ensures)
-    (part-put (a .out .now) (a .image .now) (a .to) (a .from) (a .count) (c .before .before .before .before .before .before .before .pre .0) (c .before .before .before .before .before .before .before .pre .1))
+    (part-put (a .out .now) (a .image .now) (a .to) (a .from) (a .count) (c .before .before .before .before .before .before .before .pre .0) (c
+    .before .before .before .before .before .before .before .pre .1))
 
 pub put-part-spec : {M : Type 1} → statement M
 put-part-spec =

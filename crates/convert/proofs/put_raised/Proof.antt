@@ -61,11 +61,17 @@ same-length c = search needs
 
 returns-2 : tie.Need-returns-2
 returns-2 c =
-    let a = c .before .before .before .before .before .before .before .before .before .before .before .before .before .before .before .before .before .before .before .args in
+    let a = c .before .before .before .before .before .before .before .before .before .before .before .before .before .before .before .before .before
+    .before .before .args in
     let l = a .image .now in
-    let sized = c .before .before .before .before .before .before .before .before .before .before .before .before .before .before .before .before .before .before .before .pre .0 .sized in
+    let sized = c .before .before .before .before .before .before .before .before .before .before .before .before .before .before .before .before
+    .before .before .before .pre .0 .sized in
     let n : length l + 16 ≡ length (raisedOf l) = omega (arith, raised-length l sized) in
-    left-put (raisedOf l) (a .out .now) _ _ (omega (arith, c .before .before .before .before .before .before .before .before .before .before .before .before .before .before .before .before .if1 .left))
+    left-put (raisedOf l) (a .out .now) _ _ (omega (
+      arith,
+      c .before .before .before .before .before .before .before .before .before .before .before
+          .before .before .before .before .before .if1 .left,
+    ))
     (rw (c .before .before .put-end .ensures)
     (rw (c .before .before .before .before .before .before .put-part2 .ensures)
     (rw (c .before .before .before .before .before .before .before .before .before .before .put-watts .ensures)

@@ -25,7 +25,8 @@ put-raised-requires c κs =
 returns : tie.Need-returns
 returns c =
     let a = c .before .before .before .before .before .before .args in
-    left-refused (raiseTests (a .image .now)) (raisedOf (a .image .now)) (a .out .now) _ (sym (c .before .before .before .refusal .ensures) ∙ c .before .n .given .1)
+    left-refused (raiseTests (a .image .now)) (raisedOf (a .image .now)) (a .out .now) _ (sym (c .before .before .before .refusal .ensures) ∙ c
+    .before .n .given .1)
 
 same-length : tie.Need-same-length
 same-length c = search needs
@@ -33,7 +34,8 @@ same-length c = search needs
 returns-2 : tie.Need-returns-2
 returns-2 c =
     let a = c .before .before .before .before .before .before .before .before .before .args in
-    left-next (raiseTests (a .image .now)) (raisedOf (a .image .now)) (a .out .now) _ _ (sym (c .before .before .before .before .before .before .refusal .ensures) ∙ c .before .before .before .before .enum-told .given .1)
+    left-next (raiseTests (a .image .now)) (raisedOf (a .image .now)) (a .out .now) _ _ (sym (c .before .before .before .before .before .before
+    .refusal .ensures) ∙ c .before .before .before .before .enum-told .given .1)
     (c .before .before .put-raised .ensures)
 
 pub raise-spec : {M : Type 1} → statement M

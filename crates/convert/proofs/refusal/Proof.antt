@@ -50,7 +50,8 @@ returns-3 : tie.Need-returns-3
 returns-3 c =
     let l = c .before .before .before .before .before .before .before .args .s .now in
     c .check .ensures
-    ∙ from-same l _ (past (c .before .before .before) .0) (past (c .before .before .before) .1) (c .before .before .before .before .before .before .before .pre) (sym (c .before .before .edition-of .ensures) ∙ c .before .if2 .left)
+    ∙ from-same l _ (past (c .before .before .before) .0) (past (c .before .before .before) .1) (c .before .before .before .before .before .before
+    .before .pre) (sym (c .before .before .edition-of .ensures) ∙ c .before .if2 .left)
 
 pub refusal-spec : {M : Type 1} → statement M
 refusal-spec =

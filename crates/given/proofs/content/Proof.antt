@@ -78,7 +78,8 @@ returns-7 : tie.Need-returns-7
 unfolding bare
 returns-7 c = rw (passed-6 (c .before .before)) (rw (← c .before .is-bare .ensures) (rw (c .if7 .taken)))
 
-passed-7 : (c : tie.Else7) → Left 7 (c .before .before .before .before .before .before .before .before .before .before .before .before .before .before .before .before .before)
+passed-7 : (c : tie.Else7) → Left 7 (c .before .before .before .before .before .before .before .before .before .before .before .before .before .before
+    .before .before .before)
 unfolding bare
 passed-7 c = passed-6 (c .before .before) ∙ (rw (← c .before .is-bare .ensures) (rw (c .if7 .left)))
 
@@ -88,17 +89,22 @@ is-homeless-requires c κs = search needs
 returns-8 : tie.Need-returns-8
 returns-8 c = rw (passed-7 (c .before .before)) (rw (← c .before .is-homeless .ensures) (rw (c .if8 .taken)))
 
-passed-8 : (c : tie.Else8) → Left 8 (c .before .before .before .before .before .before .before .before .before .before .before .before .before .before .before .before .before .before .before)
+passed-8 : (c : tie.Else8) → Left 8 (c .before .before .before .before .before .before .before .before .before .before .before .before .before .before
+    .before .before .before .before .before)
 passed-8 c = passed-7 (c .before .before) ∙ (rw (← c .before .is-homeless .ensures) (rw (c .if8 .left)))
 
 some-in-requires-5 : tie.Need-some-in-requires-5
-some-in-requires-5 c κs =
-    (c .before .before .before .before .before .before .before .before .before .before .before .before .before .before .before .before .before .before .before .pre, omega arith)
+some-in-requires-5 c κs = (
+  c .before .before .before .before .before .before .before .before .before .before .before .before .before .before .before .before .before .before
+      .before .pre,
+  omega arith,
+)
 
 returns-9 : tie.Need-returns-9
 returns-9 c = rw (passed-8 (c .before .before)) (rw (← c .before .some-in5 .ensures) (rw (c .if9 .taken)))
 
-passed-9 : (c : tie.Else9) → Left 9 (c .before .before .before .before .before .before .before .before .before .before .before .before .before .before .before .before .before .before .before .before .before)
+passed-9 : (c : tie.Else9) → Left 9 (c .before .before .before .before .before .before .before .before .before .before .before .before .before .before
+    .before .before .before .before .before .before .before)
 passed-9 c = passed-8 (c .before .before) ∙ (rw (← c .before .some-in5 .ensures) (rw (c .if9 .left)))
 
 is-unlimited-requires : tie.Need-is-unlimited-requires

@@ -29,7 +29,8 @@ find-from-requires c κs =
 returns : tie.Need-returns
 returns c =
     let a = c .before .before .before .before .before .before .args in
-    found-given (a .counts .now) (runs (a .figures .now) (a .codes .now) (a .rules .now)) (a .t) (a .q) _ _ _ (c .before .before .before .before .before .before .pre .1)
+    found-given (a .counts .now) (runs (a .figures .now) (a .codes .now) (a .rules .now)) (a .t) (a .q) _ _ _ (c .before .before .before .before
+    .before .before .pre .1)
     (c .before .before .before2 .ensures .0) (c .before .count-at .ensures) (c .find-from .ensures)
 
 pub find-in-spec : {M : Type 1} → statement M

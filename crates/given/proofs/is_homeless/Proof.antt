@@ -27,15 +27,18 @@ segment :
 segment c =
     let a = c .before .before .before .before .before .before .before .before .before .before .args in
     c .before .before .record-from .ensures
-    ∙ ap (λ (k : ℕ). recordFrom (runs (a .figures .now) (a .codes .now) (a .rules .now)) (k + c .before .before .before .before .loop .i)) (c .before .before .before .before .before .before .before2 .ensures .0)
-    ∙ sym (record-given (a .counts .now) (runs (a .figures .now) (a .codes .now) (a .rules .now)) segments (c .before .before .before .before .loop .i) (omega arith)
+    ∙ ap (λ (k : ℕ). recordFrom (runs (a .figures .now) (a .codes .now) (a .rules .now)) (k + c .before .before .before .before .loop .i)) (c .before
+    .before .before .before .before .before .before2 .ensures .0)
+    ∙ sym (record-given (a .counts .now) (runs (a .figures .now) (a .codes .now) (a .rules .now)) segments (c .before .before .before .before .loop
+    .i) (omega arith)
     (omega (arith, c .before .before .before .before .before .count-at .ensures, c .before .before .before .loop-test .taken)))
 
 -- what a turn asked of segment i
 asked :
     (c : tie.After-some-in Inv-loop μ-loop)
     → let a = c .before .before .before .before .before .before .before .before .before .before .args in
-    not (c .some-in .result) ≡ homelessGivenAt (a .counts .now) (runs (a .figures .now) (a .codes .now) (a .rules .now)) (c .before .before .before .before .loop .i)
+    not (c .some-in .result) ≡ homelessGivenAt (a .counts .now) (runs (a .figures .now) (a .codes .now) (a .rules .now)) (c .before .before .before
+    .before .loop .i)
 asked c = rw (c .some-in .ensures) (rw (c .before .span-of .ensures) (rw (segment c)))
 
 before-requires : tie.Need-before-requires Inv-loop μ-loop
@@ -72,7 +75,8 @@ some-in-requires c κs = (c .before .before .before .before .before .before .bef
 returns : tie.Need-returns Inv-loop μ-loop
 returns c =
     rw (← c .before .before .before .before .before .before .count-at .ensures)
-    (some-here _ _ _ (c .before .before .before .before .loop-test .taken) (c .before .before .before .before .before .loop .inv) (rw (← asked (c .before)) (c .if1 .taken)))
+    (some-here _ _ _ (c .before .before .before .before .loop-test .taken) (c .before .before .before .before .before .loop .inv) (rw (← asked (c
+    .before)) (c .if1 .taken)))
 
 add-i : tie.Need-add-i Inv-loop μ-loop
 add-i c = omega arith
@@ -82,7 +86,8 @@ loop-less c = omega arith
 
 loop-again : tie.Need-loop-again Inv-loop μ-loop
 loop-again c =
-    passed-step _ _ _ (c .before .before .before .before .loop-test .taken) (c .before .before .before .before .before .loop .inv) (rw (← asked (c .before)) (c .if1 .left))
+    passed-step _ _ _ (c .before .before .before .before .loop-test .taken) (c .before .before .before .before .before .loop .inv) (rw (← asked (c
+    .before)) (c .if1 .left))
 
 returns-2 : tie.Need-returns-2 Inv-loop μ-loop
 returns-2 c = rw (← c .before .before .count-at .ensures) (some-none _ _ _ (c .loop-test .left) (c .before .loop .inv))

@@ -48,7 +48,8 @@ content-requires : tie.Need-content-requires
 content-requires c κs =
     let a = c .before .before .before .before .before .before .before .before .before .before .before .args in
     runs-held (runs (a .figures .now) (a .codes .now) (a .rules .now)) _
-    (ap (runsWrong (runs (a .figures .now) (a .codes .now) (a .rules .now))) (sym (c .before .before .before .before .before .before .before .before2 .ensures .0))
+    (ap (runsWrong (runs (a .figures .now) (a .codes .now) (a .rules .now))) (sym (c .before .before .before .before .before .before .before .before2
+    .ensures .0))
     ∙ sym (c .before .runs-wrong .ensures) ∙ c .if4 .left)
 
 returns-5 : tie.Need-returns-5

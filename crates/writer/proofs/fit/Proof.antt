@@ -51,7 +51,8 @@ returns-2 : tie.Need-returns-2
 returns-2 c =
     let a = c .before .before .before .before .before .before .before .before .before .before .before .args in
     let image = imageOf (a .edition) (a .g) (a .counts .now) (runs (a .figures .now) (a .codes .now) (a .rules .now)) in
-    let n : c .before .before .before .before .before .tables-at .result + 32 * c .before .before .before .before .before .before .before2 .result + 28 ≡ length image =
+    let n : c .before .before .before .before .before .tables-at .result + 32 * c .before .before .before .before .before .before .before2 .result
+    + 28 ≡ length image =
     omega (
       arith,
       image-length (a .edition) (a .g) (a .counts .now) (runs (a .figures .now) (a .codes .now) (a .rules .now)),

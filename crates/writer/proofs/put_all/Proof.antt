@@ -32,13 +32,23 @@ put-requires : tie.Need-put-requires Inv-loop μ-loop
 put-requires c κs =
     let a = c .before .before .before .before .before .before .before .before .args in
     let i = c .before .before .before .before .loop .inv in
-    omega (arith, lay-room (a .out .now) (a .at) (a .widths .now) (a .values .now) _ (c .before .before .before .loop-test .taken) (c .before .before .before .before .before .before .before .before .pre .1) _ _ i, i .same)
+    omega (
+      arith,
+      lay-room (a .out .now) (a .at) (a .widths .now) (a .values .now) _ (c .before .before .before .loop-test .taken) (c .before .before
+          .before .before .before .before .before .before .pre .1) _ _ i,
+      i .same,
+    )
 
 add-place : tie.Need-add-place Inv-loop μ-loop
 add-place c =
     let a = c .before .before .before .before .before .before .before .before .before .before .before .args in
     let i = c .before .before .before .before .before .before .before .loop .inv in
-    omega (arith, lay-room (a .out .now) (a .at) (a .widths .now) (a .values .now) _ (c .before .before .before .before .before .before .loop-test .taken) (c .before .before .before .before .before .before .before .before .before .before .before .pre .1) _ _ i, i .same)
+    omega (
+      arith,
+      lay-room (a .out .now) (a .at) (a .widths .now) (a .values .now) _ (c .before .before .before .before .before .before .loop-test
+          .taken) (c .before .before .before .before .before .before .before .before .before .before .before .pre .1) _ _ i,
+      i .same,
+    )
 
 add-k : tie.Need-add-k Inv-loop μ-loop
 add-k c = search needs
@@ -49,7 +59,8 @@ loop-less c = omega (arith, c .before .before .before .before .before .before .l
 loop-again : tie.Need-loop-again Inv-loop μ-loop
 loop-again c =
     rw (c .before .before .put .ensures)
-    (lay-step _ _ _ _ _ (c .before .before .before .before .before .before .loop-test .taken) (c .before .before .before .before .before .before .before .before .before .before .before .pre .1) _ _ (c .before .before .before .before .before .before .before .loop .inv))
+    (lay-step _ _ _ _ _ (c .before .before .before .before .before .before .loop-test .taken) (c .before .before .before .before .before .before
+    .before .before .before .before .before .pre .1) _ _ (c .before .before .before .before .before .before .before .loop .inv))
 
 same-length : tie.Need-same-length Inv-loop μ-loop
 same-length c = c .before .loop .inv .same

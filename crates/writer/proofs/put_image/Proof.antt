@@ -13,7 +13,13 @@ put-block-requires : tie.Need-put-block-requires
 put-block-requires c κs = omega (arith, c .before .tables-at .ensures, c .before .before .before .before .before .before .pre .0)
 
 put-more-requires : tie.Need-put-more-requires
-put-more-requires c κs = omega (arith, c .before .before .before .before .before .tables-at .ensures, c .before .before .before .before .before .before .before .before .before .before .pre .0, c .before .before .before .put-block .kept .0)
+put-more-requires c κs = omega (
+  arith,
+  c .before .before .before .before .before .tables-at .ensures,
+  c .before .before .before .before .before
+      .before .before .before .before .before .pre .0,
+  c .before .before .before .put-block .kept .0,
+)
 
 put-records-requires : tie.Need-put-records-requires
 put-records-requires c κs = search needs
@@ -32,13 +38,16 @@ same-length c = search needs
 
 returns : tie.Need-returns
 returns c =
-    let a = c .before .before .before .before .before .before .before .before .before .before .before .before .before .before .before .before .before .before .before .before .before .args in
+    let a = c .before .before .before .before .before .before .before .before .before .before .before .before .before .before .before .before .before
+    .before .before .before .before .args in
     rw (c .before .before .put-trailer .ensures)
     (rw (c .before .before .before .before .before .before .put-records .ensures)
     (rw (c .before .before .before .before .before .before .before .before .before .before .put-more .ensures)
     (rw (c .before .before .before .before .before .before .before .before .before .before .before .before .before .before .put-block .ensures)
-    (rw (c .before .before .before .before .before .before .before .before .before .before .before .before .before .before .before .before .tables-at .ensures .0)
-    (rw (c .before .before .before .before .before .before .before .before .before .before .before .before .before .before .before .before .before .before .before .before .before .pre .2)
+    (rw (c .before .before .before .before .before .before .before .before .before .before .before .before .before .before .before .before .tables-at
+    .ensures .0)
+    (rw (c .before .before .before .before .before .before .before .before .before .before .before .before .before .before .before .before .before
+    .before .before .before .before .pre .2)
     (parts-set (a .edition) (a .g) (a .counts .now) (runs (a .figures .now) (a .codes .now) (a .rules .now)) (a .out .now)))))))
 
 pub put-image-spec : {M : Type 1} → statement M

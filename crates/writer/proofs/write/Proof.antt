@@ -45,7 +45,8 @@ returns-2 c =
     let a = c .before .before .before .before .before .before .before .before .before .before .before .before .args in
     let r = runs (a .figures .now) (a .codes .now) (a .rules .now) in
     left-next (givenTests (a .f .edition) (generalFrom (a .f)) (a .counts .now) r) (imageFrom (a .f) (a .counts .now) r) (a .out .now) _ _
-    (ap (λ (g : General). refusalOf (givenTests (a .f .edition) g (a .counts .now) r)) (sym (c .before .before .before .before .before .before .before .general-from .ensures))
+    (ap (λ (g : General). refusalOf (givenTests (a .f .edition) g (a .counts .now) r)) (sym (c .before .before .before .before .before .before .before
+    .general-from .ensures))
     ∙ sym (c .before .before .before .before .before .before .refusal .ensures) ∙ c .before .before .before .before .enum-told .given .1)
     (rw (c .before .before .before .before .before .before .before .general-from .ensures) at (c .before .before .fit .ensures))
 
