@@ -66,6 +66,7 @@ fn with(itu_region: u8, margin: Margins) -> StationRecord {
 
 // The same under Rules, with codes for control, licence and sideband.
 fn set_up(s: StationRecord, control: u8, license: u8, sideband: u8) -> StationRecord {
+    let margin = s.margin;
     StationRecord {
         policy: 2,
         control,
@@ -75,7 +76,7 @@ fn set_up(s: StationRecord, control: u8, license: u8, sideband: u8) -> StationRe
         band_plan: s.band_plan,
         dial_known: s.dial_known,
         power_known: s.power_known,
-        margin: s.margin,
+        margin,
         dial_hz: s.dial_hz,
         power_w: s.power_w,
     }
