@@ -17,9 +17,12 @@ use Rattle.part97.specs.declared.Case.{Case}
 use Rattle.part97.specs.declared.Finding.{Finding}
 use Rattle.barred.specs.declared.Brief.{Brief}
 
+abbrev pub settledOf : Bool → Code → Brief
+settledOf blocked code = record { blocked = blocked; code = code }
+
 -- a decision in brief
 abbrev pub briefOf : Decision → Brief
-briefOf d = record { blocked = isBlocked (d .verdict); code = d .code }
+briefOf d = settledOf (isBlocked (d .verdict)) (d .code)
 
 -- where power limits and the plan are asked, the transmission is lawful
 abbrev pub blockedOver : Verdict → MaybeRange → Bool
@@ -28,11 +31,11 @@ blockedOver verdict NoRange = isBlocked verdict
 
 -- a finding in brief
 abbrev pub briefOver : Finding → Brief
-briefOver f = record { blocked = blockedOver (f .verdict) (f .over); code = f .code }
+briefOver f = settledOf (blockedOver (f .verdict) (f .over)) (f .code)
 
 -- a decision that is known to block
 pub simply-blocked : (signal : Draft) (code : Code) (rule : ℕ) (d : Decision) → simpleOf signal Blocked code rule ≡ d
-    → record { blocked = true; code = code } ≡ briefOf d
+    → settledOf true code ≡ briefOf d
 unfolding simpleOf finishOf
 simply-blocked signal code rule d e = ap briefOf e
 
@@ -41,9 +44,9 @@ warned-free true = refl
 warned-free false = refl
 
 module _ (table : Table) (c : Case) (f : Finding) where
-  over : (o : MaybeRange) → briefOf (concludedOver table c f o) ≡ record { blocked = blockedOver (f .verdict) o; code = f .code }
+  over : (o : MaybeRange) → briefOf (concludedOver table c f o) ≡ settledOf (blockedOver (f .verdict) o) (f .code)
   unfolding concludedOver advised finishOf
-  over (Is r) = ap (λ (b : Bool). record { blocked = b; code = f .code }) (warned-free (adviceWarns table c r))
+  over (Is r) = ap (λ (b : Bool). settledOf b (f .code)) (warned-free (adviceWarns table c r))
   over NoRange = refl
 
   pub finding-brief : (d : Decision) → concluded table c f ≡ d → briefOver f ≡ briefOf d

@@ -19,7 +19,7 @@ ghost use Rattle.layout.specs.Layout.{generalOf};
 ghost use Rattle.table.specs.Table.{tableOf};
 ghost use Rattle.decision.specs.Decision.{isBlocked};
 ghost use Rattle.verdict.specs.Verdict.{underRulesOf, decideOf};
-ghost use Rattle.barred.specs.Barred.{blockedOver, briefOver, briefOf};
+ghost use Rattle.barred.specs.Barred.{settledOf, blockedOver, briefOver, briefOf};
 
 // What is asked of a decision that is not made.
 pub struct Brief {
@@ -49,6 +49,13 @@ fn blocks(f: Finding) -> bool
     }
 }
 
+// One that needs no judging.
+fn settled(blocked: bool, code: Code) -> Brief
+    ensures { λ x. ⌜ x ≡ settledOf blocked code ⌝ }
+{
+    Brief { blocked, code }
+}
+
 // A finding in brief.
 fn brief_of(f: Finding) -> Brief
     ensures { λ x. ⌜ x ≡ briefOver f ⌝ }
@@ -75,10 +82,7 @@ fn brief_by_rules(
 {
     match verdict::prepare(g, s, dial, kind, direction, audio) {
         Ready::Met(c) => brief_of(judge::judge_case(image, g, c)),
-        Ready::Missing(code, _) => Brief {
-            blocked: true,
-            code,
-        },
+        Ready::Missing(code, _) => settled(true, code),
     }
 }
 
@@ -96,23 +100,14 @@ pub fn in_brief(
     ensures { λ x. ⌜ x ≡ briefOf (decideOf (tableOf (now (image .entry))) s policy dial kind direction e) ⌝ }
 {
     match policy {
-        Policy::Unset => Brief {
-            blocked: true,
-            code: Code::NoProfile,
-        },
-        Policy::NoProfile => Brief {
-            blocked: false,
-            code: Code::NoRules,
-        },
+        Policy::Unset => settled(true, Code::NoProfile),
+        Policy::NoProfile => settled(false, Code::NoRules),
         Policy::Rules => {
             let g = layout::general_of(image);
             let audio = e.range(table::reading_of(g));
             brief_by_rules(image, g, s, dial, kind, direction, audio)
         }
-        Policy::Broken => Brief {
-            blocked: true,
-            code: Code::ProfileBroken,
-        },
+        Policy::Broken => settled(true, Code::ProfileBroken),
     }
 }
 

@@ -66,9 +66,9 @@ countsOf code n = listed 25 1 (λ c. many code c n)
 
 -- ---- the call
 
--- "the figure of its own isn't looked at": a record as if its dial were absent
-unfoldable pub undialled : StationRecord → StationRecord
-undialled r =
+-- a record with another dial: its presence byte and its figure
+unfoldable pub dialled : ℕ → Float → StationRecord → StationRecord
+dialled known hz r =
     record {
       policy = r .policy;
       control = r .control;
@@ -76,12 +76,16 @@ undialled r =
       sideband = r .sideband;
       «itu_region» = r .«itu_region»;
       «band_plan» = r .«band_plan»;
-      «dial_known» = 0;
+      «dial_known» = known;
       «power_known» = r .«power_known»;
       «margin_hz» = r .«margin_hz»;
-      «dial_hz» = r .«dial_hz»;
+      «dial_hz» = hz;
       «power_w» = r .«power_w»;
     }
+
+-- "the figure of its own isn't looked at": as if it were absent
+abbrev pub undialled : StationRecord → StationRecord
+undialled r = dialled 0 (r .«dial_hz») r
 
 -- "(33, after 15) a first above the last or more dials than that, and (34, next) a first or last above 2^40 in size"
 abbrev pub stretchTests : ℤ → ℤ → List Test

@@ -23,7 +23,7 @@ use Rattle.entry.specs.Entry.{edgesRead}
 use Rattle.verdict.specs.Verdict.{besideValid, edgeTests, evaluateTests}
 use Rattle.verdict.specs.Laws.{rules-whole}
 use Rattle.census.specs.declared.Census.{Census}
-use Rattle.census.specs.Census.{dialAt, dialsOf, codeAt, countsOf, undialled, stretchTests, censusTests, counted, unlessRefused, censusOf}
+use Rattle.census.specs.Census.{dialAt, dialsOf, codeAt, countsOf, dialled, undialled, stretchTests, censusTests, counted, unlessRefused, censusOf}
 
 -- the counts of a call
 abbrev pub countsIn : StationRecord → ℕ → ℕ → Edges → List ℕ → ℤ → ℕ → List ℕ
@@ -71,5 +71,5 @@ module _ (r : StationRecord) (kind direction : ℕ) (e : Edges) (l : List ℕ) (
   front-stretch = both .1
 
   pub front-whole : situationOf r .policy ≡ Rules → Whole l
-  unfolding situationOf undialled
+  unfolding situationOf dialled
   front-whole p = rules-whole (undialled r) (besideValid kind direction) l (edgeTests e) front-verdict p

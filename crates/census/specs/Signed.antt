@@ -32,7 +32,7 @@ pub record Below (x : ℤ) : Type 0 where
   pub within : natAbs (again (down x)) ≤ nought - 1
   pub place : (nought - 1) - natAbs (again (down x)) ≡ lift x
 
-one-up : (n : ℕ) → negsuc n +ℤ pos 1 ≡ negℤ (pos n)
+pub one-up : (n : ℕ) → negsuc n +ℤ pos 1 ≡ negℤ (pos n)
 one-up zero = refl
 one-up (suc n) = ap (λ (t : Bool). cond t (negsuc (suc (suc n) - 2)) (pos (1 - suc (suc n)))) (lt-ltb 1 (suc (suc n)) (omega arith)) ∙ ap negsuc (omega arith)
 

@@ -24,6 +24,9 @@ brief-of-requires c κs = search needs
 enum-known-code : tie.Need-enum-known-code
 enum-known-code c = search needs
 
+settled-requires : tie.Need-settled-requires
+settled-requires c κs = search needs
+
 returns : tie.Need-returns
 returns c =
     let a = c .before .before .before .before .before .before .before in
@@ -36,11 +39,12 @@ returns c =
 
 returns-2 : tie.Need-returns-2
 returns-2 c =
-    let a = c .before .before .before .before .before in
-    simply-blocked _ _ _ _
+    let a = c .before .before .before .before .before .before in
+    c .settled .ensures
+    ∙ simply-blocked _ _ _ _
     (under-missing (tableOf (a .args .image .now)) (a .args .s) (a .args .dial) (a .args .kind) (a .args .direction) (a .args .audio) _ _
     (ap (λ (g : General). readyOf g (a .args .s) (a .args .dial) (a .args .kind) (a .args .direction) (a .args .audio)) (sym (a .pre .1))
-    ∙ sym (c .before .before .before .prepare .ensures) ∙ c .before .code .given .1))
+    ∙ sym (c .before .before .before .before .prepare .ensures) ∙ c .before .before .code .given .1))
 
 pub brief-by-rules-spec : {M : Type 1} → statement M
 brief-by-rules-spec =
@@ -51,5 +55,6 @@ brief-by-rules-spec =
     judge-case-requires
     brief-of-requires
     enum-known-code
+    settled-requires
     returns
     returns-2)

@@ -9,8 +9,14 @@ use Rattle.barred.proofs.in_brief.Tie as tie
 enum-told : tie.Need-enum-told
 enum-told c = search needs
 
+settled-requires : tie.Need-settled-requires
+settled-requires c κs = search needs
+
 enum-told-2 : tie.Need-enum-told-2
 enum-told-2 c = search needs
+
+settled-requires-2 : tie.Need-settled-requires-2
+settled-requires-2 c κs = search needs
 
 enum-told-3 : tie.Need-enum-told-3
 enum-told-3 c = search needs
@@ -33,13 +39,16 @@ brief-by-rules-requires c κs = (
 enum-told-4 : tie.Need-enum-told-4
 enum-told-4 c = search needs
 
+settled-requires-3 : tie.Need-settled-requires-3
+settled-requires-3 c κs = search needs
+
 returns : tie.Need-returns
 unfolding decideOf unruledOf simpleOf finishOf
-returns c = rw (c .enum-told .given .1)
+returns c = rw (c .before .enum-told .given .1) (c .settled .ensures)
 
 returns-2 : tie.Need-returns-2
 unfolding decideOf unruledOf simpleOf finishOf
-returns-2 c = rw (c .enum-told2 .given .1)
+returns-2 c = rw (c .before .enum-told2 .given .1) (c .settled2 .ensures)
 
 returns-3 : tie.Need-returns-3
 unfolding decideOf
@@ -52,20 +61,23 @@ returns-3 c =
 
 returns-4 : tie.Need-returns-4
 unfolding decideOf unruledOf simpleOf finishOf
-returns-4 c = rw (c .enum-told4 .given .1)
+returns-4 c = rw (c .before .enum-told4 .given .1) (c .settled3 .ensures)
 
 pub in-brief-spec : {M : Type 1} → statement M
 in-brief-spec =
     tie.close
     (tie.spec
     enum-told
+    settled-requires
     enum-told-2
+    settled-requires-2
     enum-told-3
     general-of-requires
     reading-of-requires
     range-requires
     brief-by-rules-requires
     enum-told-4
+    settled-requires-3
     returns
     returns-2
     returns-3

@@ -1,11 +1,11 @@
 -- One byte of the record is another.
 use mathlib.Core.Path.{refl}
-use Rattle.census.specs.Census.{undialled}
+use Rattle.census.specs.Census.{dialled}
 use Rattle.census.proofs.without_dial.Statement.{statement}
 use Rattle.census.proofs.without_dial.Tie as tie
 
 returns : tie.Need-returns
-unfolding undialled
+unfolding dialled
 returns c = refl
 
 pub without-dial-spec : {M : Type 1} → statement M
