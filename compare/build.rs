@@ -8,8 +8,8 @@
 //! - Where a table is wrong is compared if the library has `pamuklid_fault_of` (cfg `fault`); else the
 //!   driver links without it and says "fault: not compared".
 //! - `PAMUKLID_STUB_SRC`, `PAMUKLID_STUB_OWN` (feature `stub` only): the Rust, and the folder of the
-//!   `expect.rs`, `adapter.rs`, `distance.rs`, `report.rs` and `sixty.rs`, that the stub answers from, where
-//!   they are to differ from the driver's.
+//!   `expect.rs`, `adapter.rs`, `distance.rs`, `report.rs`, `airtime.rs` and `sixty.rs`, that the stub
+//!   answers from, where they are to differ from the driver's.
 
 use std::env;
 use std::fs;
@@ -61,7 +61,7 @@ fn main() {
     if stub {
         place(&folder("PAMUKLID_STUB_SRC", rust), &out, "original");
         let own = folder("PAMUKLID_STUB_OWN", here.join("src"));
-        for name in ["expect", "adapter", "distance", "report", "sixty"] {
+        for name in ["expect", "adapter", "distance", "report", "airtime", "sixty"] {
             let file = out.join(format!("stub_{name}.rs"));
             copy(&own.join(format!("{name}.rs")), &file);
             include(&file, name, &out.join(format!("include_{name}.rs")));
