@@ -10,8 +10,8 @@
 //! - With the feature `unequal` the copy is no longer the Rust unchanged: it has an upper margin beside its
 //!   own, by the edits of `PARTED` and nothing else.
 //! - `PAMUKLID_STUB_SRC`, `PAMUKLID_STUB_OWN` (feature `stub` only): the Rust, and the folder of the
-//!   `expect.rs`, `adapter.rs`, `distance.rs`, `report.rs` and `sixty.rs`, that the stub answers from, where
-//!   they are to differ from the driver's.
+//!   `expect.rs`, `adapter.rs`, `distance.rs`, `report.rs`, `airtime.rs` and `sixty.rs`, that the stub
+//!   answers from, where they are to differ from the driver's.
 
 use std::env;
 use std::fs;
@@ -97,7 +97,7 @@ fn main() {
     if stub {
         place(&folder("PAMUKLID_STUB_SRC", rust), &out, "original");
         let own = folder("PAMUKLID_STUB_OWN", here.join("src"));
-        for name in ["expect", "adapter", "distance", "report", "sixty"] {
+        for name in ["expect", "adapter", "distance", "report", "airtime", "sixty"] {
             let file = out.join(format!("stub_{name}.rs"));
             copy(&own.join(format!("{name}.rs")), &file);
             include(&file, name, &out.join(format!("include_{name}.rs")));

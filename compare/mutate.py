@@ -4,6 +4,7 @@ builds the driver against that copy and sees whether a run notices a difference.
 
     python3 compare/mutate.py [--rust] [--stub] [--unequal] [--only TEXT] [--from N] [--work DIR] [--seed S]
                               [--verdicts N] [--ceilings N] [--dials N] [--texts N] [--reports N]
+                              [--airtimes N]
                               [--check] [-v] [--report FILE]
 
 Without --stub the library is linked (PAMUKLID_LIB_DIR); with --stub its place is taken by a second,
@@ -47,6 +48,7 @@ def main():
     args.add_argument("--dials", type=int, default=40000)
     args.add_argument("--texts", type=int, default=200000)
     args.add_argument("--reports", type=int, default=100000)
+    args.add_argument("--airtimes", type=int, default=20000)
     args.add_argument("--check", action="store_true")
     args.add_argument("--report")
     args.add_argument("-v", action="store_true", dest="verbose")
@@ -80,7 +82,7 @@ def plant_all(args, rust, work):
     place["stub.rs"] = os.path.join(driver, "src/stub.rs")
     text["stub.rs"] = open(os.path.join(HERE, "src/stub.rs"), encoding="utf-8").read()
     os.makedirs(os.path.join(work, "own"), exist_ok=True)
-    for name in ["expect.rs", "adapter.rs", "distance.rs", "report.rs", "sixty.rs"]:
+    for name in ["expect.rs", "adapter.rs", "distance.rs", "report.rs", "airtime.rs", "sixty.rs"]:
         place[name] = os.path.join(driver, "src", name)
         text[name] = open(os.path.join(HERE, "src", name), encoding="utf-8").read()
         put(os.path.join(work, "own", name), text[name])
@@ -113,7 +115,7 @@ def plant_all(args, rust, work):
     program = os.path.join(work, "target/mutant/pamuklid-compare")
     run = [program, "--brief", "--seed", str(args.seed), "--verdicts", str(args.verdicts),
            "--ceilings", str(args.ceilings), "--dials", str(args.dials), "--texts", str(args.texts),
-           "--reports", str(args.reports)]
+           "--reports", str(args.reports), "--airtimes", str(args.airtimes)]
 
     def attempt():
         """(built, exit status, first line that says what)"""

@@ -1165,3 +1165,25 @@ apart(E, "(lo - lower, hi + upper);\n    table", "(lo - lower, hi + lower);\n   
 apart(E, "(lo - lower, hi + upper);\n    let side", "(lo - lower, hi + lower);\n    let side")
 apart(E, "(hi + upper) - upper)", "(hi + upper) - lower)")
 apart("sixty.rs", "high: air.high + upper", "high: air.high + lower")
+
+# ------------------------------------------------------------------------- time on the air
+T = "airtime.rs"
+FAR = "if starts[i] - starts[j] > 599 {"
+at(T, FAR, FAR.replace("> 599", "> 600"))
+at(T, FAR, FAR.replace("> 599", "> 598"))
+at(T, "for j in (0..=i).rev() {", "for j in (0..i).rev() {")
+at(T, "for j in (0..=i).rev() {", "for j in (i.saturating_sub(1)..=i).rev() {")
+at(T, "if bands[j] == bands[i] {", "if true {")
+at(T, "if bands[j] == bands[i] {", "if bands[j] & 127 == bands[i] & 127 {")
+at(T, "out += u64::from(seconds[j]);", "out = u64::from((out as u32).wrapping_add(u32::from(seconds[j])) & 0x7fff_ffff);")
+FALLS = "if (1..n).any(|i| starts[i] < starts[i - 1]) {"
+at(T, FALLS, FALLS.replace("<", "<="))
+at(T, FALLS, FALLS.replace("1..n", "2..n"))
+at(T, FALLS, FALLS.replace("1..n", "1..n.max(2) - 1"))
+at(T, FALLS, FALLS.replace("1..n", "1..n.min(bands).max(1)"))
+UNEVEN = "if bands != n || seconds != n || output != n || n > MOST {"
+at(T, UNEVEN, UNEVEN.replace("bands != n || ", ""))
+at(T, UNEVEN, UNEVEN.replace("seconds != n || ", "seconds < n || "))
+at(T, UNEVEN, UNEVEN.replace("output != n || ", "output < n || "))
+at(T, UNEVEN, UNEVEN.replace("n > MOST", "n >= MOST"))
+at(T, UNEVEN, UNEVEN.replace("n > MOST", "n > MOST + 1"))

@@ -1,7 +1,7 @@
 //! Runs the Rust, unchanged, beside the proved library, and compares every part of every answer.
 //!
 //!     pamuklid-compare [--verdicts N] [--ceilings N] [--dials N] [--texts N] [--reports N]
-//!                      [--direction D] [--seed S] [--few] [--brief]
+//!                      [--airtimes N] [--direction D] [--seed S] [--few] [--brief]
 //!     pamuklid-compare --replay FILE [--seed S]
 //!
 //! Exit 0: no difference, and everything that can be reached was; 1: a difference, printed with all
@@ -11,6 +11,8 @@
 //! cases, what was not reached is counted and 3 doesn't happen; with --brief neither, and a difference
 //! is one line: for mutate.py.
 
+mod airtime;
+mod airtimes;
 mod cases;
 mod compare;
 mod damage;
@@ -99,6 +101,7 @@ pub struct Run {
     pub left: (u64, u64),
     pub texts: texts::Met,
     pub reports: reports::Met,
+    pub airtimes: airtimes::Met,
     directions: Directions,
     brief: bool,
 }
@@ -122,6 +125,7 @@ impl Run {
             left: (0, 0),
             texts: texts::Met::default(),
             reports: reports::Met::default(),
+            airtimes: airtimes::Met::default(),
             directions: Directions::new(only),
             brief,
         }
@@ -540,6 +544,7 @@ struct Wanted {
     dials: u64,
     texts: u64,
     reports: u64,
+    airtimes: u64,
 }
 
 fn run_all(run: &mut Run, wanted: &Wanted) {
@@ -558,6 +563,8 @@ fn run_all(run: &mut Run, wanted: &Wanted) {
     fixed::run(run);
     texts::fixed(run);
     texts::run(run, wanted.texts);
+    airtimes::fixed(run);
+    airtimes::run(run, wanted.airtimes);
     let none = run.image(&[]);
     // of one direction alone as many are drawn: the fixed cases have theirs
     let fixed = match run.directions.only {
@@ -667,7 +674,7 @@ fn every_bit(run: &mut Run) {
 fn usage() -> ! {
     eprintln!(
         "usage: pamuklid-compare [--verdicts N] [--ceilings N] [--dials N] [--texts N] \
-         [--reports N] [--direction D] [--seed S] [--few] [--brief]\n\
+         [--reports N] [--airtimes N] [--direction D] [--seed S] [--few] [--brief]\n\
          \x20      pamuklid-compare --replay FILE [--seed S]"
     );
     exit(2)
@@ -680,6 +687,7 @@ fn main() {
         dials: 100_000,
         texts: 10_000_000,
         reports: 1_000_000,
+        airtimes: 1_000_000,
     };
     let (mut seed, mut only, mut few, mut brief, mut replay) = (1, None, false, false, None);
     let mut args = std::env::args().skip(1);
@@ -691,6 +699,7 @@ fn main() {
             "--dials" => wanted.dials = number(),
             "--texts" => wanted.texts = number(),
             "--reports" => wanted.reports = number(),
+            "--airtimes" => wanted.airtimes = number(),
             "--direction" => match number() {
                 direction @ 0..=3 => only = Some(direction as u8),
                 _ => usage(),
@@ -754,6 +763,10 @@ fn main() {
         run.reports.overlaps,
         run.reports.gaps,
         run.reports.refused
+    );
+    println!(
+        "time on the air: {} logs compared, with {} records; {} calls refused",
+        run.airtimes.logs, run.airtimes.records, run.airtimes.refused
     );
     run.texts.count(&mut run.reach);
     let missing = run.reach.missing(only);

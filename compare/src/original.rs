@@ -5,4 +5,5 @@ include!(concat!(env!("OUT_DIR"), "/original.rs"));
 include!(concat!(env!("OUT_DIR"), "/include_adapter.rs"));
 include!(concat!(env!("OUT_DIR"), "/include_distance.rs"));
 include!(concat!(env!("OUT_DIR"), "/include_report.rs"));
+include!(concat!(env!("OUT_DIR"), "/include_airtime.rs"));
 include!(concat!(env!("OUT_DIR"), "/include_sixty.rs"));

@@ -5,10 +5,11 @@ use std::cell::RefCell;
 use std::rc::Rc;
 
 use crate::ffi::{
-    Ceiling, Decision, Dials, Distance, Edges, Fault, Report, Station, Text, Tidiness, VERSION,
+    Airtime, Ceiling, Decision, Dials, Distance, Edges, Fault, Report, Station, Text, Tidiness,
+    VERSION,
 };
 use crate::original::adapter::{self, Prepared};
-use crate::original::{distance, expect, report, sixty};
+use crate::original::{airtime, distance, expect, report, sixty};
 use crate::texts::Line;
 
 thread_local! {
@@ -190,4 +191,28 @@ extern "C" fn pamuklid_text_khz(hz: f64, text: *mut u8, room: usize) -> Text {
 #[unsafe(no_mangle)]
 extern "C" fn pamuklid_text_hertz(hz: f64, text: *mut u8, room: usize) -> Text {
     written(2, hz, text, room)
+}
+
+#[unsafe(no_mangle)]
+extern "C" fn pamuklid_airtime_of(
+    starts: *const u64,
+    start_count: usize,
+    bands: *const u8,
+    band_count: usize,
+    seconds: *const u16,
+    second_count: usize,
+    totals: *mut u64,
+    total_count: usize,
+) -> Airtime {
+    let starts = unsafe { slice(starts, start_count) };
+    let (bands, seconds) = unsafe { (slice(bands, band_count), slice(seconds, second_count)) };
+    let lent = unsafe { std::slice::from_raw_parts_mut(totals, total_count) };
+    let refusal = airtime::refusal(starts, bands.len(), seconds.len(), lent.len());
+    if refusal != 0 {
+        return Airtime { count: 0, refusal };
+    }
+    for (i, place) in lent.iter_mut().enumerate() {
+        *place = airtime::total(starts, bands, seconds, i);
+    }
+    Airtime { count: starts.len() as u32, refusal: 0 }
 }
