@@ -4,7 +4,8 @@
   stands beside them, and all together are practice.PRACTICE and the file practice.bin.
 - The tables of fields: each field of the general block and of a record of each table is given a
   value that the page allows, one that it doesn't, and something where the page wants zero; the
-  reference must meet 5 exactly where the page says so.
+  reference must meet 5 exactly where the page says so. Edition 2's own fields are given figures
+  that it accepts and some that meet 6.
 """
 
 import os
@@ -168,6 +169,26 @@ def check_general(page):
                      flags & bit == 0 or flags & 3 == 2)
 
 
+def check_edition_2(page):
+    heading, rows = rows_after(page, "## Edition 2")
+    if heading[:4] != ["at", "type", "field", "value"]:
+        wrong("the table of edition 2's fields has other columns")
+    end = 64
+    for at, kind, field, cell, _ in rows:
+        if int(at) != end or (kind, cell) != ("f64", "W"):
+            wrong("%s: %s %s stands at %d" % (field, kind, cell, end))
+        end = int(at) + SIZES[kind]
+        for value, want in ((9.15, 0), (0.0, 0), (-1.0, 0), (2.0 ** 40, 0), (-0.0, 6), (2.0 ** 41, 6),
+                            (float("inf"), 6), (float("nan"), 6)):
+            block = with_field(build.general(watts=(100.0, 9.15)), int(at), build.f64(value))
+            image = build.image(block, bands=[BAND], segments=[SEGMENT], edition=2)
+            met = reference.check_image(image)
+            if met != want:
+                wrong("%s of %r: the reference answers %d, not %d" % (field, value, met, want))
+    if end != 80:
+        wrong("the general block of edition 2 ends at %d" % end)
+
+
 def check_records(page):
     heading, rows = rows_after(page, "## Records")
     if heading != ["", "table"] + list(FIELDS) or [row[0] for row in rows] != list("012345678"):
@@ -197,6 +218,7 @@ if __name__ == "__main__":
         text = file.read()
     check_example(text)
     check_general(text)
+    check_edition_2(text)
     check_records(text)
     check_refusals(text)
     for w in wrongs:
