@@ -11,6 +11,7 @@ of it is read, "DECISION" a decision on an open point (docs/DECISIONS.md).
     write_image(...)      (refusal, None), or (0, the image of these fields and records)
     raise_image(image)    (refusal, None), or (0, its edition 2 form)
     lower_image(image)    (refusal, None), or (0, its edition 1 form)
+    amend_image(...)      (refusal, None), or (0, the effective image of a day)
 """
 
 import math
@@ -579,6 +580,59 @@ def lower_image(image, room):
         return refusal, None
     start = trailer(image)["start"]
     return 0, image[:64] + image[80:start + 18] + struct.pack("<IH", start - 16, 1) + b"EDGE"
+
+
+# ---------------------------------------------------------------------------------------------
+# Amendments with a day (document 02, 8)
+
+AMENDMENT_BYTES = 40
+
+
+def amendments_of(listing):
+    """"In the lent list it is 40 bytes: u16 table (0 to 8 in the image's order), u16 index, u32 day,
+    the 32-byte record." Only asked of a list in forties."""
+    return [{"table": u16_at(listing, at), "index": u16_at(listing, at + 2),
+             "day": u32_at(listing, at + 4), "record": bytes(listing[at + 8:at + 40])}
+            for at in range(0, len(listing), AMENDMENT_BYTES)]
+
+
+def superseding(amendments, table, index, day):
+    """"For a given day, a record is superseded by the latest-day amendment not after that day; on
+    equal days the later in the list counts." The amendment, or None."""
+    best = None
+    for amendment in amendments:
+        if (amendment["table"], amendment["index"]) == (table, index) and amendment["day"] <= day:
+            if best is None or amendment["day"] >= best["day"]:
+                best = amendment
+    return best
+
+
+def amend_image(image, listing, day, room):
+    """"It refuses (27, after the base image's checks) a list not in forties, or a table number above 8
+    or an index beyond its table, anywhere in the list, and (28, next, before the effective image's
+    checks) an output buffer shorter than the image"; the effective image "must pass every image check
+    too, and where it fails, that check's number is given".
+
+    DECISION: an empty base image meets 1."""
+    refusal = check_image(image)
+    if refusal != 0:
+        return refusal, None
+    if len(listing) % AMENDMENT_BYTES != 0:
+        return 27, None
+    amendments = amendments_of(listing)
+    counts = trailer(image)["counts"]
+    if any(a["table"] > 8 or a["index"] >= counts[a["table"]] for a in amendments):
+        return 27, None
+    if room < len(image):
+        return 28, None
+    effective = general_block(image)
+    for table, records in enumerate(table_records(image)):
+        for index, record in enumerate(records):
+            amendment = superseding(amendments, table, index, day)
+            effective += record if amendment is None else amendment["record"]
+    effective += bytes(image[trailer(image)["start"]:])
+    refusal = check_image(effective)
+    return (refusal, None) if refusal != 0 else (0, effective)
 
 
 # ---------------------------------------------------------------------------------------------

@@ -38,7 +38,8 @@ use Rattle.writer.specs.declared.ImageAnswer.the-variants.{Length}
 use Rattle.writer.specs.Image.{littles, recordBytes, blockBytes, wattsBytes, moreBytes, countBytes, endBytes, recordsBytes, tablesAt, trailerAt, imageOf}
 use Rattle.writer.specs.Write.{roomTest, imageAnswer, imageBytes, imageFrom, writeTests, Written}
 use Rattle.writer.specs.Laws.{each-length, record-length, block-length, more-length, records-length, counts-length, image-length}
-use Rattle.editions.specs.Alike.{alike-drop, u16-alike, u64-alike, record-alike, byte-little, u16-little, u32-little}
+use Rattle.alike.specs.Alike.{alike-drop, u16-alike, u64-alike, record-alike}
+use Rattle.editions.specs.Alike.{byte-little, u16-little, u32-little}
 use Rattle.editions.specs.Pair.{Ends, ends-of, past-seam}
 
 -- ---- numbers of their types

@@ -1,17 +1,15 @@
 // A program of the gate: it writes, raises and lowers the images that its input describes, and writes what each call answers and every byte
 // that was lent, or two sums of them where they are many. Input and output come from tools/reference/editions.py, which says what the bytes
-// mean. It stops at input that is malformed. It uses figures, layout, given, writer and convert.
+// mean. It stops at input that is malformed. It uses figures, layout, given, writer,
+// convert and told.
 use given::Fields;
-use writer::ImageAnswer;
 ghost use Prim.Native.Nat.{_+_, _≤_};
 ghost use lib.ListN.{length};
 
-// The most bytes lent, and what they hold before; the most of which each is written.
+// The most bytes lent, and what they hold before.
 const ROOM: usize = 65600;
 
 const FILL: u8 = 0xa5;
-
-const SHOWN: usize = 512;
 
 // The most figures and rules that are given.
 const FIGURES: usize = 6144;
@@ -25,59 +23,6 @@ const HEAD: usize = 100;
 enum Next {
     At(usize),
     Malformed,
-}
-
-fn number(name: &[u8], n: u64) {
-    io::write_all(1, name);
-    io::print_decimal(1, n);
-}
-
-fn wide(b: u8) -> u64
-    ensures { λ r. ⌜ r ≤ 255 ⌝ }
-{
-    b as u64
-}
-
-// Each byte.
-fn shown(b: &[u8]) {
-    io::write_all(1, b" ");
-    let mut i: usize = 0;
-    while i < b.len() {
-        io::print_hex(1, wide(b[i]), 2);
-        i += 1;
-    }
-}
-
-// Two sums of bytes: of themselves, and of the first sum at each.
-fn summed(b: &[u8]) {
-    let mut one: u64 = 1;
-    let mut two: u64 = 0;
-    let mut i: usize = 0;
-    while i < b.len() {
-        one = (one + wide(b[i])) % 65521;
-        two = (two + one) % 65521;
-        i += 1;
-    }
-    number(b" sums ", one);
-    number(b" ", two);
-}
-
-// An answer, and the lent bytes after it.
-fn told(a: ImageAnswer, lent: &[u8]) {
-    match a {
-        ImageAnswer::Length(n) => {
-            number(b" length ", n as u64);
-        }
-        ImageAnswer::Refused(n) => {
-            number(b" refusal ", n as u64);
-        }
-    }
-    if SHOWN < lent.len() {
-        summed(lent);
-    } else {
-        shown(lent);
-    }
-    io::write_all(1, b"\n");
 }
 
 fn put_counts(counts: &mut [u16], s: &[u8]) {
@@ -160,7 +105,7 @@ fn given_in(
         rules,
         lent,
     );
-    told(a, lent);
+    told::told(a, lent);
 }
 
 // A writer's case; false where it is malformed.
@@ -203,12 +148,12 @@ fn asked(call: u8, body: &[u8], lent: &mut [u8]) -> bool {
         0 => written(body, lent),
         1 => {
             let a = convert::raise(body, lent);
-            told(a, lent);
+            told::told(a, lent);
             true
         }
         _ => {
             let a = convert::lower(body, lent);
-            told(a, lent);
+            told::told(a, lent);
             true
         }
     }

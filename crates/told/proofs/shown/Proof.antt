@@ -1,10 +1,10 @@
--- `run_editions::shown` is safe and ends. The measure is the number of bytes that are left.
+-- `told::shown` is safe and ends. The measure is the number of bytes that are left.
 use Prim.Native.Nat.{_-_, _≤_}
 use native.Mathlib.Omega.{arith}
 use lib.ListN.{length}
 use borrow.Author.Needs.{needs}
-use Rattle.run_editions.proofs.shown.Statement.{statement}
-use Rattle.run_editions.proofs.shown.Tie as tie
+use Rattle.told.proofs.shown.Statement.{statement}
+use Rattle.told.proofs.shown.Tie as tie
 
 abbrev Inv-loop : tie.InvT-loop
 Inv-loop b i₀ i = i ≤ length b

@@ -1,10 +1,10 @@
--- `run_editions::summed` is safe and ends: both sums stay below 65,521. The measure is the number of bytes that are left.
+-- `told::summed` is safe and ends: both sums stay below 65,521. The measure is the number of bytes that are left.
 use Prim.Native.Nat.{_-_, _≤_, _<_}
 use native.Mathlib.Omega.{arith}
 use lib.ListN.{length}
 use borrow.Author.Needs.{needs}
-use Rattle.run_editions.proofs.summed.Statement.{statement}
-use Rattle.run_editions.proofs.summed.Tie as tie
+use Rattle.told.proofs.summed.Statement.{statement}
+use Rattle.told.proofs.summed.Tie as tie
 
 abbrev Inv-loop : tie.InvT-loop
 Inv-loop b one₀ two₀ i₀ t5 t6 one two i = (i ≤ length b) × (one < 65521) × (two < 65521)
