@@ -6,6 +6,7 @@
 //!
 //! It prints ratios, library by Rust; with --show also the nanoseconds of each side.
 
+mod airtimes;
 mod ffi;
 mod reports;
 mod rust {
@@ -510,8 +511,10 @@ fn main() {
     long_lists(show, rounds);
     reports::timed(show, rounds, &hf, &largest);
     texts::timed(show, rounds);
+    airtimes::timed(show, rounds);
     stacks(&hf);
     stacks(&largest);
     reports::stacks();
     texts::stacks();
+    airtimes::stacks();
 }

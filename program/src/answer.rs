@@ -9,7 +9,7 @@ use serde::Serialize;
 #[derive(Clone, Copy, Debug, PartialEq, Eq)]
 pub enum Status {
     /// Yes: it may be sent, the table is accepted, its records do not overlap, dials are listed, the dial is listed; the
-    /// text asked for.
+    /// text or the totals asked for.
     Yes = 0,
     /// No: it is blocked, the table is refused, its records overlap, none is listed.
     No = 1,

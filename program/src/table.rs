@@ -40,27 +40,9 @@ impl Table {
 
     /// The table of a file; `-` is standard input.
     pub fn file(name: &OsStr) -> Result<Self, Failure> {
-        if name == "-" {
-            let image = image_of(io::stdin().lock()).map_err(|why| {
-                Failure::read(
-                    format!("the table cannot be read from standard input: {}", reason(&why)),
-                    "give the table's image to standard input, or name its file",
-                )
-            })?;
-            return Ok(Self { source: Source::Input, image });
-        }
-        let failed = |why: io::Error| {
-            let what_to_do = match why.kind() {
-                io::ErrorKind::NotFound => "see that the file's name is right",
-                io::ErrorKind::PermissionDenied => "see that you may read the file",
-                _ if is_folder(&why) => "name the table's file in it",
-                _ => "see that the file can be read",
-            };
-            let name = shown(name);
-            Failure::read(format!("the table cannot be read: {name}: {}", reason(&why)), what_to_do)
-        };
-        let image = File::open(name).and_then(image_of).map_err(failed)?;
-        Ok(Self { source: Source::File(name.to_owned()), image })
+        let image = read(name, "table", "the table's image", IMAGE_MOST + 1)?;
+        let source = if name == "-" { Source::Input } else { Source::File(name.to_owned()) };
+        Ok(Self { source, image })
     }
 
     /// Its name for people.
@@ -84,11 +66,33 @@ impl Table {
     }
 }
 
-/// At most one byte more than an image may have.
-fn image_of(from: impl Read) -> io::Result<Vec<u8>> {
-    let mut image = Vec::new();
-    from.take(IMAGE_MOST as u64 + 1).read_to_end(&mut image)?;
-    Ok(image)
+/// The bytes of a file, at most so many; `-` is standard input. `what` and `whole` name it for people.
+pub fn read(name: &OsStr, what: &str, whole: &str, most: usize) -> Result<Vec<u8>, Failure> {
+    if name == "-" {
+        return bytes_of(io::stdin().lock(), most).map_err(|why| {
+            Failure::read(
+                format!("the {what} cannot be read from standard input: {}", reason(&why)),
+                format!("give {whole} to standard input, or name its file"),
+            )
+        });
+    }
+    let failed = |why: io::Error| {
+        let what_to_do = match why.kind() {
+            io::ErrorKind::NotFound => "see that the file's name is right".to_owned(),
+            io::ErrorKind::PermissionDenied => "see that you may read the file".to_owned(),
+            _ if is_folder(&why) => format!("name the {what}'s file in it"),
+            _ => "see that the file can be read".to_owned(),
+        };
+        let name = shown(name);
+        Failure::read(format!("the {what} cannot be read: {name}: {}", reason(&why)), what_to_do)
+    };
+    File::open(name).and_then(|file| bytes_of(file, most)).map_err(failed)
+}
+
+fn bytes_of(from: impl Read, most: usize) -> io::Result<Vec<u8>> {
+    let mut bytes = Vec::new();
+    from.take(most as u64).read_to_end(&mut bytes)?;
+    Ok(bytes)
 }
 
 fn is_folder(why: &io::Error) -> bool {

@@ -1,6 +1,7 @@
 //! The commands, a module each: its arguments, and `answer`. A new one is a module, a case of `Command` and a line in
 //! `Command::answer`.
 
+mod airtime;
 mod check;
 mod completions;
 mod dials;
@@ -22,6 +23,7 @@ pub enum Command {
     Dials(dials::Args),
     Distance(distance::Args),
     Text(text::Args),
+    Airtime(airtime::Args),
     Completions(completions::Args),
     Man(man::Args),
 }
@@ -35,6 +37,7 @@ impl Command {
             Self::Dials(args) => dials::answer(args, style),
             Self::Distance(args) => distance::answer(args, style),
             Self::Text(args) => text::answer(args, style),
+            Self::Airtime(args) => airtime::answer(args, style),
             Self::Completions(args) => completions::answer(args),
             Self::Man(args) => man::answer(args),
         }
