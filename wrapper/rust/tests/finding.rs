@@ -113,7 +113,7 @@ fn another_version() {
     let program = "
 #[no_mangle]
 extern \"C\" fn pamuklid_version() -> u32 {
-    701
+    801
 }
 
 #[no_mangle]
@@ -130,7 +130,7 @@ fn main() {
     let root = scene_with("another_version", "\"no-link\"", program);
     let output = cargo("run", &root, &root, "");
     assert!(!output.status.success());
-    assert_eq!(String::from_utf8_lossy(&output.stdout), "0.7.1\n", "{}", said(&output));
+    assert_eq!(String::from_utf8_lossy(&output.stdout), "0.8.1\n", "{}", said(&output));
     let why = "written for libpamuklid.a 0.8.0, and 0.8.1 is linked: build the library again";
     assert!(said(&output).contains(why), "{}", said(&output));
 }
