@@ -77,7 +77,9 @@ fn totals(name: &str, log: &Log, rounds: usize) -> (f64, f64) {
 }
 
 pub fn timed(show: bool, rounds: usize) {
-    println!("\ntime on the air, by a plain loop's time; then {MOST} records by {FEW}, library and loop");
+    println!(
+        "\ntime on the air, by a plain loop's time; then {MOST} records by {FEW}, library and loop"
+    );
     for (name, start) in KINDS {
         let few = totals(name, &log(FEW, start), rounds);
         let most = totals(name, &log(MOST, start), rounds);

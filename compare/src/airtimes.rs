@@ -167,7 +167,8 @@ impl Run {
                     reach.count("airtime apart, same band", apart as u16, same);
                 }
                 // those that count no more here, and did at the record before
-                let before = i.checked_sub(1).map_or(0, |k| log.starts[k].saturating_sub(log.starts[j]));
+                let before =
+                    i.checked_sub(1).map_or(0, |k| log.starts[k].saturating_sub(log.starts[j]));
                 left += u16::from(apart > 599 && before <= 599);
             }
             reach.count("airtime records that leave at once", left.min(3), 0);
@@ -224,7 +225,10 @@ pub fn fixed(run: &mut Run) {
     for (log, want) in stated() {
         let got = run.airtime(&log, 0xa5a5);
         if got != (0, want.to_vec()) {
-            fixed::wrong(&format!("totals of starts {:?}: {want:?}", log.starts), &format!("{got:?}"));
+            fixed::wrong(
+                &format!("totals of starts {:?}: {want:?}", log.starts),
+                &format!("{got:?}"),
+            );
         }
     }
     for (step, bands) in [(0, 1), (1, 256), (599, 1), (600, 2), (1, 1)] {
@@ -250,8 +254,7 @@ pub fn fixed(run: &mut Run) {
 }
 
 /// Seconds from a start to the next.
-const GAPS: [u64; 16] =
-    [0, 0, 0, 1, 2, 7, 60, 199, 200, 299, 300, 301, 598, 599, 600, 601];
+const GAPS: [u64; 16] = [0, 0, 0, 1, 2, 7, 60, 199, 200, 299, 300, 301, 598, 599, 600, 601];
 
 /// A log: how its records stand, and of what bands they are, is drawn for the whole of it.
 fn drawn(rng: &mut Rng) -> Log {

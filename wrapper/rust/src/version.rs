@@ -67,7 +67,7 @@ mod tests {
     #[test]
     #[should_panic(expected = "written for libpamuklid.a 0.9.0, and 0.9.1 is linked: build the")]
     fn a_later_patch() {
-        agree(Version::from_number(801));
+        agree(Version::from_number(901));
     }
 
     #[test]
