@@ -340,7 +340,7 @@ fn faults(run: &mut Run) {
     }
     // the form has no place
     let image = practice().encode();
-    for (at, byte, refusal) in [(377, b'F', 2), (374, 2, 3), (352, 3, 4)] {
+    for (at, byte, refusal) in [(377, b'F', 2), (374, 3, 3), (352, 3, 4)] {
         let mut image = image.clone();
         image[at] = byte;
         let f = run.fault(&image);
