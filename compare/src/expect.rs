@@ -320,6 +320,11 @@ pub fn margins(s: &Station) -> (f64, f64) {
     (read(s.margin_lower_hz), read(s.margin_upper_hz))
 }
 
+pub fn margins_differ(s: &Station) -> bool {
+    let (lower, upper) = margins(s);
+    lower != upper
+}
+
 /// For code 10 the band given is the first that the guarded range touches, if any.
 pub fn touching(table: &Table, (lo, hi): (f64, f64), (lower, upper): (f64, f64)) -> Option<usize> {
     let (glo, ghi) = (lo - lower, hi + upper);

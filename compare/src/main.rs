@@ -39,7 +39,7 @@ use std::process::exit;
 
 use cases::Ladder;
 use compare::{Call, Case, Found, Room, Told};
-use draw::Rng;
+use draw::{Rng, UNEQUAL};
 use ffi::{Decision, Edges, Figures, Parts, Station, StationParts};
 use oracle::adapter::{self, Prepared};
 use oracle::sixty::{self, Change, Climb};
@@ -99,6 +99,8 @@ pub struct Run {
     /// of them came before the cases made for it.
     pub changed: (u64, u64),
     pub left: (u64, u64),
+    /// Verdicts, ceilings and dial lists whose margins differ.
+    pub apart: [u64; 3],
     pub texts: texts::Met,
     pub reports: reports::Met,
     pub airtimes: airtimes::Met,
@@ -123,6 +125,7 @@ impl Run {
             refused: 0,
             changed: (0, 0),
             left: (0, 0),
+            apart: [0; 3],
             texts: texts::Met::default(),
             reports: reports::Met::default(),
             airtimes: airtimes::Met::default(),
@@ -208,6 +211,7 @@ impl Run {
         }
         if d.refusal == 0 {
             self.verdicts += 1;
+            self.apart[0] += u64::from(expect::margins_differ(s));
             self.reach.decision(&d, kind);
             self.reach.verdict_by_direction(&d, s, direction);
         } else {
@@ -264,6 +268,7 @@ impl Run {
         }
         if c.refusal == 0 {
             self.ceilings += 1;
+            self.apart[1] += u64::from(expect::margins_differ(s));
             let known = |x: bool| u16::from(x);
             self.reach.count(
                 "ceiling rung, limit",
@@ -304,6 +309,7 @@ impl Run {
         if found.refusal == 0 {
             let count = found.rows.len() / 36;
             self.dials += 1;
+            self.apart[2] += u64::from(expect::margins_differ(s));
             self.rows += count as u64;
             let size = match count {
                 0 => 0,
@@ -735,6 +741,12 @@ fn main() {
         by("dial list by direction"),
         by("list by direction, Respond's is another")
     );
+    if UNEQUAL {
+        let [verdicts, ceilings, lists] = run.apart;
+        println!(
+            "margins that differ: {verdicts} verdicts, {ceilings} ceilings, {lists} dial lists"
+        );
+    }
     println!(
         "changed by document 02, 4, and held to its words: {} of the verdicts, {} of the ceilings; {} and {} \
          of them not on tables made for it",
