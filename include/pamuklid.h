@@ -8,9 +8,10 @@
  *
  * An image, rungs and floor bytes are lent as a pointer and a count of elements. They are only read,
  * during the call, and no byte of them changes; so are the starts, bands and seconds of a log. Dial rows, the
- * rows of a report, texts and totals are lent to be written: see pamuklid_safe_dials, pamuklid_report_of,
- * pamuklid_text_at and pamuklid_airtime_of. With a count of 0 a pointer is not followed, but pass one that is
- * not null. What is lent to be written may not overlap what else is lent to the same call.
+ * rows of a report, texts, totals and the output of a converter are lent to be written: see
+ * pamuklid_safe_dials, pamuklid_report_of, pamuklid_text_at, pamuklid_airtime_of and pamuklid_raise. With a
+ * count of 0 a pointer is not followed, but pass one that is not null. What is lent to be written may not
+ * overlap what else is lent to the same call.
  *
  * Structs go by value. Their sizes and offsets are checked below when this header is compiled (C11 or
  * C++11 on); whether the library is of the header's version is asked once, as the program starts:
@@ -29,14 +30,16 @@
 extern "C" {
 #endif
 
-/* The version of this header, 0.9.0: major * 10000 + minor * 100 + patch. */
-#define PAMUKLID_VERSION 900
+/* The version of this header, 0.10.0: major * 10000 + minor * 100 + patch. */
+#define PAMUKLID_VERSION 1000
 
 /* Refusals, by number. A call that is refused has answered nothing: send nothing. */
 #define PAMUKLID_ACCEPTED 0                 /* none: the image is accepted, the call was answered */
-#define PAMUKLID_REFUSAL_IMAGE_LENGTH 1     /* an image under 92 or over 65,536 bytes */
+#define PAMUKLID_REFUSAL_IMAGE_LENGTH 1     /* an image under 92 or over 65,552 bytes */
 #define PAMUKLID_REFUSAL_LETTERS 2          /* an image that does not end with the letters EDGE */
-#define PAMUKLID_REFUSAL_EDITION 3          /* an image of another edition than 1 */
+#define PAMUKLID_REFUSAL_EDITION 3          /* an image of another edition than 1 and 2; by
+                                               pamuklid_raise of another than 1, by pamuklid_lower of
+                                               another than 2 */
 #define PAMUKLID_REFUSAL_COUNTS 4           /* a count over 256, or a length or distance that disagrees */
 #define PAMUKLID_REFUSAL_CODED_BYTE 5       /* a coded byte of the image outside its values, an unused one
                                                that is not zero, or a table of an absent part not empty */
@@ -59,16 +62,19 @@ extern "C" {
                                                in size (only where it is known); a figure to be written,
                                                not finite or above 2^43 in size */
 #define PAMUKLID_REFUSAL_NO_IMAGE 22        /* PAMUKLID_POLICY_RULES and an image of no bytes */
-#define PAMUKLID_REFUSAL_ROWS 23            /* a dial list longer than the whole rows lent */
+#define PAMUKLID_REFUSAL_ROWS 23            /* a dial list longer than the whole rows lent; an image
+                                               longer than the bytes lent for it */
 #define PAMUKLID_REFUSAL_TEXT 24            /* a text longer than the bytes lent */
 #define PAMUKLID_REFUSAL_REPORT 25          /* a report longer than the whole rows lent */
+#define PAMUKLID_REFUSAL_WATTS 26           /* an image that is to be lowered, with other watts than 100 and
+                                               9.15, which edition 1 cannot hold */
 #define PAMUKLID_REFUSAL_STARTS 31          /* a start of a log below the one before */
 #define PAMUKLID_REFUSAL_RUNS 32            /* starts, bands, seconds and totals not one for each record, or
                                                over 65,536 records */
-/* They are looked for in the order 20, 21, 22, 1 to 14, 15, 16, 23, 24, 25, 31, 32, each over the whole input
+/* They are looked for in the order 20, 21, 22, 1 to 14, 26, 15, 16, 23, 24, 25, 31, 32, each over the whole input
  * before the next; 22 and 1 to 14 with PAMUKLID_POLICY_RULES only, except by the calls that are about the
- * image alone (pamuklid_check, pamuklid_tidy, pamuklid_report_of, pamuklid_fault_of), which have 1 to 14
- * always. */
+ * image alone (pamuklid_check, pamuklid_tidy, pamuklid_report_of, pamuklid_fault_of, pamuklid_raise,
+ * pamuklid_lower), which have 1 to 14 always. */
 
 /* pamuklid_station: policy */
 #define PAMUKLID_POLICY_UNSET 0    /* none was chosen: everything is blocked */
@@ -325,6 +331,12 @@ typedef struct {
 #define PAMUKLID_REPORT_PRIVILEGES 3 /* two privileges of one class */
 #define PAMUKLID_REPORT_GAP 255      /* a stretch of a data segment that no privilege of the class covers */
 
+/* The answer of a call that writes an image. */
+typedef struct {
+    uint32_t length;         /* the bytes that were written, those of the image; 0 on a refusal */
+    uint8_t refusal;         /* PAMUKLID_ACCEPTED; else PAMUKLID_REFUSAL_... */
+} pamuklid_image;
+
 /* The bytes of the longest text, "-8796093022.208". */
 #define PAMUKLID_MOST_TEXT 15
 
@@ -345,11 +357,13 @@ typedef struct {
     uint8_t refusal;         /* PAMUKLID_ACCEPTED; PAMUKLID_REFUSAL_STARTS or PAMUKLID_REFUSAL_RUNS */
 } pamuklid_airtime;
 
-/* An image: its least and its most bytes, those of its general block, of each record and of its trailer, the
- * most records of a table, and the offsets of the two bytes that pamuklid_distance_of asks for. */
+/* An image: its least and its most bytes, of either edition; those of its general block, and how many more
+ * edition 2 has there, of each record and of its trailer; the most records of a table; and the offsets of the
+ * two bytes that pamuklid_distance_of asks for. */
 #define PAMUKLID_IMAGE_LEAST 92
-#define PAMUKLID_IMAGE_MOST 65536
+#define PAMUKLID_IMAGE_MOST 65552
 #define PAMUKLID_IMAGE_GENERAL 64
+#define PAMUKLID_IMAGE_WATTS 16
 #define PAMUKLID_IMAGE_RECORD 32
 #define PAMUKLID_IMAGE_TRAILER 28
 #define PAMUKLID_MOST_RECORDS 256
@@ -419,6 +433,18 @@ pamuklid_tidiness pamuklid_tidy(const uint8_t *image, size_t n);
  * Reads image[0] to image[n - 1]. Refusals 20 (license), 1 to 14, 25. */
 pamuklid_report pamuklid_report_of(const uint8_t *image, size_t n, uint8_t license, uint8_t *rows,
                                    size_t rows_len);
+
+/* Edition 2 of an image of edition 1, with 100 and 9.15 as its watts. Every call answers the same for it, and
+ * pamuklid_lower gives the same bytes back. out[0] to out[length - 1] are written, the image, 16 bytes longer
+ * than the first; bytes past it stay as lent. On a refusal no byte of out changes. out_len of
+ * PAMUKLID_IMAGE_MOST has room for every image. Reads image[0] to image[n - 1]. Refusals 1, 2, 3 (an image of
+ * edition 2 too), 4 to 14, 23. */
+pamuklid_image pamuklid_raise(const uint8_t *image, size_t n, uint8_t *out, size_t out_len);
+
+/* Edition 1 of an image of edition 2, 16 bytes shorter. It holds no watts, so those of the image must be 100
+ * and 9.15; others meet 26. Bytes as pamuklid_raise. Refusals 1, 2, 3 (an image of edition 1 too), 4 to 14,
+ * 26, 23. */
+pamuklid_image pamuklid_lower(const uint8_t *image, size_t n, uint8_t *out, size_t out_len);
 
 /* The calls that take or give a station have other symbols in the library since the station has two margins
  * (0.11.0), so that what was compiled with an older header, for a station of 32 bytes, does not link: it is
@@ -601,6 +627,10 @@ PAMUKLID_AT(pamuklid_distance, refusal, 9);
 PAMUKLID_SIZE(pamuklid_report, 8);
 PAMUKLID_AT(pamuklid_report, count, 0);
 PAMUKLID_AT(pamuklid_report, refusal, 4);
+
+PAMUKLID_SIZE(pamuklid_image, 8);
+PAMUKLID_AT(pamuklid_image, length, 0);
+PAMUKLID_AT(pamuklid_image, refusal, 4);
 
 PAMUKLID_SIZE(pamuklid_text, 8);
 PAMUKLID_AT(pamuklid_text, length, 0);

@@ -1,7 +1,7 @@
 //! The image's bytes, field by field (docs/IMAGE.md), to show where a refused table is wrong. The refusal and its place
 //! come from the library; which field it is, is looked for here, at that place.
 
-use pamuklid::raw::{IMAGE_GENERAL, IMAGE_LEAST, IMAGE_RECORD, IMAGE_TRAILER, MOST_RECORDS};
+use pamuklid::raw::{IMAGE_GENERAL, IMAGE_LEAST, IMAGE_RECORD, IMAGE_TRAILER, IMAGE_WATTS, MOST_RECORDS};
 use pamuklid::{Fault, Hertz, Place, Refusal, Table};
 
 /// What a field may hold.
@@ -39,7 +39,8 @@ const RECORD_FLAGS: usize = 27;
 /// The place of the band's number in a record.
 const RECORD_BAND: usize = 24;
 
-const GENERAL: [Form; 18] = [
+/// The fields of the general block, in edition 2; the last two are its own.
+const GENERAL: [Form; 20] = [
     form(42, 1, "flags", Holds::UpTo(31), None),
     form(0, 8, "data limit", Holds::Hz, None),
     form(8, 8, "elsewhere limit", Holds::Hz, Some(0)),
@@ -58,7 +59,28 @@ const GENERAL: [Form; 18] = [
     form(54, 2, "emissions' rule", Holds::Any, Some(3)),
     form(56, 2, "privileges' rule", Holds::Any, None),
     form(58, 6, "unused bytes", Holds::Zero, None),
+    form(64, 8, "channel watts", Holds::Watts, None),
+    form(72, 8, "segment watts", Holds::Watts, None),
 ];
+
+/// The fields of an image's general block.
+fn general_forms(image: &[u8]) -> &'static [Form] {
+    match edition_of(image) {
+        2 => &GENERAL,
+        _ => &GENERAL[..18],
+    }
+}
+
+/// The edition that an image says it has; 0 of one that is too short to say.
+pub fn edition_of(image: &[u8]) -> u16 {
+    image.len().checked_sub(IMAGE_TRAILER).map_or(0, |trailer| u16_at(image, trailer + 22))
+}
+
+/// The watts of an accepted image of edition 2, for a 60 m channel and for the 60 m segment, in words.
+pub fn watts(image: &[u8]) -> Option<[String; 2]> {
+    let of = |form: &Form| value_words(form, &image[form.at..form.at + form.size]);
+    (edition_of(image) == 2).then(|| [of(&GENERAL[18]), of(&GENERAL[19])])
+}
 
 /// The fields of a table's records.
 fn record_forms(table: Table) -> [Form; 9] {
@@ -309,7 +331,8 @@ fn disagreeing(image: &[u8], trailer: usize) -> Vec<Field> {
             out.push(trailer_field(image, at, 2, name, count.to_string(), "is over 256".to_owned()));
         }
     }
-    let length = IMAGE_GENERAL + IMAGE_RECORD * sum + IMAGE_TRAILER;
+    let general = IMAGE_GENERAL + if edition_of(image) == 2 { IMAGE_WATTS } else { 0 };
+    let length = general + IMAGE_RECORD * sum + IMAGE_TRAILER;
     if out.is_empty() && length != image.len() {
         let wrong = format!("make an image of {length} bytes, and this one has {}", image.len());
         let value = format!("{sum} records in all");
@@ -353,7 +376,7 @@ pub fn fields(image: &[u8], fault: &Fault) -> Vec<Field> {
         }
         (Refusal::Edition, _) => {
             let value = u16_at(image, end - 6).to_string();
-            vec![trailer_field(image, end - 6, 2, "edition", value, "must be 1".to_owned())]
+            vec![trailer_field(image, end - 6, 2, "edition", value, "must be 1 or 2".to_owned())]
         }
         (Refusal::Counts, _) => disagreeing(image, trailer),
         (Refusal::EmptyTable, _) => [Table::Bands, Table::Segments]
@@ -364,9 +387,9 @@ pub fn fields(image: &[u8], fault: &Fault) -> Vec<Field> {
                 trailer_field(image, at, 2, count_name(table), "0".to_owned(), "must be 1 at least".to_owned())
             })
             .collect(),
-        (Refusal::GeneralLimit, _) => fields_at(image, 0, &GENERAL, &[(0, "must be above 0")]),
-        (Refusal::CodedByte, Some(Place::General)) => miscoded(image, 0, &GENERAL, GENERAL_FLAGS, true),
-        (Refusal::ImageFigure, Some(Place::General)) => unsound(image, 0, &GENERAL),
+        (Refusal::GeneralLimit, _) => fields_at(image, 0, general_forms(image), &[(0, "must be above 0")]),
+        (Refusal::CodedByte, Some(Place::General)) => miscoded(image, 0, general_forms(image), GENERAL_FLAGS, true),
+        (Refusal::ImageFigure, Some(Place::General)) => unsound(image, 0, general_forms(image)),
         (refusal, Some(place @ Place::Record { table, .. })) => {
             let Some(start) = place.bytes(image).map(|bytes| bytes.start) else { return Vec::new() };
             let forms = record_forms(table);

@@ -154,6 +154,12 @@ fn run(args: &[OsString], hints: &Hints) -> Result<Status, Failure> {
             return not_taken(args, hints, style.is_on());
         }
     };
+    if cli.json && cli.command.takes_output() {
+        return Err(Failure::arguments(
+            "--json and -o - both ask for standard output",
+            "name the file to write with -o",
+        ));
+    }
     let Answer { status, text, json } = cli.command.answer(Style::for_output(cli.color))?;
     out(status, if cli.json { json } else { text })
 }

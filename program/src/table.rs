@@ -60,7 +60,7 @@ impl Table {
         match self.image.len() {
             0 => "no bytes".to_owned(),
             1 => "1 byte".to_owned(),
-            n if n > IMAGE_MOST => "more than 65,536 bytes".to_owned(),
+            n if n > IMAGE_MOST => "more than 65,552 bytes".to_owned(),
             n => format!("{} bytes", grouped(n)),
         }
     }

@@ -224,7 +224,7 @@ pub fn refusal(
     fault: Option<&(Fault, Vec<Field>)>,
     style: Style,
 ) -> String {
-    let mut out = format!("{}: refusal {}, {}.\n", style.bad(head), refusal.number(), refusal_reason(refusal));
+    let mut out = refusal_line(head, refusal, refusal_reason(refusal), style);
     if matches!(refusal, Refusal::ImageLength | Refusal::NoImage | Refusal::Letters | Refusal::Counts) {
         out.push_str(&format!("The image has {}.\n", table.length()));
     }
@@ -248,6 +248,15 @@ pub fn refusal(
         what_to_do(refusal, fault.is_some_and(|(_, fields)| !fields.is_empty()))
     ));
     out
+}
+
+fn refusal_line(head: &str, refusal: Refusal, reason: &str, style: Style) -> String {
+    format!("{}: refusal {}, {reason}.\n", style.bad(head), refusal.number())
+}
+
+/// A refusal in a command's own words: why, and what to do.
+pub fn refusal_said(head: &str, refusal: Refusal, said: (&str, &str), style: Style) -> String {
+    format!("{}What to do: {}.\n", refusal_line(head, refusal, said.0, style), said.1)
 }
 
 /// Why, by the program's own measure where it is that.

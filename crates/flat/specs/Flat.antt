@@ -3,7 +3,7 @@
 -- blocked, an absent rung is -1, and a distance from nothing is infinite.
 use Prim.Native.Nat.{ℕ}
 use mathlib.Core.Bool.{Bool, cond}
-use mathlib.Core.List.{List}
+use mathlib.Core.List.{List, _++_}
 use mathlib.Core.Path.{_≡_}
 use lib.ListN.{length}
 use lib.Ieee.{Float, binary64, ofBits}
@@ -25,6 +25,7 @@ use Rattle.fault.specs.declared.Fault.{Fault}
 use Rattle.fault.specs.declared.Fault.the-variants.{InGeneral, InRecord, Nowhere}
 use Rattle.fault.specs.declared.FaultAnswer.{FaultAnswer}
 use Rattle.codes.specs.Refusal.{refusalOf}
+use Rattle.codes.specs.declared.Checked.{Checked}
 use Rattle.decision.specs.Number.{verdictNumber, codeNumber, edgeNumber, overshootNumber, guidanceNumber}
 use Rattle.decision.specs.declared.Overshoot.{Overshoot}
 use Rattle.decision.specs.declared.Overshoot.the-variants.{Beyond, TooClose, NoOvershoot}
@@ -56,6 +57,10 @@ use Rattle.airtime.specs.Airtime.{airtimeTests, airtimeAnswer, airtimeLeft, tot
 use Rattle.airtime.specs.declared.Airtime.{Airtime}
 use Rattle.airtime.specs.declared.Airtime.the-variants.{Totals, Refused as NoTotals}
 use Rattle.flat.specs.declared.FlatAirtime.{FlatAirtime}
+use Rattle.writer.specs.Write.{roomTest, imageAnswer, imageBytes}
+use Rattle.writer.specs.declared.ImageAnswer.{ImageAnswer}
+use Rattle.writer.specs.declared.ImageAnswer.the-variants.{Length as ImageOf, Refused as NoImage}
+use Rattle.convert.specs.Convert.{raiseTests, lowerTests, raisedOf, loweredOf}
 use Rattle.flat.specs.declared.FlatDistance.{FlatDistance}
 use Rattle.flat.specs.declared.FlatStation.{FlatStation}
 use Rattle.flat.specs.declared.FlatEdges.{FlatEdges}
@@ -70,6 +75,7 @@ use Rattle.flat.specs.declared.FlatTidiness.{FlatTidiness}
 use Rattle.flat.specs.declared.FlatCeiling.{FlatCeiling}
 use Rattle.flat.specs.declared.FlatDials.{FlatDials}
 use Rattle.flat.specs.declared.FlatReport.{FlatReport}
+use Rattle.flat.specs.declared.FlatImage.{FlatImage}
 use Rattle.flat.specs.declared.FlatFault.{FlatFault}
 use Rattle.flat.specs.declared.FlatText.{FlatText}
 
@@ -252,6 +258,22 @@ pub record FlatReported (l : List ℕ) (class : ℕ) (lent left : List ℕ) (ans
   pub answered : answer ≡ reportFlat (reportAnswer (refusalOf (reportTests l class lent)) (reportRows (tableOf l) class))
   pub bytes : left ≡ reportBytes (refusalOf (reportTests l class lent)) (reportRows (tableOf l) class) lent
 
+-- an image that was written: its length, at most 65,552, or a refusal's number and length 0
+abbrev pub imageFlat : ImageAnswer → FlatImage
+imageFlat (ImageOf n) = record { length = n; refusal = 0 }
+imageFlat (NoImage n) = record { length = 0; refusal = n }
+
+-- what an export that writes an image promises: the flat form of the answer, and every byte lent
+pub record FlatLeft (c : Checked) (image lent left : List ℕ) (answer : FlatImage) : Type 0 where
+  pub answered : answer ≡ imageFlat (imageAnswer c image)
+  pub bytes : left ≡ imageBytes c image lent
+
+abbrev pub FlatRaised : List ℕ → List ℕ → List ℕ → FlatImage → Type 0
+FlatRaised l lent left answer = FlatLeft (refusalOf (raiseTests l ++ roomTest (raisedOf l) lent)) (raisedOf l) lent left answer
+
+abbrev pub FlatLowered : List ℕ → List ℕ → List ℕ → FlatImage → Type 0
+FlatLowered l lent left answer = FlatLeft (refusalOf (lowerTests l ++ roomTest (loweredOf l) lent)) (loweredOf l) lent left answer
+
 -- how far a dial stands from no row: infinitely, so never nought
 abbrev pub infinityHz : Float
 infinityHz = ofBits binary64 0x7ff0_0000_0000_0000
@@ -282,6 +304,6 @@ pub record FlatTotalled (starts bands seconds lent left : List ℕ) (answer : Fl
   pub answered : answer ≡ airtimeFlat (airtimeAnswer (refusalOf (airtimeTests starts bands seconds lent)) (length starts))
   pub elements : left ≡ airtimeLeft (refusalOf (airtimeTests starts bands seconds lent)) (totalsOf starts bands seconds) lent
 
--- the boundary's version, 0.9.0: 10,000 times the first number, 100 times the second, and the third
+-- the boundary's version, 0.10.0: 10,000 times the first number, 100 times the second, and the third
 abbrev pub versionNumber : ℕ
-versionNumber = 900
+versionNumber = 1000

@@ -1,5 +1,6 @@
 // The records of the boundary to C: flat structs of numbers, made from the answers and read into the station record and the edges. It
-// uses codes, profile, occupancy, air, station, fault, tidy, decision, numbers, ceiling, dials, report, distance, number_texts and airtime.
+// uses codes, profile, occupancy, air, station, fault, tidy, decision, numbers, ceiling, dials, report, distance, number_texts, airtime,
+// writer and convert.
 use air::Margins;
 use airtime::Airtime;
 use ceiling::CeilingAnswer;
@@ -23,6 +24,7 @@ use report::TableReport;
 use station::Figure;
 use station::StationRecord;
 use tidy::Tidiness;
+use writer::ImageAnswer;
 ghost use mathlib.Core.Path.{_≡_};
 ghost use mathlib.Core.Bool.{cond};
 ghost use Prim.Native.Nat.{_<_};
@@ -31,7 +33,7 @@ ghost use Rattle.flat.specs.Fits.{FaultFits, RungFits, Counted, ReportCo
 ghost use Rattle.flat.specs.Flat.{stationRecordOf, stationOf, edgesOf, rangeFlat, segmentFlat, overshootFlat};
 ghost use Rattle.flat.specs.Flat.{guidanceIndex, guidanceFlat, ruleFlat, bandFlat, widthFlat};
 ghost use Rattle.flat.specs.Flat.{faultFlat, tidinessFlat, flatOf, ceilingFlat, dialsFlat, reportFlat, infinityHz, distanceFlat, textFlat};
-ghost use Rattle.flat.specs.Flat.{airtimeFlat};
+ghost use Rattle.flat.specs.Flat.{airtimeFlat, imageFlat};
 
 // The station record: codes and presence bytes as document 01 numbers them, figures whatever they are.
 #[repr(C)]
@@ -131,6 +133,13 @@ pub struct FlatDials {
 #[repr(C)]
 pub struct FlatReport {
     pub count: u32,
+    pub refusal: u8,
+}
+
+// An image that was written: its length, or the refusal's number and length 0.
+#[repr(C)]
+pub struct FlatImage {
+    pub length: u32,
     pub refusal: u8,
 }
 
@@ -525,6 +534,22 @@ pub fn report_flat(a: TableReport) -> FlatReport
         },
         TableReport::Refused(n) => FlatReport {
             count: 0,
+            refusal: n,
+        },
+    }
+}
+
+// The answer of a call that writes an image, flat.
+pub fn image_flat(a: ImageAnswer) -> FlatImage
+    ensures { λ r. ⌜ r ≡ imageFlat a ⌝ }
+{
+    match a {
+        ImageAnswer::Length(n) => FlatImage {
+            length: n,
+            refusal: 0,
+        },
+        ImageAnswer::Refused(n) => FlatImage {
+            length: 0,
             refusal: n,
         },
     }

@@ -1,5 +1,5 @@
 // The boundary to C: the public calls, exported, with flat structs of numbers. It uses station, image, fault, tidy, numbers, verdict,
-// ceiling, dials, report, distance, number_texts, airtime and flat.
+// ceiling, dials, report, distance, number_texts, airtime, convert and flat.
 use flat::FlatAirtime;
 use flat::FlatCeiling;
 use flat::FlatDecision;
@@ -7,6 +7,7 @@ use flat::FlatDials;
 use flat::FlatDistance;
 use flat::FlatEdges;
 use flat::FlatFault;
+use flat::FlatImage;
 use flat::FlatReport;
 use flat::FlatStation;
 use flat::FlatText;
@@ -22,10 +23,11 @@ ghost use Rattle.distance.specs.Distance.{distanceOf};
 ghost use Rattle.number_texts.specs.Text.{atText, khzText, hertzText};
 ghost use Rattle.numbers.specs.Refusal.{refusalNumber};
 ghost use Rattle.flat.specs.Flat.{stationRecordOf, stationOf, edgesOf, faultFlat, tidinessFlat, flatOf};
-ghost use Rattle.flat.specs.Flat.{ceilingFlat, FlatDialed, FlatReported, distanceFlat, FlatTexted, FlatTotalled, versionNumber};
+ghost use Rattle.flat.specs.Flat.{ceilingFlat, FlatDialed, FlatReported, FlatRaised, FlatLowered, distanceFlat, FlatTexted, FlatTotalled};
+ghost use Rattle.flat.specs.Flat.{versionNumber};
 
-// The version of this boundary: 0.9.0.
-pub const VERSION: u32 = 900;
+// The version of this boundary: 0.10.0.
+pub const VERSION: u32 = 1000;
 
 // The version of this boundary, that of the header: 10,000 times the first number, 100 times the second, and the third.
 #[no_mangle]
@@ -65,6 +67,22 @@ pub extern "C" fn pamuklid_report_of(image: &[u8], license: u8, rows: &mut [u8])
     ensures { λ r. ⌜ FlatReported (now (image .entry)) license (now (rows .entry)) (now (rows .exit)) r ⌝ }
 {
     flat::report_flat(report::report_of(image, license, rows))
+}
+
+// Edition 2 of an image of edition 1, into the bytes lent.
+#[no_mangle]
+pub extern "C" fn pamuklid_raise(image: &[u8], out: &mut [u8]) -> FlatImage
+    ensures { λ r. ⌜ FlatRaised (now (image .entry)) (now (out .entry)) (now (out .exit)) r ⌝ }
+{
+    flat::image_flat(convert::raise(image, out))
+}
+
+// Edition 1 of an image of edition 2 whose watts are those of edition 1, into the bytes lent.
+#[no_mangle]
+pub extern "C" fn pamuklid_lower(image: &[u8], out: &mut [u8]) -> FlatImage
+    ensures { λ r. ⌜ FlatLowered (now (image .entry)) (now (out .entry)) (now (out .exit)) r ⌝ }
+{
+    flat::image_flat(convert::lower(image, out))
 }
 
 // The calls that take or give a station record. `_2` is the second layout of FlatStation, with two margins: a program that was compiled

@@ -7,7 +7,7 @@ use serde::Serialize;
 
 use crate::answer::{Answer, Failure, Status, Style};
 use crate::commands::judge::fault;
-use crate::image::count_of;
+use crate::image::{count_of, watts};
 use crate::json::{RefusalJson, TableJson};
 use crate::table::Table;
 use crate::words;
@@ -72,7 +72,13 @@ pub fn answer(args: &Args, style: Style) -> Result<Answer, Failure> {
             style.warning("Accepted")
         ),
     });
-    text.push_str(&format!("It has {}.\n", table.length()));
+    text.push_str(&match watts(image) {
+        Some([channel, segment]) => format!(
+            "It has {}, edition 2: warnings above {channel} on a 60 m channel, above {segment} in the 60 m segment.\n",
+            table.length()
+        ),
+        None => format!("It has {}.\n", table.length()),
+    });
     for &of in Tables::ALL {
         text.push_str(&format!("  {:<5}{of}\n", count_of(image, of)));
     }

@@ -256,13 +256,15 @@ numbered! {
 }
 
 numbered! {
-    /// Why a call was not answered. The order of looking: 20, 21, 22, 1 to 14, 15, 16, 23, 24, 25.
+    /// Why a call was not answered. The order of looking: 20, 21, 22, 1 to 14, 15, 16, 26,
+    /// 23, 24, 25.
     Refusal: "refusal" {
-        /// The image has under 92 or over 65,536 bytes.
+        /// The image has under 92 or over 65,552 bytes.
         ImageLength = 1 "image_length",
         /// The image does not end with its letters.
         Letters = 2 "letters",
-        /// The image is of another edition.
+        /// The image is of another edition than 1 and 2; or it is to be raised or lowered, and of another
+        /// edition than that asks for.
         Edition = 3 "edition",
         /// A count of the image is over 256, or its length or distance disagrees with the counts.
         Counts = 4 "counts",
@@ -300,12 +302,14 @@ numbered! {
         /// [`Policy::Rules`] and an image of no bytes.
         NoImage = 22 "no_image",
         /// The dial list is longer than the whole rows lent: those to write, or those to ask a
-        /// distance of.
+        /// distance of. Or an image is longer than the bytes lent for it.
         Rows = 23 "rows",
         /// The text of a figure is longer than the bytes lent.
         Text = 24 "text",
         /// The report of a table is longer than the whole rows lent.
         Report = 25 "report",
+        /// The image is to be lowered, and has other watts than 100 and 9.15, which edition 1 can't hold.
+        Watts = 26 "watts",
         /// A start of a log is below the one before it.
         Starts = 31 "starts",
         /// Starts, bands, seconds and totals of a log are not one for each record, or there are more than

@@ -49,19 +49,25 @@ impl Place {
     /// Its bytes in the image; `None` where the image has no such place.
     pub fn bytes(self, image: &[u8]) -> Option<Range<usize>> {
         let (start, size) = match self {
-            Self::General => (0, raw::IMAGE_GENERAL),
+            Self::General => (0, general_size(image)),
             Self::Record { table, index } => {
                 let trailer = image.len().checked_sub(raw::IMAGE_TRAILER)?;
                 let counts =
                     image[trailer..].chunks(2).map(|n| usize::from(n[0]) + 256 * usize::from(n[1]));
                 let before: usize = counts.take(table.number().into()).sum();
-                let start = raw::IMAGE_GENERAL + raw::IMAGE_RECORD * (before + usize::from(index));
+                let start = general_size(image) + raw::IMAGE_RECORD * (before + usize::from(index));
                 (start, raw::IMAGE_RECORD)
             }
         };
         let end = start + size;
         (end <= image.len()).then_some(start..end)
     }
+}
+
+/// The bytes of an image's general block: edition 2 has more, by its trailer.
+fn general_size(image: &[u8]) -> usize {
+    let second = image.len() >= raw::IMAGE_TRAILER && image[image.len() - 6..][..2] == [2, 0];
+    raw::IMAGE_GENERAL + if second { raw::IMAGE_WATTS } else { 0 }
 }
 
 /// An image's refusal, and where the table is wrong.

@@ -11,6 +11,7 @@
 //! | [`fault_of`] | where a table is wrong |
 //! | [`tidy`] | whether an image's table is tidy |
 //! | [`report`] | where records of a table overlap, and where a class has no privilege for data |
+//! | [`raise`], [`lower`] | an image of one edition as one of the other |
 //! | [`Station::fresh`] | a fresh station, in region 2 with margins of 50 Hz: it permits nothing |
 //! | [`evaluate`] | the verdict on a transmission |
 //! | [`unmeasured`] | the answer for a signal whose spectrum is not known |
@@ -167,6 +168,35 @@ pub fn report<'a>(
     codes::refused(flat.refusal)?;
     let bytes: &'a [u8] = rows;
     Ok(Report::new(&bytes[..REPORT_ROW * flat.count as usize]))
+}
+
+/// Writes edition 2 of an image of edition 1, with 100 and 9.15 as its watts, into the bytes lent, and gives
+/// its bytes back. Every call answers the same for it, and [`lower`] gives the first bytes back.
+///
+/// [`raw::IMAGE_MOST`] bytes have room for every image. Bytes past it stay as they were; on a refusal every
+/// byte does. Refusals 1, 2, 3 ([`Refusal::Edition`], an image of edition 2 too), 4 to 14, then 23
+/// ([`Refusal::Rows`]: the image is longer than the bytes lent).
+///
+/// ```
+/// assert_eq!(pamuklid::raise(&[], &mut []), Err(pamuklid::Refusal::ImageLength));
+/// ```
+pub fn raise<'a>(image: &[u8], out: &'a mut [u8]) -> Result<&'a [u8], Refusal> {
+    version::checked();
+    let flat = raw::raise(image, out);
+    codes::refused(flat.refusal)?;
+    Ok(&out[..flat.length as usize])
+}
+
+/// Writes edition 1 of an image of edition 2, whose watts must be 100 and 9.15, into the bytes lent, and gives
+/// its bytes back.
+///
+/// Bytes as with [`raise`]. Refusals 1, 2, 3 ([`Refusal::Edition`], an image of edition 1 too), 4 to 14, 26
+/// ([`Refusal::Watts`]: edition 1 can't hold others), then 23.
+pub fn lower<'a>(image: &[u8], out: &'a mut [u8]) -> Result<&'a [u8], Refusal> {
+    version::checked();
+    let flat = raw::lower(image, out);
+    codes::refused(flat.refusal)?;
+    Ok(&out[..flat.length as usize])
 }
 
 /// Judges a transmission: one that a station would send in a direction, of a kind, with these audio

@@ -5,12 +5,12 @@
 //!
 //! The only file with unsafe code: each call lends slices as pointer and count, and the library
 //! promises to follow them no further, to keep none, and to write the dial rows, the rows of a report,
-//! the texts and the totals alone.
+//! the texts, the totals and the images alone.
 
 use std::mem::size_of;
 
 /// The version of the library that this crate was written for: major * 10000 + minor * 100 + patch.
-pub const VERSION: u32 = 900;
+pub const VERSION: u32 = 1000;
 /// A control, license or sideband that is not known.
 pub const ABSENT: u8 = 255;
 /// The rung of a ceiling that has none.
@@ -40,12 +40,14 @@ pub const REPORT_GAP: u8 = 255;
 pub const MOST_TEXT: usize = 15;
 /// The most records of a log.
 pub const MOST_LOG: usize = 65_536;
-/// The least bytes of an image.
+/// The least bytes of an image, of either edition.
 pub const IMAGE_LEAST: usize = 92;
-/// The most bytes of an image.
-pub const IMAGE_MOST: usize = 65_536;
-/// The bytes of an image's general block.
+/// The most bytes of an image, of either edition.
+pub const IMAGE_MOST: usize = 65_552;
+/// The bytes of an image's general block, in edition 1.
 pub const IMAGE_GENERAL: usize = 64;
+/// How many bytes more edition 2 has there: two watts.
+pub const IMAGE_WATTS: usize = 16;
 /// The bytes of each record of an image.
 pub const IMAGE_RECORD: usize = 32;
 /// The bytes of an image's trailer.
@@ -253,6 +255,16 @@ pub struct Report {
     pub refusal: u8,
 }
 
+/// The answer of a call that writes an image.
+#[repr(C)]
+#[derive(Clone, Copy, Debug)]
+pub struct Image {
+    /// The bytes that were written, those of the image; 0 on a refusal.
+    pub length: u32,
+    /// 0; or the image's refusal, 1 to 14, or 26, 23.
+    pub refusal: u8,
+}
+
 /// A text's answer.
 #[repr(C)]
 #[derive(Clone, Copy, Debug)]
@@ -305,6 +317,7 @@ const _: () = {
     assert!(size_of::<Dials>() == 8);
     assert!(size_of::<Distance>() == 16);
     assert!(size_of::<Report>() == 8);
+    assert!(size_of::<Image>() == 8);
     assert!(size_of::<Text>() == 8);
     assert!(size_of::<Airtime>() == 8);
     assert!(size_of::<Tidiness>() == 2);
@@ -323,6 +336,8 @@ extern "C" {
         rows: *mut u8,
         rows_len: usize,
     ) -> Report;
+    fn pamuklid_raise(image: *const u8, n: usize, out: *mut u8, out_len: usize) -> Image;
+    fn pamuklid_lower(image: *const u8, n: usize, out: *mut u8, out_len: usize) -> Image;
     #[link_name = "pamuklid_fresh_2"]
     fn pamuklid_fresh() -> Station;
     #[link_name = "pamuklid_evaluate_2"]
@@ -411,6 +426,20 @@ pub fn tidy(image: &[u8]) -> Tidiness {
 pub fn report(image: &[u8], license: u8, rows: &mut [u8]) -> Report {
     let (at, len) = (rows.as_mut_ptr(), rows.len());
     unsafe { pamuklid_report_of(image.as_ptr(), image.len(), license, at, len) }
+}
+
+/// `pamuklid_raise`.
+#[inline]
+pub fn raise(image: &[u8], out: &mut [u8]) -> Image {
+    let (at, len) = (out.as_mut_ptr(), out.len());
+    unsafe { pamuklid_raise(image.as_ptr(), image.len(), at, len) }
+}
+
+/// `pamuklid_lower`.
+#[inline]
+pub fn lower(image: &[u8], out: &mut [u8]) -> Image {
+    let (at, len) = (out.as_mut_ptr(), out.len());
+    unsafe { pamuklid_lower(image.as_ptr(), image.len(), at, len) }
 }
 
 /// `pamuklid_fresh`.

@@ -358,9 +358,9 @@ impl Refusal {
     /// Why, as a clause.
     pub const fn reason(self) -> &'static str {
         match self {
-            Self::ImageLength => "the image has under 92 or over 65,536 bytes",
+            Self::ImageLength => "the image has under 92 or over 65,552 bytes",
             Self::Letters => "the image does not end with the letters EDGE",
-            Self::Edition => "the image is of another edition than 1",
+            Self::Edition => "the image is of another edition",
             Self::Counts => "the image's counts, length and distance disagree",
             Self::CodedByte => {
                 "a coded byte of the image is outside its values, an unused one is not zero, or the \
@@ -385,9 +385,12 @@ impl Refusal {
                  in size, or a figure to be written is not finite or above 2^43 in size"
             }
             Self::NoImage => "rules are in force and there is no image",
-            Self::Rows => "the dial list is longer than the rows lent",
+            Self::Rows => "the dial list or the image is longer than the rows or bytes lent",
             Self::Text => "the text of the figure is longer than the bytes lent",
             Self::Report => "the table's report is longer than the rows lent",
+            Self::Watts => {
+                "the image has other 60 m watts than 100 and 9.15, which edition 1 cannot hold"
+            }
             Self::Starts => "a record of the log starts before the one above it",
             Self::Runs => {
                 "the log's starts, bands, seconds and totals are not one for each record, or there \
@@ -401,7 +404,7 @@ impl Refusal {
         match self {
             Self::ImageLength => "load a table image: this is too short or too long for one",
             Self::Letters => "load a table image: this is none, or its end is missing",
-            Self::Edition => "have the table made again as an image of edition 1",
+            Self::Edition => "have the table made again as an image of edition 1 or 2",
             Self::Counts => "load the image again: bytes are missing, or there are too many",
             Self::CodedByte => "have the table corrected at the place that is named, byte by byte",
             Self::ImageFigure => "have the table's figure corrected at the place that is named",
@@ -422,9 +425,10 @@ impl Refusal {
                 "set the margin, the dial and the power again, or write another figure"
             }
             Self::NoImage => "load the table's image",
-            Self::Rows => "lend more rows",
+            Self::Rows => "lend more rows, or more bytes",
             Self::Text => "lend more bytes: 15 have room for every text",
             Self::Report => "lend more rows: 131,072 have room for every report",
+            Self::Watts => "stay with edition 2, or have its watts set to 100 and 9.15",
             Self::Starts => "put the log's records in the order of their starts",
             Self::Runs => "give at most 65,536 records, with as many of each",
         }
@@ -498,9 +502,9 @@ impl SixtyNotes {
     /// The notes that are made, a clause each.
     pub fn clauses(&self) -> impl Iterator<Item = &'static str> {
         let all = [
-            (self.channel_power, "the power is above the 100 W ERP of a 60 m channel"),
+            (self.channel_power, "the power is above the watts of a 60 m channel"),
             (self.shared, "60 m is shared with government stations: keep transmissions short"),
-            (self.segment_power, "the power is above the 9.15 W ERP of the 60 m segment"),
+            (self.segment_power, "the power is above the watts of the 60 m segment"),
         ];
         all.into_iter().filter(|note| note.0).map(|note| note.1)
     }

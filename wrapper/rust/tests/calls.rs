@@ -2,11 +2,11 @@
 //! library's.
 
 use pamuklid::{
-    airtime, ceiling, check, distance, evaluate, fault_of, raw, report, safe_dials, text_at,
-    text_hertz, text_khz, tidy, unmeasured, version, Code, Control, DialRow, DialRows, Direction,
-    Distance, Edge, Edges, Fault, Guidance, Kind, License, Overshoot, Place, Policy, Range,
-    Refusal, ReportRow, Rule, Segment, Sideband, SixtyNotes, Station, Table, Verdict, MOST_LOG,
-    MOST_REPORT, MOST_TEXT, REPORT_ROW, ROW, VERSION,
+    airtime, ceiling, check, distance, evaluate, fault_of, lower, raise, raw, report, safe_dials,
+    text_at, text_hertz, text_khz, tidy, unmeasured, version, Code, Control, DialRow, DialRows,
+    Direction, Distance, Edge, Edges, Fault, Guidance, Kind, License, Overshoot, Place, Policy,
+    Range, Refusal, ReportRow, Rule, Segment, Sideband, SixtyNotes, Station, Table, Verdict,
+    MOST_LOG, MOST_REPORT, MOST_TEXT, REPORT_ROW, ROW, VERSION,
 };
 
 static IMAGE: &[u8] = include_bytes!("../../../tools/reference/practice.bin");
@@ -185,6 +185,77 @@ fn times_refused() {
     assert_eq!(totals, [7; 3]);
 }
 
+/// The practice table in edition 2, put together here: docs/IMAGE.md has the places.
+fn second(channel: f64, segment: f64) -> Vec<u8> {
+    let mut image = IMAGE[..64].to_vec();
+    image.extend(channel.to_bits().to_le_bytes());
+    image.extend(segment.to_bits().to_le_bytes());
+    image.extend(&IMAGE[64..370]);
+    image.extend(368u32.to_le_bytes());
+    image.extend([2, 0]);
+    image.extend(b"EDGE");
+    image
+}
+
+#[test]
+fn editions() {
+    let edition_2 = second(100.0, 9.15);
+    assert_eq!((check(&edition_2), tidy(&edition_2)), (Ok(()), Ok(true)));
+    let mut lent = [7; 400];
+    assert_eq!(raise(IMAGE, &mut lent), Ok(&edition_2[..]));
+    assert_eq!(lent[396..], [7; 4]);
+    let mut lent = [7; 400];
+    assert_eq!(lower(&edition_2, &mut lent), Ok(IMAGE));
+    assert_eq!(lent[380..], [7; 20]);
+    // just room enough
+    assert!(raise(IMAGE, &mut [7; 396]).is_ok());
+    assert!(lower(&edition_2, &mut [7; 380]).is_ok());
+    // a warning on a 60 m channel strictly above the table's own watts
+    let channel = |watts, image: &[u8]| {
+        let station = Station { power_w: Some(watts), ..station(5_330_500.0) };
+        evaluate(&station, Kind::Data, Direction::Originate, &EDGES, image).unwrap().verdict
+    };
+    let other = second(50.0, 9.15);
+    assert_eq!(channel(100.0, &edition_2), Verdict::Legal);
+    assert_eq!(channel(100.5, &edition_2), Verdict::Warning);
+    assert_eq!(channel(50.0, &other), Verdict::Legal);
+    assert_eq!(channel(50.5, &other), Verdict::Warning);
+}
+
+/// No byte is written where an image is not raised or lowered.
+#[test]
+fn editions_refused() {
+    let edition_2 = second(100.0, 9.15);
+    let mut lent = [7; 400];
+    for (image, refusal) in [
+        (&[][..], Refusal::ImageLength),
+        (&with(376, b"F"), Refusal::Letters),
+        (&edition_2, Refusal::Edition),
+        (&with(352, &[3]), Refusal::Counts),
+        (&with(41, &[3]), Refusal::CodedByte),
+    ] {
+        assert_eq!(raise(image, &mut lent), Err(refusal));
+    }
+    assert_eq!(raise(IMAGE, &mut lent[..395]), Err(Refusal::Rows));
+    for (image, refusal) in [
+        (IMAGE, Refusal::Edition),
+        (&second(f64::NAN, 9.15), Refusal::ImageFigure),
+        (&second(50.0, 9.15), Refusal::Watts),
+        (&second(100.0, 9.0), Refusal::Watts),
+    ] {
+        assert_eq!(lower(image, &mut lent), Err(refusal));
+    }
+    assert_eq!(lower(&second(100.0, 9.0), &mut []), Err(Refusal::Watts));
+    assert_eq!(lower(&edition_2, &mut lent[..379]), Err(Refusal::Rows));
+    assert_eq!(lent, [7; 400]);
+    // 3 comes before 4
+    let mut both = edition_2;
+    both[368] = 3;
+    assert_eq!(raise(&both, &mut lent), Err(Refusal::Edition));
+    let flat = raw::lower(&both, &mut lent);
+    assert_eq!((flat.length, flat.refusal), (0, 4));
+}
+
 /// tools/reference/practice.txt has the offsets.
 #[test]
 fn places() {
@@ -196,6 +267,10 @@ fn places() {
     assert_eq!(at(Table::Automatic, 1), Some(320..352));
     assert_eq!(at(Table::Bands, 65_535), None);
     assert_eq!(Place::General.bytes(&IMAGE[..63]), None);
+    let edition_2 = second(100.0, 9.15);
+    assert_eq!(Place::General.bytes(&edition_2), Some(0..80));
+    let last = Place::Record { table: Table::Automatic, index: 1 };
+    assert_eq!(last.bytes(&edition_2), Some(336..368));
     assert_eq!(Place::Record { table: Table::Bands, index: 0 }.bytes(&[0; 27]), None);
 }
 
@@ -210,7 +285,8 @@ fn faults() {
     // the form: no place
     assert_eq!(fault_of(&[]), at(Refusal::ImageLength, None));
     assert_eq!(fault_of(&with(376, b"F")), at(Refusal::Letters, None));
-    assert_eq!(fault_of(&with(374, &[2])), at(Refusal::Edition, None));
+    assert_eq!(fault_of(&with(374, &[3])), at(Refusal::Edition, None));
+    assert_eq!(fault_of(&with(374, &[2])), at(Refusal::Counts, None), "16 bytes are missing");
     assert_eq!(fault_of(&with(352, &[3])), at(Refusal::Counts, None));
     // 5: the reading; a band's class; a privilege's class; of both the general block
     assert_eq!(fault_of(&with(41, &[3])), at(Refusal::CodedByte, Some(Place::General)));

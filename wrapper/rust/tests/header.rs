@@ -142,6 +142,7 @@ fn every_number() {
         ("IMAGE_LEAST", raw::IMAGE_LEAST),
         ("IMAGE_MOST", raw::IMAGE_MOST),
         ("IMAGE_GENERAL", raw::IMAGE_GENERAL),
+        ("IMAGE_WATTS", raw::IMAGE_WATTS),
         ("IMAGE_RECORD", raw::IMAGE_RECORD),
         ("IMAGE_TRAILER", raw::IMAGE_TRAILER),
         ("MOST_RECORDS", raw::MOST_RECORDS),
@@ -406,7 +407,7 @@ fn structs_and_calls() {
     let (their_structs, their_calls) = of_rust(&library());
     let names = |of: &Structs| of.keys().cloned().collect::<BTreeSet<_>>();
     assert_eq!(c_structs.len(), 11);
-    assert_eq!(c_calls.len(), 15);
+    assert_eq!(c_calls.len(), 17);
     assert_eq!(names(&structs), names(&c_structs));
     assert_eq!(names(&structs), names(&their_structs));
     for (name, fields) in &structs {

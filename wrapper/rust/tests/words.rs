@@ -42,7 +42,7 @@ fn figures() {
     reads(range(5_330_600.0, 5_333_450.0), "5330.6 to 5333.450 kHz");
     let segment = Segment { range: range(14_095_000.0, 14_099_500.0), rule: Rule::Table(13) };
     reads(segment, "14095 to 14099.5 kHz (rule 13 of the table)");
-    reads(Version { major: 0, minor: 9, patch: 0 }, "0.9.0");
+    reads(Version { major: 0, minor: 10, patch: 0 }, "0.10.0");
     reads(Version::from_number(123_456), "12.34.56");
 }
 
@@ -175,9 +175,9 @@ fn codes() {
 #[test]
 fn refusals() {
     let texts = [
-        (1, "the image has under 92 or over 65,536 bytes"),
+        (1, "the image has under 92 or over 65,552 bytes"),
         (2, "the image does not end with the letters EDGE"),
-        (3, "the image is of another edition than 1"),
+        (3, "the image is of another edition"),
         (4, "the image's counts, length and distance disagree"),
         (
             5,
@@ -202,9 +202,10 @@ fn refusals() {
              size, or a figure to be written is not finite or above 2^43 in size",
         ),
         (22, "rules are in force and there is no image"),
-        (23, "the dial list is longer than the rows lent"),
+        (23, "the dial list or the image is longer than the rows or bytes lent"),
         (24, "the text of the figure is longer than the bytes lent"),
         (25, "the table's report is longer than the rows lent"),
+        (26, "the image has other 60 m watts than 100 and 9.15, which edition 1 cannot hold"),
         (31, "a record of the log starts before the one above it"),
         (
             32,
@@ -221,7 +222,7 @@ fn refusals() {
     }
     let hints: HashSet<&str> = Refusal::ALL.iter().map(|r| r.what_to_do()).collect();
     assert_eq!(hints.len(), Refusal::ALL.len());
-    assert_eq!(Refusal::Rows.what_to_do(), "lend more rows");
+    assert_eq!(Refusal::Rows.what_to_do(), "lend more rows, or more bytes");
 }
 
 #[test]
@@ -466,9 +467,9 @@ fn decisions_with_notes() {
          10 of the table).\n\
          The signal is 500 Hz wide, at 5331.800 to 5332.300 kHz in band 60; the channel is 5330.6 \
          to 5333.4 kHz (rule 10 of the table).\n\
-         The power is above the 100 W ERP of a 60 m channel.\n\
+         The power is above the watts of a 60 m channel.\n\
          60 m is shared with government stations: keep transmissions short.\n\
-         The power is above the 9.15 W ERP of the 60 m segment."
+         The power is above the watts of the 60 m segment."
     );
     assert_eq!(NO_NOTES.clauses().count(), 0);
     (d.verdict, d.sixty) = (Verdict::Blocked, NO_NOTES);

@@ -1,0 +1,221 @@
+//! `pamuklid raise` and `pamuklid lower`: an image of one edition as one of the other, in a file.
+
+use std::ffi::{OsStr, OsString};
+use std::fs::{self, File, OpenOptions};
+use std::io::{self, IsTerminal, Write};
+use std::path::{Path, PathBuf};
+
+use pamuklid::raw::IMAGE_MOST;
+use pamuklid::{lower, raise, Refusal};
+use serde::Serialize;
+
+use crate::answer::{write_error, Answer, Failure, Kind, Status, Style};
+use crate::commands::judge::fault;
+use crate::image::{edition_of, watts};
+use crate::json::{RefusalJson, TableJson};
+use crate::table::{grouped, Table};
+use crate::text::shown;
+use crate::words;
+
+#[derive(clap::Args, Debug)]
+pub struct Args {
+    /// The table's image, a file; - is standard input
+    #[arg(value_name = "FILE")]
+    file: OsString,
+
+    /// The file to write, whole or not at all; - is standard output
+    #[arg(short, long, value_name = "OUT")]
+    output: OsString,
+}
+
+impl Args {
+    /// Whether the image goes to standard output.
+    pub fn to_output(&self) -> bool {
+        self.output == "-"
+    }
+}
+
+/// Which way.
+#[derive(Clone, Copy)]
+pub enum Way {
+    Raise,
+    Lower,
+}
+
+impl Way {
+    const fn command(self) -> &'static str {
+        match self {
+            Self::Raise => "raise",
+            Self::Lower => "lower",
+        }
+    }
+
+    /// The edition that is written.
+    const fn edition(self) -> u16 {
+        match self {
+            Self::Raise => 2,
+            Self::Lower => 1,
+        }
+    }
+
+    fn convert<'a>(self, image: &[u8], out: &'a mut [u8]) -> Result<&'a [u8], Refusal> {
+        match self {
+            Self::Raise => raise(image, out),
+            Self::Lower => lower(image, out),
+        }
+    }
+
+    const fn done(self) -> &'static str {
+        match self {
+            Self::Raise => "Raised",
+            Self::Lower => "Lowered",
+        }
+    }
+
+    const fn not_done(self) -> &'static str {
+        match self {
+            Self::Raise => "Not raised",
+            Self::Lower => "Not lowered",
+        }
+    }
+
+    /// Why a refusal was met and what to do, where that is better said here.
+    fn said(self, refusal: Refusal, image: &[u8]) -> Option<(&'static str, &'static str)> {
+        match self {
+            _ if refusal != Refusal::Edition || edition_of(image) != self.edition() => None,
+            Self::Raise => Some(("the image is of edition 2 already", "use it as it is")),
+            Self::Lower => Some(("the image is of edition 1 already", "use it as it is")),
+        }
+    }
+}
+
+#[derive(Serialize)]
+struct Json {
+    command: &'static str,
+    status: u8,
+    table: TableJson,
+    output: String,
+    /// of what was written
+    edition: Option<u16>,
+    bytes: Option<usize>,
+    refusal: Option<RefusalJson>,
+}
+
+/// A file of its own beside the one that is to be written.
+fn beside(path: &Path) -> Option<PathBuf> {
+    let mut name = OsString::from(".");
+    name.push(path.file_name()?);
+    name.push(format!(".{}.part", std::process::id()));
+    Some(path.with_file_name(name))
+}
+
+fn put(path: &Path, bytes: &[u8]) -> io::Result<()> {
+    let mut file: File = OpenOptions::new().write(true).create_new(true).open(path)?;
+    file.write_all(bytes)?;
+    file.sync_all()
+}
+
+/// Writes a file whole, or leaves what was there: the bytes go to a file beside it, which then takes its name.
+fn write_whole(name: &OsStr, bytes: &[u8]) -> io::Result<()> {
+    let other = |why| io::Error::new(io::ErrorKind::Other, why);
+    // a link stays one: what it leads to is written
+    let path = fs::canonicalize(name).unwrap_or_else(|_| PathBuf::from(name));
+    let before = fs::metadata(&path).ok();
+    match &before {
+        Some(found) if found.is_dir() => return Err(other("it is a folder")),
+        Some(found) if !found.is_file() => return Err(other("it is not a file")),
+        _ => {}
+    }
+    let part = beside(&path).ok_or_else(|| other("it is no file's name"))?;
+    let written = put(&part, bytes)
+        .and_then(|()| before.map_or(Ok(()), |found| fs::set_permissions(&part, found.permissions())))
+        .and_then(|()| fs::rename(&part, &path));
+    if matches!(&written, Err(why) if why.kind() != io::ErrorKind::AlreadyExists) {
+        let _ = fs::remove_file(&part);
+    }
+    written
+}
+
+fn write(args: &Args, bytes: &[u8]) -> Result<(), Failure> {
+    let failed =
+        |message, what_to_do: &str| Failure { kind: Kind::Write, message, what_to_do: Some(what_to_do.to_owned()) };
+    if args.to_output() {
+        let mut out = io::stdout().lock();
+        return out
+            .write_all(bytes)
+            .and_then(|()| out.flush())
+            .map_err(|why| failed(format!("the image could not be written: {why}"), "see where standard output goes"));
+    }
+    write_whole(&args.output, bytes).map_err(|why| {
+        let message = format!("the image could not be written: {}: {why}", shown(&args.output));
+        failed(message, "name a file that can be written with -o")
+    })
+}
+
+fn refused(args: &Args, way: Way, table: &Table, refusal: Refusal, style: Style) -> Result<Answer, Failure> {
+    let image = &table.image;
+    let fault = fault(refusal, image);
+    let mut said = words::refusal(way.not_done(), refusal, table, fault.as_ref(), style);
+    let mut json = RefusalJson::at(refusal, image, fault.as_ref());
+    if let Some((reason, what_to_do)) = way.said(refusal, image) {
+        said = words::refusal_said(way.not_done(), refusal, (reason, what_to_do), style);
+        json = RefusalJson::said(refusal, reason, what_to_do);
+    }
+    if let (Refusal::Watts, Some([channel, segment])) = (refusal, watts(image)) {
+        said.push_str(&format!("It has {channel} for a 60 m channel and {segment} for the 60 m segment.\n"));
+    }
+    said.push_str("Nothing was written.\n");
+    let text = format!("{}\n{said}", words::titled(style, "Table", &table.name()));
+    let json = Json {
+        command: way.command(),
+        status: Status::NotAnswered as u8,
+        table: TableJson::of(table),
+        output: shown(&args.output),
+        edition: None,
+        bytes: None,
+        refusal: Some(json),
+    };
+    if args.to_output() {
+        // standard output is the image's
+        write_error(&text);
+        return Answer::new(Status::NotAnswered, String::new(), &json);
+    }
+    Answer::new(Status::NotAnswered, text, &json)
+}
+
+pub fn answer(args: &Args, way: Way, style: Style) -> Result<Answer, Failure> {
+    if args.to_output() && io::stdout().is_terminal() {
+        return Err(Failure::arguments(
+            "an image is not written to a terminal",
+            "name a file with -o, or send standard output to one",
+        ));
+    }
+    let table = Table::file(&args.file)?;
+    let mut room = vec![0; IMAGE_MOST];
+    let bytes = match way.convert(&table.image, &mut room) {
+        Ok(bytes) => bytes,
+        Err(refusal) => return refused(args, way, &table, refusal, style),
+    };
+    write(args, bytes)?;
+    let json = Json {
+        command: way.command(),
+        status: Status::Yes as u8,
+        table: TableJson::of(&table),
+        output: shown(&args.output),
+        edition: Some(way.edition()),
+        bytes: Some(bytes.len()),
+        refusal: None,
+    };
+    if args.to_output() {
+        return Answer::new(Status::Yes, String::new(), &json);
+    }
+    let mut text = words::titled(style, "Table", &table.name());
+    text.push_str(&words::titled(style, "Output", &shown(&args.output)));
+    text.push_str(&format!(
+        "\n{}: {} bytes of edition {}. Every answer by it is the same.\n",
+        style.good(way.done()),
+        grouped(bytes.len()),
+        way.edition()
+    ));
+    Answer::new(Status::Yes, text, &json)
+}
