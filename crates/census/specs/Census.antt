@@ -78,7 +78,7 @@ dialled known hz r =
       «band_plan» = r .«band_plan»;
       «dial_known» = known;
       «power_known» = r .«power_known»;
-      «margin_hz» = r .«margin_hz»;
+      margin = r .margin;
       «dial_hz» = hz;
       «power_w» = r .«power_w»;
     }

@@ -52,6 +52,7 @@ use Rattle.table.specs.Table.{tableOf}
 use Rattle.report.specs.Report.{reportRows, reportTests, answerOf as reportAnswer, bytesOf as reportBytes}
 use Rattle.report.specs.declared.TableReport.{TableReport}
 use Rattle.report.specs.declared.TableReport.the-variants.{Rows as ReportOf, Refused as NoReport}
+use Rattle.census.specs.declared.Census.{Census}
 use Rattle.airtime.specs.Airtime.{airtimeTests, airtimeAnswer, airtimeLeft, totalsOf}
 use Rattle.airtime.specs.declared.Airtime.{Airtime}
 use Rattle.airtime.specs.declared.Airtime.the-variants.{Totals, Refused as NoTotals}
@@ -70,6 +71,7 @@ use Rattle.flat.specs.declared.FlatTidiness.{FlatTidiness}
 use Rattle.flat.specs.declared.FlatCeiling.{FlatCeiling}
 use Rattle.flat.specs.declared.FlatDials.{FlatDials}
 use Rattle.flat.specs.declared.FlatReport.{FlatReport}
+use Rattle.flat.specs.declared.FlatCensus.{FlatCensus}
 use Rattle.flat.specs.declared.FlatFault.{FlatFault}
 use Rattle.flat.specs.declared.FlatText.{FlatText}
 
@@ -251,6 +253,10 @@ reportFlat (NoReport n) = record { count = 0; refusal = n }
 pub record FlatReported (l : List ℕ) (class : ℕ) (lent left : List ℕ) (answer : FlatReport) : Type 0 where
   pub answered : answer ≡ reportFlat (reportAnswer (refusalOf (reportTests l class lent)) (reportRows (tableOf l) class))
   pub bytes : left ≡ reportBytes (refusalOf (reportTests l class lent)) (reportRows (tableOf l) class) lent
+
+-- a census: its counts, or a refusal's number and noughts
+abbrev pub censusFlat : Census → FlatCensus
+censusFlat c = record { counts = c .counts; refusal = refusalNumber (c .refusal) }
 
 -- how far a dial stands from no row: infinitely, so never nought
 abbrev pub infinityHz : Float
