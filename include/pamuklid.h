@@ -71,7 +71,10 @@ extern "C" {
 #define PAMUKLID_REFUSAL_STARTS 31          /* a start of a log below the one before */
 #define PAMUKLID_REFUSAL_RUNS 32            /* starts, bands, seconds and totals not one for each record, or
                                                over 65,536 records */
-/* They are looked for in the order 20, 21, 22, 1 to 14, 26, 15, 16, 23, 24, 25, 31, 32, each over the whole input
+#define PAMUKLID_REFUSAL_STRETCH 33         /* a first dial above the last, or more dials than
+                                               PAMUKLID_MOST_DIALS */
+#define PAMUKLID_REFUSAL_FAR_DIAL 34        /* a first or last dial above 2^40 in size */
+/* They are looked for in the order 20, 21, 22, 1 to 14, 26, 15, 33, 34, 16, 23, 24, 25, 31, 32, each over the whole input
  * before the next; 22 and 1 to 14 with PAMUKLID_POLICY_RULES only, except by the calls that are about the
  * image alone (pamuklid_check, pamuklid_tidy, pamuklid_report_of, pamuklid_fault_of, pamuklid_raise,
  * pamuklid_lower), which have 1 to 14 always. */
@@ -357,6 +360,19 @@ typedef struct {
     uint8_t refusal;         /* PAMUKLID_ACCEPTED; PAMUKLID_REFUSAL_STARTS or PAMUKLID_REFUSAL_RUNS */
 } pamuklid_airtime;
 
+/* The most dials of a census. */
+#define PAMUKLID_MOST_DIALS 1000000
+
+/* The codes, and the counts of a census. */
+#define PAMUKLID_CODES 25
+
+/* A census. */
+typedef struct {
+    uint32_t counts[PAMUKLID_CODES]; /* counts[code - 1] is how many dials get PAMUKLID_CODE_...; all 0 on a
+                                        refusal */
+    uint8_t refusal;                 /* PAMUKLID_ACCEPTED: counted; else PAMUKLID_REFUSAL_... */
+} pamuklid_census;
+
 /* An image: its least and its most bytes, of either edition; those of its general block, and how many more
  * edition 2 has there, of each record and of its trailer; the most records of a table; and the offsets of the
  * two bytes that pamuklid_distance_of asks for. */
@@ -494,6 +510,15 @@ pamuklid_ceiling pamuklid_ceiling_of(pamuklid_station s, uint8_t direction, pamu
  * 15, 23. */
 pamuklid_dials pamuklid_safe_dials(pamuklid_station s, uint8_t direction, pamuklid_edges e,
                                    const uint8_t *image, size_t n, uint8_t *rows, size_t rows_len);
+
+/* A census of a band, for a trustee who compares tables: how many of the whole-hertz dials from first to last, both
+ * included, get each code. Each dial is judged as pamuklid_evaluate would with it as the station's dial; the
+ * station's own dial is not looked at (dial_known is 0 or 1 all the same). The counts' total is
+ * last - first + 1, and those of a stretch in two parts add up to those of the whole: split a stretch of more
+ * than PAMUKLID_MOST_DIALS. The image is checked once. Reads it with PAMUKLID_POLICY_RULES only.
+ * Refusals 20 to 22, 1 to 14, 15, 33 (first above last, or more dials than PAMUKLID_MOST_DIALS), 34. */
+pamuklid_census pamuklid_census_of(pamuklid_station s, uint8_t kind, uint8_t direction, pamuklid_edges e,
+                                   const uint8_t *image, size_t n, int64_t first, int64_t last);
 
 /* How far a dial stands from the nearest of the first count rows of a finished list: below the row's
  * lower dial, above its upper, 0 on or between them. Rows of the channel band (60 m) do not count.
@@ -639,6 +664,10 @@ PAMUKLID_AT(pamuklid_text, refusal, 4);
 PAMUKLID_SIZE(pamuklid_airtime, 8);
 PAMUKLID_AT(pamuklid_airtime, count, 0);
 PAMUKLID_AT(pamuklid_airtime, refusal, 4);
+
+PAMUKLID_SIZE(pamuklid_census, 104);
+PAMUKLID_AT(pamuklid_census, counts, 0);
+PAMUKLID_AT(pamuklid_census, refusal, 100);
 
 PAMUKLID_SIZE(pamuklid_tidiness, 2);
 PAMUKLID_AT(pamuklid_tidiness, tidy, 0);

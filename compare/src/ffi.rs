@@ -4,9 +4,9 @@
 #[cfg(fault)]
 pub use pamuklid::raw::fault_of;
 #[cfg(feature = "stub")]
-pub use pamuklid::raw::{Airtime, Ceiling, Dials, Report, Tidiness};
+pub use pamuklid::raw::{Airtime, Ceiling, Census, Dials, Report, Tidiness};
 pub use pamuklid::raw::{
-    Decision, Distance, Edges, Fault, Station, Text, VERSION, airtime, ceiling, check, distance,
+    Decision, Distance, Edges, Fault, Station, Text, VERSION, airtime, ceiling, census, check, distance,
     evaluate, fresh, report, safe_dials, text_at, text_hertz, text_khz, tidy, unmeasured, version,
 };
 

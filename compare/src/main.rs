@@ -1,7 +1,7 @@
 //! Runs the Rust, unchanged, beside the proved library, and compares every part of every answer.
 //!
 //!     pamuklid-compare [--verdicts N] [--ceilings N] [--dials N] [--texts N] [--reports N]
-//!                      [--airtimes N] [--direction D] [--seed S] [--few] [--brief]
+//!                      [--airtimes N] [--censuses N] [--direction D] [--seed S] [--few] [--brief]
 //!     pamuklid-compare --replay FILE [--seed S]
 //!
 //! Exit 0: no difference, and everything that can be reached was; 1: a difference, printed with all
@@ -14,6 +14,7 @@
 mod airtime;
 mod airtimes;
 mod cases;
+mod censuses;
 mod compare;
 mod damage;
 mod differences;
@@ -104,6 +105,7 @@ pub struct Run {
     pub texts: texts::Met,
     pub reports: reports::Met,
     pub airtimes: airtimes::Met,
+    pub censuses: censuses::Met,
     directions: Directions,
     brief: bool,
 }
@@ -129,6 +131,7 @@ impl Run {
             texts: texts::Met::default(),
             reports: reports::Met::default(),
             airtimes: airtimes::Met::default(),
+            censuses: censuses::Met::default(),
             directions: Directions::new(only),
             brief,
         }
@@ -551,6 +554,7 @@ struct Wanted {
     texts: u64,
     reports: u64,
     airtimes: u64,
+    censuses: u64,
 }
 
 fn run_all(run: &mut Run, wanted: &Wanted) {
@@ -661,6 +665,8 @@ fn run_all(run: &mut Run, wanted: &Wanted) {
     }
     brushes(run, &wanted);
     reports::run(run, wanted.reports);
+    censuses::fixed(run);
+    censuses::run(run, wanted.censuses);
 }
 
 /// Every bit of the sample images turned over, one at a time: the check, the tidy question, and where
@@ -680,7 +686,7 @@ fn every_bit(run: &mut Run) {
 fn usage() -> ! {
     eprintln!(
         "usage: pamuklid-compare [--verdicts N] [--ceilings N] [--dials N] [--texts N] \
-         [--reports N] [--airtimes N] [--direction D] [--seed S] [--few] [--brief]\n\
+         [--reports N] [--airtimes N] [--censuses N] [--direction D] [--seed S] [--few] [--brief]\n\
          \x20      pamuklid-compare --replay FILE [--seed S]"
     );
     exit(2)
@@ -694,6 +700,7 @@ fn main() {
         texts: 10_000_000,
         reports: 1_000_000,
         airtimes: 1_000_000,
+        censuses: 1_000,
     };
     let (mut seed, mut only, mut few, mut brief, mut replay) = (1, None, false, false, None);
     let mut args = std::env::args().skip(1);
@@ -706,6 +713,7 @@ fn main() {
             "--texts" => wanted.texts = number(),
             "--reports" => wanted.reports = number(),
             "--airtimes" => wanted.airtimes = number(),
+            "--censuses" => wanted.censuses = number(),
             "--direction" => match number() {
                 direction @ 0..=3 => only = Some(direction as u8),
                 _ => usage(),
@@ -779,6 +787,10 @@ fn main() {
     println!(
         "time on the air: {} logs compared, with {} records; {} calls refused",
         run.airtimes.logs, run.airtimes.records, run.airtimes.refused
+    );
+    println!(
+        "censuses: {} stretches compared, with {} dials; {} calls refused",
+        run.censuses.stretches, run.censuses.dials, run.censuses.refused
     );
     run.texts.count(&mut run.reach);
     let missing = run.reach.missing(only);

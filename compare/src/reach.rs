@@ -5,7 +5,7 @@ use std::collections::BTreeMap;
 use crate::ffi::{Decision, Station};
 use crate::oracle::adapter::Ceiling;
 use crate::oracle::sixty::{Change, Climb};
-use crate::{airtimes, reports, texts};
+use crate::{airtimes, censuses, reports, texts};
 
 pub type Key = (&'static str, u16, u16);
 
@@ -281,6 +281,9 @@ impl Reach {
         out.extend(texts::required());
         out.extend(reports::required());
         out.extend(airtimes::required());
+        if only.is_none() {
+            out.extend(censuses::required());
+        }
         out.extend([0, 1, 2, 3, 4, 11, 14].map(|number| ("fault without a place", number, 0)));
         for (number, general, tables) in FAULTS {
             if general {

@@ -5,7 +5,7 @@ use std::cell::RefCell;
 use std::rc::Rc;
 
 use crate::ffi::{
-    Airtime, Ceiling, Decision, Dials, Distance, Edges, Fault, Report, Station, Text, Tidiness,
+    Airtime, Ceiling, Census, Decision, Dials, Distance, Edges, Fault, Report, Station, Text, Tidiness,
     VERSION,
 };
 use crate::original::adapter::{self, Prepared};
@@ -191,6 +191,40 @@ extern "C" fn pamuklid_text_khz(hz: f64, text: *mut u8, room: usize) -> Text {
 #[unsafe(no_mangle)]
 extern "C" fn pamuklid_text_hertz(hz: f64, text: *mut u8, room: usize) -> Text {
     written(2, hz, text, room)
+}
+
+#[unsafe(no_mangle)]
+extern "C" fn pamuklid_census_of(
+    s: Station,
+    kind: u8,
+    direction: u8,
+    e: Edges,
+    image: *const u8,
+    n: usize,
+    first: i64,
+    last: i64,
+) -> Census {
+    let refused = |refusal| Census { counts: [0; 25], refusal };
+    let there = |dial_hz| Station { dial_hz, dial_known: 1, ..s };
+    if s.dial_known > 1 {
+        return refused(20);
+    }
+    let front = pamuklid_evaluate_2(there(0.0), kind, direction, e, image, n).refusal;
+    if front != 0 {
+        return refused(front);
+    }
+    if first > last || last.checked_sub(first).is_none_or(|more| more >= 1_000_000) {
+        return refused(33);
+    }
+    if first < -(1 << 40) || last > 1 << 40 {
+        return refused(34);
+    }
+    let mut out = refused(0);
+    for dial in first..=last {
+        let d = pamuklid_evaluate_2(there(dial as f64), kind, direction, e, image, n);
+        out.counts[usize::from(d.code) - 1] += 1;
+    }
+    out
 }
 
 #[unsafe(no_mangle)]

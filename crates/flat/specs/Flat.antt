@@ -53,6 +53,7 @@ use Rattle.table.specs.Table.{tableOf}
 use Rattle.report.specs.Report.{reportRows, reportTests, answerOf as reportAnswer, bytesOf as reportBytes}
 use Rattle.report.specs.declared.TableReport.{TableReport}
 use Rattle.report.specs.declared.TableReport.the-variants.{Rows as ReportOf, Refused as NoReport}
+use Rattle.census.specs.declared.Census.{Census}
 use Rattle.airtime.specs.Airtime.{airtimeTests, airtimeAnswer, airtimeLeft, totalsOf}
 use Rattle.airtime.specs.declared.Airtime.{Airtime}
 use Rattle.airtime.specs.declared.Airtime.the-variants.{Totals, Refused as NoTotals}
@@ -76,6 +77,7 @@ use Rattle.flat.specs.declared.FlatCeiling.{FlatCeiling}
 use Rattle.flat.specs.declared.FlatDials.{FlatDials}
 use Rattle.flat.specs.declared.FlatReport.{FlatReport}
 use Rattle.flat.specs.declared.FlatImage.{FlatImage}
+use Rattle.flat.specs.declared.FlatCensus.{FlatCensus}
 use Rattle.flat.specs.declared.FlatFault.{FlatFault}
 use Rattle.flat.specs.declared.FlatText.{FlatText}
 
@@ -273,6 +275,10 @@ FlatRaised l lent left answer = FlatLeft (refusalOf (raiseTests l ++ roomTest (r
 
 abbrev pub FlatLowered : List ℕ → List ℕ → List ℕ → FlatImage → Type 0
 FlatLowered l lent left answer = FlatLeft (refusalOf (lowerTests l ++ roomTest (loweredOf l) lent)) (loweredOf l) lent left answer
+
+-- a census: its counts, or a refusal's number and noughts
+abbrev pub censusFlat : Census → FlatCensus
+censusFlat c = record { counts = c .counts; refusal = refusalNumber (c .refusal) }
 
 -- how far a dial stands from no row: infinitely, so never nought
 abbrev pub infinityHz : Float

@@ -1,10 +1,11 @@
 // The records of the boundary to C: flat structs of numbers, made from the answers and read into the station record and the edges. It
-// uses codes, profile, occupancy, air, station, fault, tidy, decision, numbers, ceiling, dials, report, distance, number_texts, airtime,
-// writer and convert.
+// uses codes, profile, occupancy, air, station, fault, tidy, decision, numbers, ceiling, dials, report, census, distance, number_texts,
+// airtime, writer and convert.
 use air::Margins;
 use airtime::Airtime;
 use ceiling::CeilingAnswer;
 use ceiling::Rung;
+use census::Census;
 use codes::Checked;
 use decision::BandNumber;
 use decision::Decision;
@@ -33,7 +34,7 @@ ghost use Rattle.flat.specs.Fits.{FaultFits, RungFits, Counted, ReportCo
 ghost use Rattle.flat.specs.Flat.{stationRecordOf, stationOf, edgesOf, rangeFlat, segmentFlat, overshootFlat};
 ghost use Rattle.flat.specs.Flat.{guidanceIndex, guidanceFlat, ruleFlat, bandFlat, widthFlat};
 ghost use Rattle.flat.specs.Flat.{faultFlat, tidinessFlat, flatOf, ceilingFlat, dialsFlat, reportFlat, infinityHz, distanceFlat, textFlat};
-ghost use Rattle.flat.specs.Flat.{airtimeFlat, imageFlat};
+ghost use Rattle.flat.specs.Flat.{airtimeFlat, censusFlat, imageFlat};
 
 // The station record: codes and presence bytes as document 01 numbers them, figures whatever they are.
 #[repr(C)]
@@ -140,6 +141,13 @@ pub struct FlatReport {
 #[repr(C)]
 pub struct FlatImage {
     pub length: u32,
+    pub refusal: u8,
+}
+
+// A census: how many dials get each code, code 1 first, or the refusal's number and noughts.
+#[repr(C)]
+pub struct FlatCensus {
+    pub counts: [u32; 25],
     pub refusal: u8,
 }
 
@@ -552,6 +560,18 @@ pub fn image_flat(a: ImageAnswer) -> FlatImage
             length: 0,
             refusal: n,
         },
+    }
+}
+
+// A census, flat.
+pub fn census_flat(c: Census) -> FlatCensus
+    ensures { λ r. ⌜ r ≡ censusFlat c ⌝ }
+{
+    let refusal = c.refusal;
+    let counts = c.counts;
+    FlatCensus {
+        counts,
+        refusal: numbers::refusal_number(refusal),
     }
 }
 

@@ -1,7 +1,8 @@
 // The boundary to C: the public calls, exported, with flat structs of numbers. It uses station, image, fault, tidy, numbers, verdict,
-// ceiling, dials, report, distance, number_texts, airtime, convert and flat.
+// ceiling, dials, report, census, distance, number_texts, airtime, convert and flat.
 use flat::FlatAirtime;
 use flat::FlatCeiling;
+use flat::FlatCensus;
 use flat::FlatDecision;
 use flat::FlatDials;
 use flat::FlatDistance;
@@ -19,11 +20,12 @@ ghost use Rattle.tidy.specs.Tidy.{tidyOf};
 ghost use Rattle.station.specs.Station.{freshOf};
 ghost use Rattle.verdict.specs.Verdict.{evaluateOf, unmeasuredOf};
 ghost use Rattle.ceiling.specs.Ceiling.{ceilingOf};
+ghost use Rattle.census.specs.Census.{censusOf};
 ghost use Rattle.distance.specs.Distance.{distanceOf};
 ghost use Rattle.number_texts.specs.Text.{atText, khzText, hertzText};
 ghost use Rattle.numbers.specs.Refusal.{refusalNumber};
 ghost use Rattle.flat.specs.Flat.{stationRecordOf, stationOf, edgesOf, faultFlat, tidinessFlat, flatOf};
-ghost use Rattle.flat.specs.Flat.{ceilingFlat, FlatDialed, FlatReported, FlatRaised, FlatLowered, distanceFlat, FlatTexted, FlatTotalled};
+ghost use Rattle.flat.specs.Flat.{ceilingFlat, FlatDialed, FlatReported, censusFlat, FlatRaised, FlatLowered, distanceFlat, FlatTexted, FlatTotalled};
 ghost use Rattle.flat.specs.Flat.{versionNumber};
 
 // The version of this boundary: 0.10.0.
@@ -165,6 +167,24 @@ pub extern "C" fn pamuklid_safe_dials_2(
     let edges = flat::edges_in(e);
     let answer = dials::safe_dials(record, direction, edges, image, rows);
     flat::dials_flat(answer)
+}
+
+// How many whole-hertz dials from a first to a last get each code, each taken as the record's dial.
+#[no_mangle]
+pub extern "C" fn pamuklid_census_of(
+    s: FlatStation,
+    kind: u8,
+    direction: u8,
+    e: FlatEdges,
+    image: &[u8],
+    first: i64,
+    last: i64,
+) -> FlatCensus
+    ensures { λ r. ⌜ r ≡ censusFlat (censusOf (stationRecordOf s) kind direction (edgesOf e) (now (image .entry)) first last) ⌝ }
+{
+    let record = flat::station_in(s);
+    let edges = flat::edges_in(e);
+    flat::census_flat(census::census_of(record, kind, direction, edges, image, first, last))
 }
 
 // How far a dial stands from the nearest of the first count rows of a list, those of the channel band left out. flags and channel_band

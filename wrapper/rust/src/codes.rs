@@ -315,6 +315,10 @@ numbered! {
         /// Starts, bands, seconds and totals of a log are not one for each record, or there are more than
         /// 65,536 records.
         Runs = 32 "runs",
+        /// The first dial of a census is above its last, or there are more than 1,000,000.
+        Stretch = 33 "stretch",
+        /// The first or the last dial of a census is above 2^40 in size.
+        FarDial = 34 "far_dial",
     }
 }
 

@@ -20,6 +20,7 @@
 //! | [`DialList::distance`], [`distance`] | how far a dial stands from those of a list |
 //! | [`text_at`], [`text_khz`] | a frequency's text, kilohertz: three decimals, or as many as it needs |
 //! | [`text_hertz`] | a figure's text, whole hertz |
+//! | [`census`] | how many dials of a stretch get each code |
 //! | [`airtime`] | of each record of a log the seconds on the air of the ten minutes up to it |
 //!
 //! No call keeps what it is lent or has a state of its own: equal arguments give equal answers, and
@@ -81,6 +82,7 @@
 #![deny(unsafe_op_in_unsafe_fn)]
 
 mod answer;
+mod census;
 mod codes;
 mod dials;
 mod fault;
@@ -92,13 +94,14 @@ mod version;
 mod words;
 
 pub use answer::{Ceiling, Decision, PowerNotes, Range, Segment, SixtyNotes};
+pub use census::Census;
 pub use codes::{
     Code, Control, Direction, Edge, Guidance, Kind, License, Overshoot, Policy, Refusal, Rule,
     Sideband, UnknownName, Verdict,
 };
 pub use dials::{DialList, DialRow, DialRows, Distance, ROW};
 pub use fault::{Fault, Place, Table};
-pub use raw::{Edges, MOST_LOG};
+pub use raw::{Edges, CODES, MOST_DIALS, MOST_LOG};
 pub use report::{Report, ReportRow, ReportRows, MOST_REPORT, REPORT_ROW};
 pub use station::Station;
 pub use texts::{text_at, text_hertz, text_khz, MOST_TEXT};
@@ -294,6 +297,30 @@ pub fn distance(
     codes::refused(flat.refusal)?;
     let value = Distance::from_numbers(flat.listed, flat.distance_hz);
     Ok(codes::known("listed mark", flat.listed, value))
+}
+
+/// A census of a band, for whoever compares tables: how many of the whole-hertz dials from `first` to
+/// `last`, both included, get each code. Each is judged as [`evaluate`] would with it as the station's dial;
+/// the station's own is not looked at.
+///
+/// The total of the counts is `last - first + 1`, and the counts of a stretch in two parts add up to those of
+/// the whole: a longer one than [`MOST_DIALS`] is asked in parts. The image is checked once, and is read
+/// under [`Policy::Rules`] only. Refusals 20 to 22, 1 to 14, 15, 33 ([`Refusal::Stretch`]: `first` above
+/// `last`, or more dials than [`MOST_DIALS`]), 34 ([`Refusal::FarDial`]: above 2^40 in size).
+pub fn census(
+    station: &Station,
+    kind: Kind,
+    direction: Direction,
+    edges: &Edges,
+    image: &[u8],
+    first: i64,
+    last: i64,
+) -> Result<Census, Refusal> {
+    version::checked();
+    let (s, kind, direction) = (station.flat(), kind.number(), direction.number());
+    let flat = raw::census(s, kind, direction, *edges, image, first, last);
+    codes::refused(flat.refusal)?;
+    Ok(Census::of(flat.counts))
 }
 
 /// Time on the air, for a limit on how long a station holds a shared channel. Record `i` of a log began at

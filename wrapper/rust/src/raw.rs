@@ -40,6 +40,10 @@ pub const REPORT_GAP: u8 = 255;
 pub const MOST_TEXT: usize = 15;
 /// The most records of a log.
 pub const MOST_LOG: usize = 65_536;
+/// The most dials of a census.
+pub const MOST_DIALS: usize = 1_000_000;
+/// The codes, and the counts of a census.
+pub const CODES: usize = 25;
 /// The least bytes of an image, of either edition.
 pub const IMAGE_LEAST: usize = 92;
 /// The most bytes of an image, of either edition.
@@ -285,6 +289,16 @@ pub struct Airtime {
     pub refusal: u8,
 }
 
+/// A census.
+#[repr(C)]
+#[derive(Clone, Copy, Debug)]
+pub struct Census {
+    /// How many dials get each code, that of code 1 first; all 0 on a refusal.
+    pub counts: [u32; CODES],
+    /// 0; or 20 to 22, 1 to 14, 15, 33, 34.
+    pub refusal: u8,
+}
+
 /// Whether a table is tidy.
 #[repr(C)]
 #[derive(Clone, Copy, Debug)]
@@ -320,6 +334,7 @@ const _: () = {
     assert!(size_of::<Image>() == 8);
     assert!(size_of::<Text>() == 8);
     assert!(size_of::<Airtime>() == 8);
+    assert!(size_of::<Census>() == 104);
     assert!(size_of::<Tidiness>() == 2);
     assert!(size_of::<Fault>() == 6);
 };
@@ -395,6 +410,16 @@ extern "C" {
         totals: *mut u64,
         total_count: usize,
     ) -> Airtime;
+    fn pamuklid_census_of(
+        s: Station,
+        kind: u8,
+        direction: u8,
+        e: Edges,
+        image: *const u8,
+        n: usize,
+        first: i64,
+        last: i64,
+    ) -> Census;
 }
 
 /// `pamuklid_version`: the version of the library that is linked.
@@ -534,6 +559,20 @@ pub fn airtime(starts: &[u64], bands: &[u8], seconds: &[u16], totals: &mut [u64]
             totals.len(),
         )
     }
+}
+
+/// `pamuklid_census_of`.
+#[inline]
+pub fn census(
+    s: Station,
+    kind: u8,
+    direction: u8,
+    e: Edges,
+    image: &[u8],
+    first: i64,
+    last: i64,
+) -> Census {
+    unsafe { pamuklid_census_of(s, kind, direction, e, image.as_ptr(), image.len(), first, last) }
 }
 
 /// The figures of rungs, one rung after the other: edges are four figures in the order of a rung.

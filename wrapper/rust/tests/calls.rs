@@ -2,11 +2,11 @@
 //! library's.
 
 use pamuklid::{
-    airtime, ceiling, check, distance, evaluate, fault_of, lower, raise, raw, report, safe_dials,
-    text_at, text_hertz, text_khz, tidy, unmeasured, version, Code, Control, DialRow, DialRows,
-    Direction, Distance, Edge, Edges, Fault, Guidance, Kind, License, Overshoot, Place, Policy,
-    Range, Refusal, ReportRow, Rule, Segment, Sideband, SixtyNotes, Station, Table, Verdict,
-    MOST_LOG, MOST_REPORT, MOST_TEXT, REPORT_ROW, ROW, VERSION,
+    airtime, ceiling, census, check, distance, evaluate, fault_of, lower, raise, raw, report,
+    safe_dials, text_at, text_hertz, text_khz, tidy, unmeasured, version, Code, Control, DialRow,
+    DialRows, Direction, Distance, Edge, Edges, Fault, Guidance, Kind, License, Overshoot, Place,
+    Policy, Range, Refusal, ReportRow, Rule, Segment, Sideband, SixtyNotes, Station, Table, Verdict,
+    MOST_DIALS, MOST_LOG, MOST_REPORT, MOST_TEXT, REPORT_ROW, ROW, VERSION,
 };
 
 static IMAGE: &[u8] = include_bytes!("../../../tools/reference/practice.bin");
@@ -137,6 +137,38 @@ fn reports_refused() {
     let flat = raw::report(IMAGE, 2, &mut bytes);
     assert_eq!((flat.count, flat.refusal), (1, 0));
     assert_eq!(MOST_REPORT, 2 * (256 * 255 / 2) + 256 * 257);
+}
+
+/// The dials about the practice table's edges; the station's own dial is not looked at.
+#[test]
+fn censuses() {
+    let counted = |first, last| {
+        let s = station(f64::NAN);
+        census(&s, Kind::Data, Direction::Originate, &EDGES, IMAGE, first, last)
+    };
+    let met = |first, last| counted(first, last).unwrap().met().collect::<Vec<_>>();
+    let privilege = (Code::Privilege, 10);
+    assert_eq!(met(14_023_790, 14_023_809), [privilege, (Code::Permitted, 10)]);
+    let outside = [(Code::OutsideDataSegment, 600), (Code::NoDataHere, 1), (Code::Permitted, 1)];
+    assert_eq!(met(14_148_200, 14_148_801), outside);
+    let all = counted(13_500_001, 14_500_000).unwrap();
+    assert_eq!(all.total() as usize, MOST_DIALS);
+    assert_eq!(all.count(Code::Permitted), 14_148_200 - 14_023_800 + 1);
+    assert_eq!(all.counts()[15], all.count(Code::Permitted));
+    let parts = [counted(13_500_001, 14_100_000).unwrap(), counted(14_100_001, 14_500_000).unwrap()];
+    for code in Code::ALL {
+        assert_eq!(parts.iter().map(|part| part.count(*code)).sum::<u32>(), all.count(*code));
+    }
+    for (first, last) in [(1, 0), (i64::MAX, i64::MIN), (i64::MIN, i64::MAX), (0, 1_000_000)] {
+        assert_eq!(counted(first, last), Err(Refusal::Stretch));
+    }
+    let far = 1 << 40;
+    for (first, last) in [(far, far + 1), (-far - 1, -far), (i64::MIN, i64::MIN)] {
+        assert_eq!(counted(first, last), Err(Refusal::FarDial));
+    }
+    assert_eq!(met(far, far), [(Code::OutOfBand, 1)]);
+    let flat = raw::census(raw::fresh(), 0, 0, EDGES, &[], 0, -1);
+    assert_eq!((flat.counts, flat.refusal), ([0; raw::CODES], 33));
 }
 
 /// 599 seconds count and 600 do not; the record itself counts, and of equal starts the earlier.

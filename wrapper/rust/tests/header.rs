@@ -139,6 +139,8 @@ fn every_number() {
         ("MOST_REPORT", raw::MOST_REPORT),
         ("MOST_TEXT", raw::MOST_TEXT),
         ("MOST_LOG", raw::MOST_LOG),
+        ("MOST_DIALS", raw::MOST_DIALS),
+        ("CODES", raw::CODES),
         ("IMAGE_LEAST", raw::IMAGE_LEAST),
         ("IMAGE_MOST", raw::IMAGE_MOST),
         ("IMAGE_GENERAL", raw::IMAGE_GENERAL),
@@ -259,6 +261,7 @@ fn plain(word: &str) -> String {
         "uint32_t" => "u32",
         "uint64_t" => "u64",
         "int32_t" => "i32",
+        "int64_t" => "i64",
         "size_t" => "usize",
         _ => "",
     };
@@ -305,6 +308,7 @@ fn parts<'a>(t: &'a [String], mark: &'a str) -> impl Iterator<Item = &'a [String
 fn length(word: &str) -> String {
     match word {
         "MOST_NOTES" | "PAMUKLID_MOST_NOTES" => raw::MOST_NOTES.to_string(),
+        "CODES" | "PAMUKLID_CODES" => raw::CODES.to_string(),
         _ => word.to_owned(),
     }
 }
