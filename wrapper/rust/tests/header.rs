@@ -411,7 +411,7 @@ fn structs_and_calls() {
     let (their_structs, their_calls) = of_rust(&library());
     let names = |of: &Structs| of.keys().cloned().collect::<BTreeSet<_>>();
     assert_eq!(c_structs.len(), 11);
-    assert_eq!(c_calls.len(), 17);
+    assert_eq!(c_calls.len(), 18);
     assert_eq!(names(&structs), names(&c_structs));
     assert_eq!(names(&structs), names(&their_structs));
     for (name, fields) in &structs {
