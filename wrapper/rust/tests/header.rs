@@ -410,7 +410,7 @@ fn structs_and_calls() {
     let (structs, calls) = of_rust(&file("src/raw.rs"));
     let (their_structs, their_calls) = of_rust(&library());
     let names = |of: &Structs| of.keys().cloned().collect::<BTreeSet<_>>();
-    assert_eq!(c_structs.len(), 11);
+    assert_eq!(c_structs.len(), 13);
     assert_eq!(c_calls.len(), 18);
     assert_eq!(names(&structs), names(&c_structs));
     assert_eq!(names(&structs), names(&their_structs));
