@@ -212,6 +212,8 @@ fn refusals() {
             "the log's starts, bands, seconds and totals are not one for each record, or there are \
              more than 65,536 records",
         ),
+        (33, "the first dial lies above the last, or there are more than 1,000,000 dials"),
+        (34, "the first or the last dial is above 2^40 Hz in size"),
     ];
     assert_eq!(texts.len(), Refusal::ALL.len());
     for (&refusal, (number, text)) in Refusal::ALL.iter().zip(texts) {
