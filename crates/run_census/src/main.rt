@@ -1,6 +1,6 @@
 // A program of the gate: it takes the censuses that its input describes, and writes the refusal and the counts of each. Input and output
-// come from tools/reference/census.py, which says what the bytes mean. It stops at input that is malformed. It uses figures, profile,
-// occupancy, air, station, layout, numbers and census.
+// come from tools/reference/census.py, which says what the bytes mean. It stops at input that is malformed. It uses figures, codes,
+// profile, occupancy, air, station, layout, numbers and census.
 use air::Margins;
 use census::Census;
 use occupancy::Edges;
