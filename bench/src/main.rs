@@ -6,6 +6,7 @@
 //!
 //! It prints ratios, library by Rust; with --show also the nanoseconds of each side.
 
+mod censuses;
 mod ffi;
 mod reports;
 mod rust {
@@ -509,6 +510,7 @@ fn main() {
     growth(show, rounds);
     long_lists(show, rounds);
     reports::timed(show, rounds, &hf, &largest);
+    censuses::timed(show, rounds, &hf, &largest);
     texts::timed(show, rounds);
     stacks(&hf);
     stacks(&largest);
