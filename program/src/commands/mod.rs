@@ -1,6 +1,7 @@
 //! The commands, a module each: its arguments, and `answer`. A new one is a module, a case of `Command` and a line in
 //! `Command::answer`.
 
+mod census;
 mod check;
 mod completions;
 mod dials;
@@ -19,6 +20,7 @@ pub enum Command {
     Judge(judge::Args),
     Check(check::Args),
     Report(report::Args),
+    Census(census::Args),
     Dials(dials::Args),
     Distance(distance::Args),
     Text(text::Args),
@@ -32,6 +34,7 @@ impl Command {
             Self::Judge(args) => judge::answer(args, style),
             Self::Check(args) => check::answer(args, style),
             Self::Report(args) => report::answer(args, style),
+            Self::Census(args) => census::answer(args, style),
             Self::Dials(args) => dials::answer(args, style),
             Self::Distance(args) => distance::answer(args, style),
             Self::Text(args) => text::answer(args, style),
