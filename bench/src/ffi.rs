@@ -1,7 +1,7 @@
 //! The library's boundary: the wrapper crate's structs and calls (`pamuklid::raw`).
 
 pub use pamuklid::raw::{
-    Edges, MOST_REPORT, MOST_TEXT, REPORT_ROW, Station, Text, airtime, check, evaluate, fault_of,
+    Edges, MOST_REPORT, MOST_TEXT, REPORT_ROW, Station, Text, airtime, census, check, evaluate, fault_of,
     report, safe_dials, text_at, text_hertz, text_khz,
 };
 

@@ -7,6 +7,7 @@
 //! It prints ratios, library by Rust; with --show also the nanoseconds of each side.
 
 mod airtimes;
+mod censuses;
 mod ffi;
 mod reports;
 mod rust {
@@ -510,6 +511,7 @@ fn main() {
     growth(show, rounds);
     long_lists(show, rounds);
     reports::timed(show, rounds, &hf, &largest);
+    censuses::timed(show, rounds, &hf, &largest);
     texts::timed(show, rounds);
     airtimes::timed(show, rounds);
     stacks(&hf);

@@ -2,6 +2,7 @@
 //! `Command::answer`.
 
 mod airtime;
+mod census;
 mod check;
 mod completions;
 mod convert;
@@ -36,6 +37,7 @@ pub enum Command {
     ///
     /// Exit status: 0 written, 2 not written.
     Lower(convert::Args),
+    Census(census::Args),
     Dials(dials::Args),
     Distance(distance::Args),
     Text(text::Args),
@@ -57,6 +59,7 @@ impl Command {
             Self::Report(args) => report::answer(args, style),
             Self::Raise(args) => convert::answer(args, convert::Way::Raise, style),
             Self::Lower(args) => convert::answer(args, convert::Way::Lower, style),
+            Self::Census(args) => census::answer(args, style),
             Self::Dials(args) => dials::answer(args, style),
             Self::Distance(args) => distance::answer(args, style),
             Self::Text(args) => text::answer(args, style),
