@@ -219,6 +219,21 @@ static void logs(void)
     times("third start one second early", falling, 5, 4);
 }
 
+/* How many dials of a stretch get each code: the signal with its margin lies 1,200 to 1,800 Hz above a dial. */
+static void census(int64_t first, int64_t last)
+{
+    pamuklid_census c =
+        pamuklid_census_of(station_at(14100000, PAMUKLID_CONTROL_LOCAL, POWER_UNKNOWN), PAMUKLID_KIND_DATA,
+                           PAMUKLID_DIRECTION_ORIGINATE, both(1250, 1750), image, image_len, first, last);
+    printf("census from %" PRId64 " to %" PRId64 ":", first, last);
+    if (c.refusal != PAMUKLID_ACCEPTED)
+        printf(" refusal %d", c.refusal);
+    for (int code = 1; code <= PAMUKLID_CODES; code++)
+        if (c.counts[code - 1] != 0)
+            printf(" code %d %" PRIu32, code, c.counts[code - 1]);
+    printf("\n");
+}
+
 struct item {
     const char *title;
     double dial, low, high, power;
@@ -428,6 +443,8 @@ int main(int argc, char **argv)
     distances("sideband absent", PAMUKLID_ABSENT, dials, 1);
     panels();
     logs();
+    census(14095000, 14151000);
+    census(2, 1);
     pamuklid_decision d = pamuklid_unmeasured(station_at(14100000, LOCAL, POWER_UNKNOWN), image,
                                               image_len);
     printf("spectrum not known: ");

@@ -5,7 +5,7 @@ use std::fs;
 use std::process::ExitCode;
 
 use pamuklid::{
-    raw, text_at, text_hertz, text_khz, Control, Decision, Direction, Distance, Edges, Kind,
+    raw, text_at, text_hertz, text_khz, Code, Control, Decision, Direction, Distance, Edges, Kind,
     License, Overshoot, Place, Policy, Refusal, ReportRow, Sideband, Station, Table, MOST_TEXT,
     REPORT_ROW, ROW,
 };
@@ -148,6 +148,22 @@ fn times(title: &str, starts: &[u64], lent: usize) {
     match pamuklid::airtime(starts, &bands[..n], &seconds[..n], &mut totals) {
         Err(r) => print!(" {}", refusal(r)),
         Ok(()) => totals.iter().for_each(|total| print!(" {total}")),
+    }
+    println!();
+}
+
+/// How many dials of a stretch get each code: the signal with its margin lies 1,200 to 1,800 Hz above a dial.
+fn census(image: &[u8], first: i64, last: i64) {
+    let s = station(14_100_000.0, Control::Local, None);
+    let edges = Edges::both(1_250.0, 1_750.0);
+    print!("census from {first} to {last}:");
+    match pamuklid::census(&s, Kind::Data, Direction::Originate, &edges, image, first, last) {
+        Err(r) => print!(" {}", refusal(r)),
+        Ok(c) => (1..=25).filter_map(Code::from_number).for_each(|code| {
+            if c.count(code) != 0 {
+                print!(" code {} {}", code.number(), c.count(code));
+            }
+        }),
     }
     println!();
 }
@@ -347,6 +363,8 @@ fn main() -> ExitCode {
     distances(&image, "sideband absent", None, &dials[..1]);
     panels();
     logs();
+    census(&image, 14_095_000, 14_151_000);
+    census(&image, 2, 1);
     let s = station(14_100_000.0, Control::Local, None);
     println!("spectrum not known: {}", answer(pamuklid::unmeasured(&s, &image)));
     let edges = Edges::both(1_250.0, 1_750.0);
