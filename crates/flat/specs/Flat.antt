@@ -58,13 +58,16 @@ use Rattle.airtime.specs.Airtime.{airtimeTests, airtimeAnswer, airtimeLeft, tot
 use Rattle.airtime.specs.declared.Airtime.{Airtime}
 use Rattle.airtime.specs.declared.Airtime.the-variants.{Totals, Refused as NoTotals}
 use Rattle.flat.specs.declared.FlatAirtime.{FlatAirtime}
-use Rattle.writer.specs.Write.{roomTest, imageAnswer, imageBytes}
+use Rattle.given.specs.Given.{Runs}
+use Rattle.given.specs.declared.Fields.{Fields}
+use Rattle.writer.specs.Write.{roomTest, imageAnswer, imageBytes, imageFrom, writeTests}
 use Rattle.writer.specs.declared.ImageAnswer.{ImageAnswer}
 use Rattle.writer.specs.declared.ImageAnswer.the-variants.{Length as ImageOf, Refused as NoImage}
 use Rattle.convert.specs.Convert.{raiseTests, lowerTests, raisedOf, loweredOf}
 use Rattle.flat.specs.declared.FlatDistance.{FlatDistance}
 use Rattle.flat.specs.declared.FlatStation.{FlatStation}
 use Rattle.flat.specs.declared.FlatEdges.{FlatEdges}
+use Rattle.flat.specs.declared.FlatFields.{FlatFields}
 use Rattle.flat.specs.declared.FlatRange.{FlatRange}
 use Rattle.flat.specs.declared.FlatSegment.{FlatSegment}
 use Rattle.flat.specs.declared.FlatOvershoot.{FlatOvershoot}
@@ -118,6 +121,32 @@ stationOf s =
 -- the edges that arrive
 unfoldable pub edgesOf : FlatEdges → Edges
 edgesOf e = record { power = range (e .«power_low») (e .«power_high»); spectral = range (e .«spectral_low») (e .«spectral_high») }
+
+-- the edition and the general block that arrive
+unfoldable pub fieldsOf : FlatFields → Fields
+fieldsOf f =
+    record {
+      edition = f .edition;
+      «data_limit» = f .«data_limit»;
+      «elsewhere_limit» = f .«elsewhere_limit»;
+      «channel_width» = f .«channel_width»;
+      «carrier_offset» = f .«carrier_offset»;
+      «carrier_tolerance» = f .«carrier_tolerance»;
+      «channel_watts» = f .«channel_watts»;
+      «segment_watts» = f .«segment_watts»;
+      region = f .region;
+      reading = f .reading;
+      flags = f .flags;
+      «channel_band» = f .«channel_band»;
+      sideband = f .sideband;
+      emissions = f .emissions;
+      «data_rule» = f .«data_rule»;
+      «elsewhere_rule» = f .«elsewhere_rule»;
+      «automatic_rule» = f .«automatic_rule»;
+      «channels_rule» = f .«channels_rule»;
+      «emissions_rule» = f .«emissions_rule»;
+      «privileges_rule» = f .«privileges_rule»;
+    }
 
 -- the parts of an answer
 abbrev pub rangeFlat : MaybeRange → FlatRange
@@ -270,6 +299,10 @@ pub record FlatLeft (c : Checked) (image lent left : List ℕ) (answer : FlatIma
   pub answered : answer ≡ imageFlat (imageAnswer c image)
   pub bytes : left ≡ imageBytes c image lent
 
+abbrev pub FlatWritten : FlatFields → Runs → List ℕ → List ℕ → FlatImage → Type 0
+FlatWritten f r lent left answer =
+    FlatLeft (refusalOf (writeTests (fieldsOf f) (f .counts) r lent)) (imageFrom (fieldsOf f) (f .counts) r) lent left answer
+
 abbrev pub FlatRaised : List ℕ → List ℕ → List ℕ → FlatImage → Type 0
 FlatRaised l lent left answer = FlatLeft (refusalOf (raiseTests l ++ roomTest (raisedOf l) lent)) (raisedOf l) lent left answer
 
@@ -310,6 +343,6 @@ pub record FlatTotalled (starts bands seconds lent left : List ℕ) (answer : Fl
   pub answered : answer ≡ airtimeFlat (airtimeAnswer (refusalOf (airtimeTests starts bands seconds lent)) (length starts))
   pub elements : left ≡ airtimeLeft (refusalOf (airtimeTests starts bands seconds lent)) (totalsOf starts bands seconds) lent
 
--- the boundary's version, 0.10.0: 10,000 times the first number, 100 times the second, and the third
+-- the boundary's version, 0.11.0: 10,000 times the first number, 100 times the second, and the third
 abbrev pub versionNumber : ℕ
-versionNumber = 1000
+versionNumber = 1100

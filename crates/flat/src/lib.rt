@@ -1,6 +1,6 @@
 // The records of the boundary to C: flat structs of numbers, made from the answers and read into the station record and the edges. It
 // uses codes, profile, occupancy, air, station, fault, tidy, decision, numbers, ceiling, dials, report, census, distance, number_texts,
-// airtime, writer and convert.
+// airtime, given, writer and convert.
 use air::Margins;
 use airtime::Airtime;
 use ceiling::CeilingAnswer;
@@ -17,6 +17,7 @@ use dials::DialList;
 use distance::Distance;
 use fault::Fault;
 use fault::FaultAnswer;
+use given::Fields;
 use number_texts::TextAnswer;
 use occupancy::Edges;
 use profile::Range;
@@ -31,7 +32,7 @@ ghost use mathlib.Core.Bool.{cond};
 ghost use Prim.Native.Nat.{_<_};
 ghost use Rattle.ceiling.specs.Ceiling.{rungNumber};
 ghost use Rattle.flat.specs.Fits.{FaultFits, RungFits, Counted, ReportCounted, Indexed};
-ghost use Rattle.flat.specs.Flat.{stationRecordOf, stationOf, edgesOf, rangeFlat, segmentFlat, overshootFlat};
+ghost use Rattle.flat.specs.Flat.{stationRecordOf, stationOf, edgesOf, fieldsOf, rangeFlat, segmentFlat, overshootFlat};
 ghost use Rattle.flat.specs.Flat.{guidanceIndex, guidanceFlat, ruleFlat, bandFlat, widthFlat};
 ghost use Rattle.flat.specs.Flat.{faultFlat, tidinessFlat, flatOf, ceilingFlat, dialsFlat, reportFlat, infinityHz, distanceFlat, textFlat};
 ghost use Rattle.flat.specs.Flat.{airtimeFlat, censusFlat, imageFlat};
@@ -60,6 +61,33 @@ pub struct FlatEdges {
     pub power_high: f64,
     pub spectral_low: f64,
     pub spectral_high: f64,
+}
+
+// What an image is written from, beside its records: edition, general block, and the number of records of each table. The watts of
+// edition 1 are not looked at.
+#[repr(C)]
+pub struct FlatFields {
+    pub data_limit: f64,
+    pub elsewhere_limit: f64,
+    pub channel_width: f64,
+    pub carrier_offset: f64,
+    pub carrier_tolerance: f64,
+    pub channel_watts: f64,
+    pub segment_watts: f64,
+    pub edition: u16,
+    pub data_rule: u16,
+    pub elsewhere_rule: u16,
+    pub automatic_rule: u16,
+    pub channels_rule: u16,
+    pub emissions_rule: u16,
+    pub privileges_rule: u16,
+    pub counts: [u16; 9],
+    pub region: u8,
+    pub reading: u8,
+    pub flags: u8,
+    pub channel_band: u8,
+    pub sideband: u8,
+    pub emissions: u8,
 }
 
 // An answer. Absent parts are zero; a refusal has its number, verdict 2 and all else zero.
@@ -260,6 +288,34 @@ pub fn edges_in(e: FlatEdges) -> Edges
         high_hz: e.spectral_high,
     };
     Edges { power, spectral }
+}
+
+// The edition and the general block of the fields.
+pub fn fields_in(f: FlatFields) -> Fields
+    ensures { λ r. ⌜ r ≡ fieldsOf f ⌝ }
+{
+    Fields {
+        edition: f.edition,
+        data_limit: f.data_limit,
+        elsewhere_limit: f.elsewhere_limit,
+        channel_width: f.channel_width,
+        carrier_offset: f.carrier_offset,
+        carrier_tolerance: f.carrier_tolerance,
+        channel_watts: f.channel_watts,
+        segment_watts: f.segment_watts,
+        region: f.region,
+        reading: f.reading,
+        flags: f.flags,
+        channel_band: f.channel_band,
+        sideband: f.sideband,
+        emissions: f.emissions,
+        data_rule: f.data_rule,
+        elsewhere_rule: f.elsewhere_rule,
+        automatic_rule: f.automatic_rule,
+        channels_rule: f.channels_rule,
+        emissions_rule: f.emissions_rule,
+        privileges_rule: f.privileges_rule,
+    }
 }
 
 fn range_flat(m: MaybeRange) -> FlatRange

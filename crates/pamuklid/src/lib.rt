@@ -1,5 +1,5 @@
 // The boundary to C: the public calls, exported, with flat structs of numbers. It uses station, image, fault, tidy, numbers, verdict,
-// ceiling, dials, report, census, distance, number_texts, airtime, convert and flat.
+// ceiling, dials, report, census, distance, number_texts, airtime, writer, convert and flat.
 use flat::FlatAirtime;
 use flat::FlatCeiling;
 use flat::FlatCensus;
@@ -8,6 +8,7 @@ use flat::FlatDials;
 use flat::FlatDistance;
 use flat::FlatEdges;
 use flat::FlatFault;
+use flat::FlatFields;
 use flat::FlatImage;
 use flat::FlatReport;
 use flat::FlatStation;
@@ -21,15 +22,16 @@ ghost use Rattle.station.specs.Station.{freshOf};
 ghost use Rattle.verdict.specs.Verdict.{evaluateOf, unmeasuredOf};
 ghost use Rattle.ceiling.specs.Ceiling.{ceilingOf};
 ghost use Rattle.census.specs.Census.{censusOf};
+ghost use Rattle.given.specs.Given.{runs};
 ghost use Rattle.distance.specs.Distance.{distanceOf};
 ghost use Rattle.number_texts.specs.Text.{atText, khzText, hertzText};
 ghost use Rattle.numbers.specs.Refusal.{refusalNumber};
 ghost use Rattle.flat.specs.Flat.{stationRecordOf, stationOf, edgesOf, faultFlat, tidinessFlat, flatOf};
-ghost use Rattle.flat.specs.Flat.{ceilingFlat, FlatDialed, FlatReported, censusFlat, FlatRaised, FlatLowered, distanceFlat, FlatTexted, FlatTotalled};
+ghost use Rattle.flat.specs.Flat.{ceilingFlat, FlatDialed, FlatReported, censusFlat, FlatWritten, FlatRaised, FlatLowered, distanceFlat, FlatTexted, FlatTotalled};
 ghost use Rattle.flat.specs.Flat.{versionNumber};
 
-// The version of this boundary: 0.10.0.
-pub const VERSION: u32 = 1000;
+// The version of this boundary: 0.11.0.
+pub const VERSION: u32 = 1100;
 
 // The version of this boundary, that of the header: 10,000 times the first number, 100 times the second, and the third.
 #[no_mangle]
@@ -69,6 +71,23 @@ pub extern "C" fn pamuklid_report_of(image: &[u8], license: u8, rows: &mut [u8])
     ensures { λ r. ⌜ FlatReported (now (image .entry)) license (now (rows .entry)) (now (rows .exit)) r ⌝ }
 {
     flat::report_flat(report::report_of(image, license, rows))
+}
+
+// The image of these fields and records, into the bytes lent: three figures, four codes and two rules for each record, the nine tables one
+// after the other.
+#[no_mangle]
+pub extern "C" fn pamuklid_write(
+    f: FlatFields,
+    figures: &[f64],
+    codes: &[u8],
+    rules: &[u16],
+    out: &mut [u8],
+) -> FlatImage
+    ensures { λ r. ⌜ FlatWritten f (runs (now (figures .entry)) (now (codes .entry)) (now (rules .entry))) (now (out .entry)) (now (out .exit)) r ⌝ }
+{
+    let counts = f.counts;
+    let fields = flat::fields_in(f);
+    flat::image_flat(writer::write(fields, &counts, figures, codes, rules, out))
 }
 
 // Edition 2 of an image of edition 1, into the bytes lent.
