@@ -7,11 +7,12 @@
  * its own: equal arguments give equal answers, and calls may run at once on several threads.
  *
  * An image, rungs and floor bytes are lent as a pointer and a count of elements. They are only read,
- * during the call, and no byte of them changes; so are the starts, bands and seconds of a log. Dial rows, the
- * rows of a report, texts, totals and the output of a converter are lent to be written: see
- * pamuklid_safe_dials, pamuklid_report_of, pamuklid_text_at, pamuklid_airtime_of and pamuklid_raise. With a
- * count of 0 a pointer is not followed, but pass one that is not null. What is lent to be written may not
- * overlap what else is lent to the same call.
+ * during the call, and no byte of them changes; so are the starts, bands and seconds of a log, and the
+ * figures, codes and rules of records that are to be an image. Dial rows, the rows of a report, texts, totals
+ * and the bytes for an image that is written, raised or lowered are lent to be written: see
+ * pamuklid_safe_dials, pamuklid_report_of, pamuklid_text_at, pamuklid_airtime_of, pamuklid_write and
+ * pamuklid_raise. With a count of 0 a pointer is not followed, but pass one that is not null. What is lent to
+ * be written may not overlap what else is lent to the same call.
  *
  * Structs go by value. Their sizes and offsets are checked below when this header is compiled (C11 or
  * C++11 on); whether the library is of the header's version is asked once, as the program starts:
@@ -30,17 +31,20 @@
 extern "C" {
 #endif
 
-/* The version of this header, 0.10.0: major * 10000 + minor * 100 + patch. */
-#define PAMUKLID_VERSION 1000
+/* The version of this header, 0.11.0: major * 10000 + minor * 100 + patch. */
+#define PAMUKLID_VERSION 1100
 
 /* Refusals, by number. A call that is refused has answered nothing: send nothing. */
 #define PAMUKLID_ACCEPTED 0                 /* none: the image is accepted, the call was answered */
-#define PAMUKLID_REFUSAL_IMAGE_LENGTH 1     /* an image under 92 or over 65,552 bytes */
+#define PAMUKLID_REFUSAL_IMAGE_LENGTH 1     /* an image under 92 or over 65,552 bytes; by pamuklid_write
+                                               more records than PAMUKLID_IMAGE_MOST_RECORDS */
 #define PAMUKLID_REFUSAL_LETTERS 2          /* an image that does not end with the letters EDGE */
-#define PAMUKLID_REFUSAL_EDITION 3          /* an image of another edition than 1 and 2; by
-                                               pamuklid_raise of another than 1, by pamuklid_lower of
-                                               another than 2 */
-#define PAMUKLID_REFUSAL_COUNTS 4           /* a count over 256, or a length or distance that disagrees */
+#define PAMUKLID_REFUSAL_EDITION 3          /* an image of another edition than 1 and 2, or one to be
+                                               written; by pamuklid_raise of another than 1, by
+                                               pamuklid_lower of another than 2 */
+#define PAMUKLID_REFUSAL_COUNTS 4           /* a count over 256, or a length or distance that disagrees;
+                                               by pamuklid_write a run that has not its elements for
+                                               each record */
 #define PAMUKLID_REFUSAL_CODED_BYTE 5       /* a coded byte of the image outside its values, an unused one
                                                that is not zero, or a table of an absent part not empty */
 #define PAMUKLID_REFUSAL_IMAGE_FIGURE 6     /* a figure of the image not finite, above 2^40 in size, or
@@ -63,7 +67,8 @@ extern "C" {
                                                not finite or above 2^43 in size */
 #define PAMUKLID_REFUSAL_NO_IMAGE 22        /* PAMUKLID_POLICY_RULES and an image of no bytes */
 #define PAMUKLID_REFUSAL_ROWS 23            /* a dial list longer than the whole rows lent; an image
-                                               longer than the bytes lent for it */
+                                               to be written, raised or lowered, longer than the bytes
+                                               lent for it */
 #define PAMUKLID_REFUSAL_TEXT 24            /* a text longer than the bytes lent */
 #define PAMUKLID_REFUSAL_REPORT 25          /* a report longer than the whole rows lent */
 #define PAMUKLID_REFUSAL_WATTS 26           /* an image that is to be lowered, with other watts than 100 and
@@ -74,10 +79,11 @@ extern "C" {
 #define PAMUKLID_REFUSAL_STRETCH 33         /* a first dial above the last, or more dials than
                                                PAMUKLID_MOST_DIALS */
 #define PAMUKLID_REFUSAL_FAR_DIAL 34        /* a first or last dial above 2^40 in size */
-/* They are looked for in the order 20, 21, 22, 1 to 14, 26, 15, 33, 34, 16, 23, 24, 25, 31, 32, each over the whole input
- * before the next; 22 and 1 to 14 with PAMUKLID_POLICY_RULES only, except by the calls that are about the
- * image alone (pamuklid_check, pamuklid_tidy, pamuklid_report_of, pamuklid_fault_of, pamuklid_raise,
- * pamuklid_lower), which have 1 to 14 always. */
+/* They are looked for in the order 20, 21, 22, 1 to 14, 26, 15, 33, 34, 16, 23, 24, 25, 31, 32, each over the
+ * whole input before the next; 22 and 1 to 14 with PAMUKLID_POLICY_RULES only, except by the calls that are
+ * about the image alone (pamuklid_check, pamuklid_tidy, pamuklid_report_of, pamuklid_fault_of, pamuklid_write,
+ * pamuklid_raise, pamuklid_lower), which have 1 to 14 always; pamuklid_write, which puts the letters there
+ * itself, never 2. */
 
 /* pamuklid_station: policy */
 #define PAMUKLID_POLICY_UNSET 0    /* none was chosen: everything is blocked */
@@ -374,8 +380,8 @@ typedef struct {
 } pamuklid_census;
 
 /* An image: its least and its most bytes, of either edition; those of its general block, and how many more
- * edition 2 has there, of each record and of its trailer; the most records of a table; and the offsets of the
- * two bytes that pamuklid_distance_of asks for. */
+ * edition 2 has there, of each record and of its trailer; the most records of a table, and of all nine; and the
+ * offsets of the two bytes that pamuklid_distance_of asks for. */
 #define PAMUKLID_IMAGE_LEAST 92
 #define PAMUKLID_IMAGE_MOST 65552
 #define PAMUKLID_IMAGE_GENERAL 64
@@ -383,10 +389,12 @@ typedef struct {
 #define PAMUKLID_IMAGE_RECORD 32
 #define PAMUKLID_IMAGE_TRAILER 28
 #define PAMUKLID_MOST_RECORDS 256
+#define PAMUKLID_IMAGE_MOST_RECORDS 2045
 #define PAMUKLID_IMAGE_FLAGS 42
 #define PAMUKLID_IMAGE_CHANNEL_BAND 43
 
-/* The tables of an image, in its order */
+/* The tables of an image: how many there are, and their numbers, in its order */
+#define PAMUKLID_TABLES 9
 #define PAMUKLID_TABLE_BANDS 0
 #define PAMUKLID_TABLE_SEGMENTS 1   /* data segments */
 #define PAMUKLID_TABLE_CHANNELS 2   /* of 60 m */
@@ -397,6 +405,59 @@ typedef struct {
 #define PAMUKLID_TABLE_PLAN_DATA 7  /* the band plan's areas for data */
 #define PAMUKLID_TABLE_PLAN_AVOID 8 /* the band plan's areas to avoid */
 #define PAMUKLID_TABLE_NONE 255     /* no table is named */
+
+/* reading: which edges of a signal count, 97.3(a)(8) */
+#define PAMUKLID_READING_POWER 0    /* those by power */
+#define PAMUKLID_READING_SPECTRAL 1 /* those by spectrum */
+#define PAMUKLID_READING_WIDER 2    /* the lower low and the higher high of both */
+
+/* flags of an image: the optional parts that it has, added up. Of a part that is not there the fields are 0 and
+ * the tables empty. */
+#define PAMUKLID_PART_ELSEWHERE 1 /* automatic control outside the automatic segments, 97.221(c) */
+#define PAMUKLID_PART_RESPONSE 2  /* it is only in answer to a station under local or remote control; not
+                                     without PAMUKLID_PART_ELSEWHERE */
+#define PAMUKLID_PART_CHANNELS 4  /* the channels of 60 m */
+#define PAMUKLID_PART_EMISSIONS 8 /* the emissions of 60 m */
+#define PAMUKLID_PART_PLAN 16     /* the voluntary band plan */
+
+/* emissions of an image, added up */
+#define PAMUKLID_EMISSION_DATA 1
+#define PAMUKLID_EMISSION_CW 2
+#define PAMUKLID_EMISSION_TEST 4
+#define PAMUKLID_EMISSION_NOTHING 8
+
+/* What an image is written from, beside its records: its edition, its general block, and how many records each
+ * table has. Where a comment names a part, the field is 0 in an image without it. */
+typedef struct {
+    double data_limit;        /* the general width limit; above 0 */
+    double elsewhere_limit;   /* PAMUKLID_PART_ELSEWHERE: the width limit outside the automatic segments */
+    double channel_width;     /* PAMUKLID_PART_CHANNELS: a channel has half of it to each side of its centre */
+    double carrier_offset;    /* PAMUKLID_PART_CHANNELS: the dial for data is the centre less this */
+    double carrier_tolerance; /* PAMUKLID_PART_CHANNELS: how far the dial, or the middle of a CW signal, may
+                                 be off */
+    double channel_watts;     /* the watts of a 60 m channel; not looked at in edition 1, which goes by 100 */
+    double segment_watts;     /* those of the 60 m segment; not looked at in edition 1, which goes by 9.15 */
+    uint16_t edition;         /* 1 or 2 */
+    uint16_t data_rule;       /* as every rule here: PAMUKLID_RULE_..., others the trustee's own numbers */
+    uint16_t elsewhere_rule;  /* PAMUKLID_PART_ELSEWHERE */
+    uint16_t automatic_rule;  /* of the automatic segments */
+    uint16_t channels_rule;   /* PAMUKLID_PART_CHANNELS */
+    uint16_t emissions_rule;  /* PAMUKLID_PART_EMISSIONS */
+    uint16_t privileges_rule;
+    uint16_t counts[PAMUKLID_TABLES]; /* counts[t] is how many records the table PAMUKLID_TABLE_... has, at
+                                         most PAMUKLID_MOST_RECORDS */
+    uint8_t region;           /* the ITU region, any number; compared with the station's */
+    uint8_t reading;          /* PAMUKLID_READING_... */
+    uint8_t flags;            /* PAMUKLID_PART_..., added up */
+    uint8_t channel_band;     /* PAMUKLID_PART_CHANNELS: the number of the 60 m band */
+    uint8_t sideband;         /* PAMUKLID_PART_CHANNELS: PAMUKLID_SIDEBAND_... of the channels */
+    uint8_t emissions;        /* PAMUKLID_PART_EMISSIONS: PAMUKLID_EMISSION_... on 60 m, added up */
+} pamuklid_fields;
+
+/* How many figures, codes and rules a record has. */
+#define PAMUKLID_RECORD_FIGURES 3 /* low, high, figure */
+#define PAMUKLID_RECORD_CODES 4   /* band, class, emissions, flags of the record */
+#define PAMUKLID_RECORD_RULES 2   /* rule, second rule */
 
 /* place: where a table is wrong */
 #define PAMUKLID_PLACE_NONE 0    /* no place is named */
@@ -450,6 +511,20 @@ pamuklid_tidiness pamuklid_tidy(const uint8_t *image, size_t n);
 pamuklid_report pamuklid_report_of(const uint8_t *image, size_t n, uint8_t license, uint8_t *rows,
                                    size_t rows_len);
 
+/* Writes an image of either edition from its fields and its records. The records of the nine tables come one
+ * after the other, f.counts[t] of table t: the figures of all in figures, PAMUKLID_RECORD_FIGURES each, their
+ * codes in codes, PAMUKLID_RECORD_CODES each, and their rules in rules, PAMUKLID_RECORD_RULES each. Which of
+ * these a table uses, and with which values, stands in docs/IMAGE.md under "Records"; the others are 0.
+ * figure_count, code_count and rule_count count elements. What is written is accepted by pamuklid_check, and
+ * holds the fields and records as given. out[0] to out[length - 1] are written, the image; bytes past it stay
+ * as lent. On a refusal no byte of out changes. out_len of PAMUKLID_IMAGE_MOST has room for every image.
+ * Refusals 1 (more records than PAMUKLID_IMAGE_MOST_RECORDS), 3 (f.edition neither 1 nor 2), 4 (a count over
+ * PAMUKLID_MOST_RECORDS, or a run that has not three figures, four codes or two rules for each record), 5 to
+ * 14 as pamuklid_check has them for the image, 23. */
+pamuklid_image pamuklid_write(pamuklid_fields f, const double *figures, size_t figure_count,
+                              const uint8_t *codes, size_t code_count, const uint16_t *rules,
+                              size_t rule_count, uint8_t *out, size_t out_len);
+
 /* Edition 2 of an image of edition 1, with 100 and 9.15 as its watts. Every call answers the same for it, and
  * pamuklid_lower gives the same bytes back. out[0] to out[length - 1] are written, the image, 16 bytes longer
  * than the first; bytes past it stay as lent. On a refusal no byte of out changes. out_len of
@@ -463,7 +538,7 @@ pamuklid_image pamuklid_raise(const uint8_t *image, size_t n, uint8_t *out, size
 pamuklid_image pamuklid_lower(const uint8_t *image, size_t n, uint8_t *out, size_t out_len);
 
 /* The calls that take or give a station have other symbols in the library since the station has two margins
- * (0.11.0), so that what was compiled with an older header, for a station of 32 bytes, does not link: it is
+ * (0.10.0), so that what was compiled with an older header, for a station of 32 bytes, does not link: it is
  * to be compiled again. In a program they have the names that are used below. */
 #define pamuklid_fresh pamuklid_fresh_2
 #define pamuklid_evaluate pamuklid_evaluate_2
@@ -652,6 +727,29 @@ PAMUKLID_AT(pamuklid_distance, refusal, 9);
 PAMUKLID_SIZE(pamuklid_report, 8);
 PAMUKLID_AT(pamuklid_report, count, 0);
 PAMUKLID_AT(pamuklid_report, refusal, 4);
+
+PAMUKLID_SIZE(pamuklid_fields, 96);
+PAMUKLID_AT(pamuklid_fields, data_limit, 0);
+PAMUKLID_AT(pamuklid_fields, elsewhere_limit, 8);
+PAMUKLID_AT(pamuklid_fields, channel_width, 16);
+PAMUKLID_AT(pamuklid_fields, carrier_offset, 24);
+PAMUKLID_AT(pamuklid_fields, carrier_tolerance, 32);
+PAMUKLID_AT(pamuklid_fields, channel_watts, 40);
+PAMUKLID_AT(pamuklid_fields, segment_watts, 48);
+PAMUKLID_AT(pamuklid_fields, edition, 56);
+PAMUKLID_AT(pamuklid_fields, data_rule, 58);
+PAMUKLID_AT(pamuklid_fields, elsewhere_rule, 60);
+PAMUKLID_AT(pamuklid_fields, automatic_rule, 62);
+PAMUKLID_AT(pamuklid_fields, channels_rule, 64);
+PAMUKLID_AT(pamuklid_fields, emissions_rule, 66);
+PAMUKLID_AT(pamuklid_fields, privileges_rule, 68);
+PAMUKLID_AT(pamuklid_fields, counts, 70);
+PAMUKLID_AT(pamuklid_fields, region, 88);
+PAMUKLID_AT(pamuklid_fields, reading, 89);
+PAMUKLID_AT(pamuklid_fields, flags, 90);
+PAMUKLID_AT(pamuklid_fields, channel_band, 91);
+PAMUKLID_AT(pamuklid_fields, sideband, 92);
+PAMUKLID_AT(pamuklid_fields, emissions, 93);
 
 PAMUKLID_SIZE(pamuklid_image, 8);
 PAMUKLID_AT(pamuklid_image, length, 0);

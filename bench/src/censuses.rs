@@ -88,7 +88,12 @@ pub fn timed(show: bool, rounds: usize, hf: &Subject, largest: &Subject) {
                 },
                 &mut || {},
             );
-            println!("  {:<14} {:>5} records  {dials:>9} dials  {:>8.1}", s.name, s.records, a / dials as f64);
+            println!(
+                "  {:<14} {:>5} records  {dials:>9} dials  {:>8.1}",
+                s.name,
+                s.records,
+                a / dials as f64
+            );
         }
     }
 }

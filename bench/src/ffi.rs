@@ -1,8 +1,8 @@
 //! The library's boundary: the wrapper crate's structs and calls (`pamuklid::raw`).
 
 pub use pamuklid::raw::{
-    Edges, MOST_REPORT, MOST_TEXT, REPORT_ROW, Station, Text, airtime, census, check, evaluate, fault_of,
-    report, safe_dials, text_at, text_hertz, text_khz,
+    Edges, Fields, MOST_REPORT, MOST_TEXT, REPORT_ROW, Station, Text, airtime, census, check,
+    evaluate, fault_of, lower, raise, report, safe_dials, text_at, text_hertz, text_khz, write,
 };
 
 /// A climb with one control frame for all its rungs.

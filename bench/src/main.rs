@@ -9,6 +9,7 @@
 mod airtimes;
 mod censuses;
 mod ffi;
+mod images;
 mod reports;
 mod rust {
     include!(concat!(env!("OUT_DIR"), "/rust.rs"));
@@ -514,9 +515,11 @@ fn main() {
     censuses::timed(show, rounds, &hf, &largest);
     texts::timed(show, rounds);
     airtimes::timed(show, rounds);
+    images::timed(show, rounds);
     stacks(&hf);
     stacks(&largest);
     reports::stacks();
     texts::stacks();
     airtimes::stacks();
+    images::stacks();
 }

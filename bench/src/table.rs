@@ -1,6 +1,7 @@
 //! A made-up table of any size, as an image for the library and as a `Profile` for the Rust. Its
 //! figures are not Part 97's.
 
+use crate::ffi::Fields;
 use crate::rust::regulatory::profile::{
     Automatic, Band, BandPlan, BandwidthRule, Channel, Channels, DataLimit, Elsewhere, Excluded,
     PlanArea, PowerLimit, Privilege, Privileges, Segment, SixtyEmissions,
@@ -200,6 +201,38 @@ impl Table {
         out.extend(1u16.to_le_bytes());
         out.extend(b"EDGE");
         out
+    }
+
+    /// What the image is written from: fields, and the figures, codes and rules of its records.
+    pub fn given(&self) -> (Fields, Vec<f64>, Vec<u8>, Vec<u16>) {
+        let fields = Fields {
+            data_limit: 2_800.0,
+            elsewhere_limit: 500.0,
+            channel_width: 2_800.0,
+            carrier_offset: 1_500.0,
+            carrier_tolerance: 50.0,
+            edition: 1,
+            data_rule: RULE + 2,
+            elsewhere_rule: RULE + 2,
+            automatic_rule: RULE + 2,
+            channels_rule: RULE + 2,
+            emissions_rule: RULE + 2,
+            privileges_rule: RULE + 2,
+            counts: std::array::from_fn(|t| self.tables[t].len() as u16),
+            region: 2,
+            reading: 2,
+            flags: 31,
+            channel_band: CHANNEL_BAND as u8,
+            emissions: 3,
+            ..Fields::default()
+        };
+        let records = || self.tables.iter().flatten();
+        (
+            fields,
+            records().flat_map(|r| [r.low, r.high, r.figure]).collect(),
+            records().flat_map(|r| [r.band, r.class, r.emissions, r.flags]).collect(),
+            records().flat_map(|r| [r.rule, r.second_rule]).collect(),
+        )
     }
 
     pub fn profile(&self) -> Profile {

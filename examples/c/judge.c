@@ -191,6 +191,127 @@ static void reports(void)
     report("second band up to 16000000 Hz", copy, image_len, PAMUKLID_LICENSE_GENERAL, 16);
 }
 
+/* The practice table as it would be typed in, a record to a line. Which table uses what: docs/IMAGE.md. */
+static const double figures[] = {
+    14000000, 14350000, 0, /* bands: low, high */
+    5330000,  5407000,  0,
+    14000000, 14150000, 0, /* data segments: low, high, and here no limit of their own */
+    5351500,  5366500,  0,
+    5332000,  0,        0, /* channel: its centre */
+    14025000, 14150000, 0, /* privileges: low, high */
+    5330000,  5407000,  0,
+    14095000, 14099500, 0, /* automatic segments: low, high */
+    14100500, 14112000, 0,
+};
+static const uint8_t codes[] = {
+    20, 0, 0, 0, /* bands: their numbers */
+    60, 0, 0, 0,
+    20, 0, 0, 0, /* data segments: those of their bands */
+    60, 0, 0, 0,
+    0,  0, 0, 0, /* channel */
+    0,  PAMUKLID_LICENSE_GENERAL, 0, 0, /* privileges: the class; every emission */
+    0,  PAMUKLID_LICENSE_GENERAL, 0, 0,
+    0,  0, 0, 0, /* automatic segments */
+    0,  0, 0, 0,
+};
+static const uint16_t rules[] = {
+    0,  0, /* bands */
+    0,  0,
+    13, 0, /* data segments: their rules, of the trustee's own list */
+    14, 0,
+    0,  0, /* channel */
+    0,  0, /* privileges */
+    0,  0,
+    0,  0, /* automatic segments */
+    0,  0,
+};
+
+static pamuklid_fields practice_fields(void)
+{
+    pamuklid_fields f;
+    memset(&f, 0, sizeof f);
+    f.edition = 1;
+    f.data_limit = 2800;
+    f.region = 2;
+    f.reading = PAMUKLID_READING_WIDER;
+    f.flags = PAMUKLID_PART_ELSEWHERE | PAMUKLID_PART_RESPONSE | PAMUKLID_PART_CHANNELS |
+              PAMUKLID_PART_EMISSIONS;
+    f.elsewhere_limit = 500;
+    f.channel_band = 60;
+    f.channel_width = 2800;
+    f.carrier_offset = 1500;
+    f.carrier_tolerance = 50;
+    f.sideband = PAMUKLID_SIDEBAND_UPPER;
+    f.emissions = PAMUKLID_EMISSION_DATA | PAMUKLID_EMISSION_CW;
+    f.data_rule = 7;
+    f.elsewhere_rule = 8;
+    f.automatic_rule = 9;
+    f.channels_rule = 10;
+    f.emissions_rule = 11;
+    f.privileges_rule = 12;
+    f.counts[PAMUKLID_TABLE_BANDS] = 2;
+    f.counts[PAMUKLID_TABLE_SEGMENTS] = 2;
+    f.counts[PAMUKLID_TABLE_CHANNELS] = 1;
+    f.counts[PAMUKLID_TABLE_PRIVILEGES] = 2;
+    f.counts[PAMUKLID_TABLE_AUTOMATIC] = 2;
+    return f;
+}
+
+static pamuklid_image written(pamuklid_fields f, uint8_t *out, size_t room)
+{
+    return pamuklid_write(f, figures, sizeof figures / sizeof figures[0], codes, sizeof codes, rules,
+                          sizeof rules / sizeof rules[0], out, room);
+}
+
+/* An image that was written, raised or lowered, and whether it is the practice image. */
+static void print_made(const char *title, size_t room, pamuklid_image made, const uint8_t *bytes)
+{
+    printf("%s with room for %zu: ", title, room);
+    if (made.refusal != PAMUKLID_ACCEPTED) {
+        printf("refusal %d\n", made.refusal);
+        return;
+    }
+    printf("%" PRIu32 " bytes%s\n", made.length,
+           made.length == image_len && memcmp(bytes, image, image_len) == 0 ? ", the image's" : "");
+}
+
+/* Data on the channel of 60 m. */
+static void channel(const char *title, double power, const uint8_t *bytes, size_t n)
+{
+    pamuklid_decision d = pamuklid_evaluate(station_at(5330550, PAMUKLID_CONTROL_LOCAL, power),
+                                            PAMUKLID_KIND_DATA, PAMUKLID_DIRECTION_ORIGINATE,
+                                            both(1250, 1750), bytes, n);
+    printf("%s, data at %.12g W, dial 5330550: ", title, power);
+    print_decision(&d);
+}
+
+/* The practice table written in edition 1, raised to edition 2 and lowered again; then in edition 2 with other
+ * watts, which edition 1 cannot hold. */
+static void editions(void)
+{
+    static uint8_t first[PAMUKLID_IMAGE_MOST], second[PAMUKLID_IMAGE_MOST], lowered[PAMUKLID_IMAGE_MOST];
+    pamuklid_fields f = practice_fields();
+    print_made("edition 1 written", 379, written(f, first, 379), first);
+    pamuklid_image one = written(f, first, sizeof first);
+    print_made("edition 1 written", sizeof first, one, first);
+    pamuklid_image two = pamuklid_raise(first, one.length, second, sizeof second);
+    print_made("edition 1 raised", sizeof second, two, second);
+    channel("edition 1", 100.125, first, one.length);
+    channel("edition 2", 100.125, second, two.length);
+    print_made("edition 2 raised", sizeof lowered,
+               pamuklid_raise(second, two.length, lowered, sizeof lowered), lowered);
+    print_made("edition 2 lowered", sizeof lowered,
+               pamuklid_lower(second, two.length, lowered, sizeof lowered), lowered);
+    f.edition = 2;
+    f.channel_watts = 50;
+    f.segment_watts = 9.15;
+    two = written(f, second, sizeof second);
+    print_made("edition 2 of 50 and 9.15 W written", sizeof second, two, second);
+    channel("edition 2 of 50 and 9.15 W", 100, second, two.length);
+    print_made("edition 2 of 50 and 9.15 W lowered", sizeof lowered,
+               pamuklid_lower(second, two.length, lowered, sizeof lowered), lowered);
+}
+
 /* The seconds on the air of the ten minutes up to each record of a log. */
 static void times(const char *title, const uint64_t *starts, size_t n, size_t lent)
 {
@@ -433,6 +554,7 @@ int main(int argc, char **argv)
     printf("version %" PRIu32 "\n", pamuklid_version());
     images();
     reports();
+    editions();
     verdicts();
     margins();
     ceilings();

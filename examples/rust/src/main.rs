@@ -5,9 +5,9 @@ use std::fs;
 use std::process::ExitCode;
 
 use pamuklid::{
-    raw, text_at, text_hertz, text_khz, Code, Control, Decision, Direction, Distance, Edges, Kind,
-    License, Overshoot, Place, Policy, Refusal, ReportRow, Sideband, Station, Table, MOST_TEXT,
-    REPORT_ROW, ROW,
+    raw, text_at, text_hertz, text_khz, Code, Control, Decision, Direction, Distance, Edges,
+    Fields, Kind, License, Overshoot, Place, Policy, Record, Refusal, ReportRow, Sideband, Station,
+    Table, Tables, MOST_TEXT, REPORT_ROW, ROW,
 };
 
 fn station(dial_hz: f64, control: Control, power_w: Option<f64>) -> Station {
@@ -137,6 +137,104 @@ fn reports(image: &[u8]) {
         high.copy_from_slice(&16_000_000.0f64.to_bits().to_le_bytes());
         report("second band up to 16000000 Hz", &copy, general, 16);
     }
+}
+
+/// The practice table as it would be typed in, in edition 1.
+fn practice_fields() -> Fields {
+    Fields {
+        edition: 1,
+        data_limit: 2_800.0,
+        region: 2,
+        reading: raw::READING_WIDER,
+        flags: raw::PART_ELSEWHERE | raw::PART_RESPONSE | raw::PART_CHANNELS | raw::PART_EMISSIONS,
+        elsewhere_limit: 500.0,
+        channel_band: 60,
+        channel_width: 2_800.0,
+        carrier_offset: 1_500.0,
+        carrier_tolerance: 50.0,
+        sideband: Sideband::Upper.number(),
+        emissions: raw::EMISSION_DATA | raw::EMISSION_CW,
+        data_rule: 7,
+        elsewhere_rule: 8,
+        automatic_rule: 9,
+        channels_rule: 10,
+        emissions_rule: 11,
+        privileges_rule: 12,
+        ..Fields::default()
+    }
+}
+
+fn range(low: f64, high: f64) -> Record {
+    Record { low, high, ..Record::default() }
+}
+
+fn written<'a>(fields: &Fields, out: &'a mut [u8]) -> Result<&'a [u8], Refusal> {
+    let general = License::General.number();
+    let tables = Tables {
+        bands: &[
+            Record { band: 20, ..range(14_000_000.0, 14_350_000.0) },
+            Record { band: 60, ..range(5_330_000.0, 5_407_000.0) },
+        ],
+        segments: &[
+            Record { band: 20, rule: 13, ..range(14_000_000.0, 14_150_000.0) },
+            Record { band: 60, rule: 14, ..range(5_351_500.0, 5_366_500.0) },
+        ],
+        // by its centre
+        channels: &[Record { low: 5_332_000.0, ..Record::default() }],
+        privileges: &[
+            Record { class: general, ..range(14_025_000.0, 14_150_000.0) },
+            Record { class: general, ..range(5_330_000.0, 5_407_000.0) },
+        ],
+        automatic: &[range(14_095_000.0, 14_099_500.0), range(14_100_500.0, 14_112_000.0)],
+        ..Tables::default()
+    };
+    pamuklid::write(fields, &tables, out)
+}
+
+/// An image that was written, raised or lowered, and whether it is the practice image.
+fn print_made(title: &str, room: usize, made: Result<&[u8], Refusal>, image: &[u8]) {
+    let text = match made {
+        Err(r) => refusal(r),
+        Ok(bytes) => {
+            let whose = if bytes == image { ", the image's" } else { "" };
+            format!("{} bytes{whose}", bytes.len())
+        }
+    };
+    println!("{title} with room for {room}: {text}");
+}
+
+/// Data on the channel of 60 m.
+fn channel(title: &str, watts: f64, image: &[u8]) {
+    let s = station(5_330_550.0, Control::Local, Some(watts));
+    let edges = Edges::both(1_250.0, 1_750.0);
+    let d = pamuklid::evaluate(&s, Kind::Data, Direction::Originate, &edges, image);
+    println!("{title}, data at {watts} W, dial 5330550: {}", answer(d));
+}
+
+/// The practice table written in edition 1, raised to edition 2 and lowered again; then in edition 2 with
+/// other watts, which edition 1 cannot hold.
+fn editions(image: &[u8]) {
+    const MOST: usize = raw::IMAGE_MOST;
+    let (mut first, mut second, mut lowered) = (vec![0; MOST], vec![0; MOST], vec![0; MOST]);
+    let fields = practice_fields();
+    print_made("edition 1 written", 379, written(&fields, &mut first[..379]), image);
+    let one = written(&fields, &mut first);
+    print_made("edition 1 written", MOST, one, image);
+    let one = one.unwrap_or_default();
+    let two = pamuklid::raise(one, &mut second);
+    print_made("edition 1 raised", MOST, two, image);
+    let two = two.unwrap_or_default();
+    channel("edition 1", 100.125, one);
+    channel("edition 2", 100.125, two);
+    print_made("edition 2 raised", MOST, pamuklid::raise(two, &mut lowered), image);
+    print_made("edition 2 lowered", MOST, pamuklid::lower(two, &mut lowered), image);
+    let other = Fields { edition: 2, channel_watts: 50.0, segment_watts: 9.15, ..fields };
+    let two = written(&other, &mut second);
+    print_made("edition 2 of 50 and 9.15 W written", MOST, two, image);
+    let two = two.unwrap_or_default();
+    channel("edition 2 of 50 and 9.15 W", 100.0, two);
+    let low = pamuklid::lower(two, &mut lowered);
+    print_made("edition 2 of 50 and 9.15 W lowered", MOST, low, image);
 }
 
 /// The seconds on the air of the ten minutes up to each record of a log.
@@ -350,6 +448,7 @@ fn main() -> ExitCode {
     println!("version {}", raw::version());
     images(&image);
     reports(&image);
+    editions(&image);
     verdicts(&image);
     margins(&image);
     let rungs =

@@ -259,14 +259,16 @@ numbered! {
     /// Why a call was not answered. The order of looking: 20, 21, 22, 1 to 14, 15, 16, 26,
     /// 23, 24, 25.
     Refusal: "refusal" {
-        /// The image has under 92 or over 65,552 bytes.
+        /// The image has under 92 or over 65,552 bytes; or it is to be written, with more records than
+        /// 2,045.
         ImageLength = 1 "image_length",
         /// The image does not end with its letters.
         Letters = 2 "letters",
-        /// The image is of another edition than 1 and 2; or it is to be raised or lowered, and of another
-        /// edition than that asks for.
+        /// The image is of another edition than 1 and 2, or is to be written as one; or it is to be raised
+        /// or lowered, and of another edition than that asks for.
         Edition = 3 "edition",
-        /// A count of the image is over 256, or its length or distance disagrees with the counts.
+        /// A count of the image is over 256, or its length or distance disagrees with the counts; or a
+        /// table that is to be written has more records than 256.
         Counts = 4 "counts",
         /// A coded byte of the image is outside its values, an unused one is not zero, or a table of
         /// an absent part is not empty.
@@ -302,7 +304,8 @@ numbered! {
         /// [`Policy::Rules`] and an image of no bytes.
         NoImage = 22 "no_image",
         /// The dial list is longer than the whole rows lent: those to write, or those to ask a
-        /// distance of. Or an image is longer than the bytes lent for it.
+        /// distance of. Or an image that is to be written, raised or lowered is longer than the bytes
+        /// lent for it.
         Rows = 23 "rows",
         /// The text of a figure is longer than the bytes lent.
         Text = 24 "text",

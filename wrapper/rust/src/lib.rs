@@ -11,6 +11,7 @@
 //! | [`fault_of`] | where a table is wrong |
 //! | [`tidy`] | whether an image's table is tidy |
 //! | [`report`] | where records of a table overlap, and where a class has no privilege for data |
+//! | [`write()`] | an image from its fields and its records |
 //! | [`raise`], [`lower`] | an image of one edition as one of the other |
 //! | [`Station::fresh`] | a fresh station, in region 2 with margins of 50 Hz: it permits nothing |
 //! | [`evaluate`] | the verdict on a transmission |
@@ -24,9 +25,9 @@
 //! | [`airtime`] | of each record of a log the seconds on the air of the ten minutes up to it |
 //!
 //! No call keeps what it is lent or has a state of its own: equal arguments give equal answers, and
-//! calls may run at once on several threads. Images, edges, rungs and logs are only read. Frequencies are
-//! in hertz, power in watts. Every figure is accepted as an argument, NaN and infinities too; what is
-//! outside its values is answered by a [`Refusal`].
+//! calls may run at once on several threads. Images, records, edges, rungs and logs are only read.
+//! Frequencies are in hertz, power in watts. Every figure is accepted as an argument, NaN and infinities
+//! too; what is outside its values is answered by a [`Refusal`].
 //!
 //! **Send only what was judged and not blocked**: a refusal is not a verdict, and nothing may be
 //! sent on it.
@@ -92,6 +93,7 @@ mod station;
 mod texts;
 mod version;
 mod words;
+mod write;
 
 pub use answer::{Ceiling, Decision, PowerNotes, Range, Segment, SixtyNotes};
 pub use census::Census;
@@ -107,6 +109,7 @@ pub use station::Station;
 pub use texts::{text_at, text_hertz, text_khz, MOST_TEXT};
 pub use version::{version, Version, VERSION};
 pub use words::{Hertz, Kilohertz};
+pub use write::{write, Fields, Record, Tables};
 
 /// Whether an image is accepted; else the first of the refusals 1 to 14 that it meets.
 ///

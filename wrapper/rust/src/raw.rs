@@ -10,7 +10,7 @@
 use std::mem::size_of;
 
 /// The version of the library that this crate was written for: major * 10000 + minor * 100 + patch.
-pub const VERSION: u32 = 1000;
+pub const VERSION: u32 = 1100;
 /// A control, license or sideband that is not known.
 pub const ABSENT: u8 = 255;
 /// The rung of a ceiling that has none.
@@ -58,10 +58,45 @@ pub const IMAGE_RECORD: usize = 32;
 pub const IMAGE_TRAILER: usize = 28;
 /// The most records that a table of an image can have.
 pub const MOST_RECORDS: usize = 256;
+/// The most records that all nine tables of an image can have.
+pub const IMAGE_MOST_RECORDS: usize = 2_045;
+/// The tables of an image.
+pub const TABLES: usize = 9;
+/// The figures of a record: low, high, figure.
+pub const RECORD_FIGURES: usize = 3;
+/// The codes of a record: band, class, emissions, flags.
+pub const RECORD_CODES: usize = 4;
+/// The rules of a record: rule, second rule.
+pub const RECORD_RULES: usize = 2;
 /// The offset of an image's flags, which the distance of a dial asks for.
 pub const IMAGE_FLAGS: usize = 42;
 /// The offset of the number of an image's channel band, which the distance of a dial asks for.
 pub const IMAGE_CHANNEL_BAND: usize = 43;
+/// Reading of an image: the edges by power count.
+pub const READING_POWER: u8 = 0;
+/// Reading of an image: the edges by spectrum count.
+pub const READING_SPECTRAL: u8 = 1;
+/// Reading of an image: the lower low edge and the higher high edge of both count.
+pub const READING_WIDER: u8 = 2;
+/// Flag of an image: it has a rule for automatic control outside the automatic segments, §97.221(c).
+pub const PART_ELSEWHERE: u8 = 1;
+/// Flag of an image: that control is only in answer to a station under local or remote control; not
+/// without [`PART_ELSEWHERE`].
+pub const PART_RESPONSE: u8 = 2;
+/// Flag of an image: it has the channels of 60 m.
+pub const PART_CHANNELS: u8 = 4;
+/// Flag of an image: it has the emissions of 60 m.
+pub const PART_EMISSIONS: u8 = 8;
+/// Flag of an image: it has the voluntary band plan.
+pub const PART_PLAN: u8 = 16;
+/// Emission of an image: data.
+pub const EMISSION_DATA: u8 = 1;
+/// Emission of an image: CW.
+pub const EMISSION_CW: u8 = 2;
+/// Emission of an image: a test.
+pub const EMISSION_TEST: u8 = 4;
+/// Emission of an image: a keying without audio.
+pub const EMISSION_NOTHING: u8 = 8;
 
 /// The station's record. Negative zero in a figure reads as zero.
 #[repr(C)]
@@ -107,6 +142,55 @@ pub struct Edges {
     pub spectral_low: f64,
     /// The upper edge by spectrum.
     pub spectral_high: f64,
+}
+
+/// What an image is written from, beside its records: its edition, its general block, and how many records
+/// each table has. [`Fields`](crate::Fields) says what each means; that has no counts.
+#[repr(C)]
+#[derive(Clone, Copy, Debug, Default)]
+pub struct Fields {
+    /// The general width limit.
+    pub data_limit: f64,
+    /// The width limit outside the automatic segments.
+    pub elsewhere_limit: f64,
+    /// The width of a 60 m channel.
+    pub channel_width: f64,
+    /// What the dial for data on a channel is below its centre.
+    pub carrier_offset: f64,
+    /// How far the dial may be off.
+    pub carrier_tolerance: f64,
+    /// The watts of a 60 m channel; not looked at in edition 1.
+    pub channel_watts: f64,
+    /// The watts of the 60 m segment; not looked at in edition 1.
+    pub segment_watts: f64,
+    /// 1 or 2.
+    pub edition: u16,
+    /// The rule of the general width limit: [`Rule`](crate::Rule), by its number, as the next five.
+    pub data_rule: u16,
+    /// That of control outside the automatic segments.
+    pub elsewhere_rule: u16,
+    /// That of the automatic segments.
+    pub automatic_rule: u16,
+    /// That of the channels.
+    pub channels_rule: u16,
+    /// That of the emissions of 60 m.
+    pub emissions_rule: u16,
+    /// That of the privileges.
+    pub privileges_rule: u16,
+    /// How many records each [`Table`](crate::Table) has, by its number.
+    pub counts: [u16; TABLES],
+    /// The ITU region.
+    pub region: u8,
+    /// [`READING_POWER`], [`READING_SPECTRAL`] or [`READING_WIDER`].
+    pub reading: u8,
+    /// [`PART_ELSEWHERE`] and its like, added up.
+    pub flags: u8,
+    /// The number of the 60 m band.
+    pub channel_band: u8,
+    /// The [`Sideband`](crate::Sideband) of the channels, by its number.
+    pub sideband: u8,
+    /// [`EMISSION_DATA`] and its like, added up.
+    pub emissions: u8,
 }
 
 /// An answer. A part that is absent is all zero. A refusal has `refusal`, verdict 2 and all else zero.
@@ -326,6 +410,7 @@ pub struct Fault {
 const _: () = {
     assert!(size_of::<Station>() == 40);
     assert!(size_of::<Edges>() == 32);
+    assert!(size_of::<Fields>() == 96);
     assert!(size_of::<Decision>() == 360);
     assert!(size_of::<Ceiling>() == 368);
     assert!(size_of::<Dials>() == 8);
@@ -351,6 +436,17 @@ extern "C" {
         rows: *mut u8,
         rows_len: usize,
     ) -> Report;
+    fn pamuklid_write(
+        f: Fields,
+        figures: *const f64,
+        figure_count: usize,
+        codes: *const u8,
+        code_count: usize,
+        rules: *const u16,
+        rule_count: usize,
+        out: *mut u8,
+        out_len: usize,
+    ) -> Image;
     fn pamuklid_raise(image: *const u8, n: usize, out: *mut u8, out_len: usize) -> Image;
     fn pamuklid_lower(image: *const u8, n: usize, out: *mut u8, out_len: usize) -> Image;
     #[link_name = "pamuklid_fresh_2"]
@@ -451,6 +547,31 @@ pub fn tidy(image: &[u8]) -> Tidiness {
 pub fn report(image: &[u8], license: u8, rows: &mut [u8]) -> Report {
     let (at, len) = (rows.as_mut_ptr(), rows.len());
     unsafe { pamuklid_report_of(image.as_ptr(), image.len(), license, at, len) }
+}
+
+/// `pamuklid_write`: the records of the nine tables one after the other, [`RECORD_FIGURES`],
+/// [`RECORD_CODES`] and [`RECORD_RULES`] each.
+#[inline]
+pub fn write(
+    fields: Fields,
+    figures: &[f64],
+    codes: &[u8],
+    rules: &[u16],
+    out: &mut [u8],
+) -> Image {
+    unsafe {
+        pamuklid_write(
+            fields,
+            figures.as_ptr(),
+            figures.len(),
+            codes.as_ptr(),
+            codes.len(),
+            rules.as_ptr(),
+            rules.len(),
+            out.as_mut_ptr(),
+            out.len(),
+        )
+    }
 }
 
 /// `pamuklid_raise`.

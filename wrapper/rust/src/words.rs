@@ -433,7 +433,9 @@ impl Refusal {
             Self::Watts => "stay with edition 2, or have its watts set to 100 and 9.15",
             Self::Starts => "put the log's records in the order of their starts",
             Self::Runs => "give at most 65,536 records, with as many of each",
-            Self::Stretch => "give the lower dial first, and split a stretch of more than 1,000,000 dials",
+            Self::Stretch => {
+                "give the lower dial first, and split a stretch of more than 1,000,000 dials"
+            }
             Self::FarDial => "give dials from -2^40 to 2^40 Hz",
         }
     }

@@ -5,8 +5,8 @@ use pamuklid::{
     airtime, ceiling, census, check, distance, evaluate, fault_of, lower, raise, raw, report,
     safe_dials, text_at, text_hertz, text_khz, tidy, unmeasured, version, Code, Control, DialRow,
     DialRows, Direction, Distance, Edge, Edges, Fault, Guidance, Kind, License, Overshoot, Place,
-    Policy, Range, Refusal, ReportRow, Rule, Segment, Sideband, SixtyNotes, Station, Table, Verdict,
-    MOST_DIALS, MOST_LOG, MOST_REPORT, MOST_TEXT, REPORT_ROW, ROW, VERSION,
+    Policy, Range, Refusal, ReportRow, Rule, Segment, Sideband, SixtyNotes, Station, Table,
+    Verdict, MOST_DIALS, MOST_LOG, MOST_REPORT, MOST_TEXT, REPORT_ROW, ROW, VERSION,
 };
 
 static IMAGE: &[u8] = include_bytes!("../../../tools/reference/practice.bin");
@@ -155,7 +155,8 @@ fn censuses() {
     assert_eq!(all.total() as usize, MOST_DIALS);
     assert_eq!(all.count(Code::Permitted), 14_148_200 - 14_023_800 + 1);
     assert_eq!(all.counts()[15], all.count(Code::Permitted));
-    let parts = [counted(13_500_001, 14_100_000).unwrap(), counted(14_100_001, 14_500_000).unwrap()];
+    let parts =
+        [counted(13_500_001, 14_100_000).unwrap(), counted(14_100_001, 14_500_000).unwrap()];
     for code in Code::ALL {
         assert_eq!(parts.iter().map(|part| part.count(*code)).sum::<u32>(), all.count(*code));
     }

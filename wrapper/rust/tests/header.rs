@@ -148,11 +148,33 @@ fn every_number() {
         ("IMAGE_RECORD", raw::IMAGE_RECORD),
         ("IMAGE_TRAILER", raw::IMAGE_TRAILER),
         ("MOST_RECORDS", raw::MOST_RECORDS),
+        ("IMAGE_MOST_RECORDS", raw::IMAGE_MOST_RECORDS),
+        ("TABLES", raw::TABLES),
+        ("RECORD_FIGURES", raw::RECORD_FIGURES),
+        ("RECORD_CODES", raw::RECORD_CODES),
+        ("RECORD_RULES", raw::RECORD_RULES),
         ("IMAGE_FLAGS", raw::IMAGE_FLAGS),
         ("IMAGE_CHANNEL_BAND", raw::IMAGE_CHANNEL_BAND),
     ] {
         numbers.take(name, size as i64);
     }
+    for (name, code) in [
+        ("READING_POWER", raw::READING_POWER),
+        ("READING_SPECTRAL", raw::READING_SPECTRAL),
+        ("READING_WIDER", raw::READING_WIDER),
+        ("PART_ELSEWHERE", raw::PART_ELSEWHERE),
+        ("PART_RESPONSE", raw::PART_RESPONSE),
+        ("PART_CHANNELS", raw::PART_CHANNELS),
+        ("PART_EMISSIONS", raw::PART_EMISSIONS),
+        ("PART_PLAN", raw::PART_PLAN),
+        ("EMISSION_DATA", raw::EMISSION_DATA),
+        ("EMISSION_CW", raw::EMISSION_CW),
+        ("EMISSION_TEST", raw::EMISSION_TEST),
+        ("EMISSION_NOTHING", raw::EMISSION_NOTHING),
+    ] {
+        numbers.take(name, code.into());
+    }
+    assert_eq!(raw::TABLES, Table::ALL.len());
     for (name, at) in ROW_PARTS {
         numbers.take(&format!("ROW_{name}"), at as i64);
     }
@@ -309,6 +331,7 @@ fn length(word: &str) -> String {
     match word {
         "MOST_NOTES" | "PAMUKLID_MOST_NOTES" => raw::MOST_NOTES.to_string(),
         "CODES" | "PAMUKLID_CODES" => raw::CODES.to_string(),
+        "TABLES" | "PAMUKLID_TABLES" => raw::TABLES.to_string(),
         _ => word.to_owned(),
     }
 }
@@ -410,8 +433,8 @@ fn structs_and_calls() {
     let (structs, calls) = of_rust(&file("src/raw.rs"));
     let (their_structs, their_calls) = of_rust(&library());
     let names = |of: &Structs| of.keys().cloned().collect::<BTreeSet<_>>();
-    assert_eq!(c_structs.len(), 13);
-    assert_eq!(c_calls.len(), 18);
+    assert_eq!(c_structs.len(), 14);
+    assert_eq!(c_calls.len(), 19);
     assert_eq!(names(&structs), names(&c_structs));
     assert_eq!(names(&structs), names(&their_structs));
     for (name, fields) in &structs {

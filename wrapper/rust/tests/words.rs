@@ -42,7 +42,7 @@ fn figures() {
     reads(range(5_330_600.0, 5_333_450.0), "5330.6 to 5333.450 kHz");
     let segment = Segment { range: range(14_095_000.0, 14_099_500.0), rule: Rule::Table(13) };
     reads(segment, "14095 to 14099.5 kHz (rule 13 of the table)");
-    reads(Version { major: 0, minor: 10, patch: 0 }, "0.10.0");
+    reads(Version { major: 0, minor: 11, patch: 0 }, "0.11.0");
     reads(Version::from_number(123_456), "12.34.56");
 }
 
