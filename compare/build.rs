@@ -8,10 +8,11 @@
 //! - Where a table is wrong is compared if the library has `pamuklid_fault_of` (cfg `fault`); else the
 //!   driver links without it and says "fault: not compared".
 //! - With the feature `unequal` the copy is no longer the Rust unchanged: it has an upper margin beside its
-//!   own, by the edits of `PARTED` and nothing else.
+//!   own, by the edits of `PARTED` and nothing else. With the feature `watts` it has the 60 m power limits from
+//!   its caller, by those of `AMENDED`.
 //! - `PAMUKLID_STUB_SRC`, `PAMUKLID_STUB_OWN` (feature `stub` only): the Rust, and the folder of the
-//!   `expect.rs`, `adapter.rs`, `distance.rs`, `report.rs`, `airtime.rs` and `sixty.rs`, that the stub
-//!   answers from, where they are to differ from the driver's.
+//!   `expect.rs`, `adapter.rs`, `distance.rs`, `edition.rs`, `report.rs`, `airtime.rs` and `sixty.rs`, that
+//!   the stub answers from, where they are to differ from the driver's.
 
 use std::env;
 use std::fs;
@@ -44,15 +45,28 @@ const PARTED: [(&str, usize, &str); 12] = [
     ("(c.lo - m, c.hi + m)", 1, "(c.lo - m, c.hi + c.s.upper_hz)"),
 ];
 
+/// "The 60 m power limits are fixed figures in the gate, and trustees expect these to be amended." "With other
+/// watts the notes and warnings are held to the same definition with those watts in it" (document 02, 6): the
+/// two figures that the Rust compares with come with the situation. Its words keep 100 and 9.15.
+const AMENDED: [(&str, usize, &str); 3] = [
+    (
+        "pub struct Situation {\n",
+        1,
+        "pub struct Situation {\n    pub channel_w: f64,\n    pub segment_w: f64,\n",
+    ),
+    ("c.s.power_w.filter(|&p| p > 100.0)", 1, "c.s.power_w.filter(|&p| p > c.s.channel_w)"),
+    ("c.s.power_w.filter(|&p| p > 9.15)", 1, "c.s.power_w.filter(|&p| p > c.s.segment_w)"),
+];
+
 fn copy(from: &Path, to: &Path) {
     println!("cargo::rerun-if-changed={}", from.display());
     let bytes = fs::read(from).unwrap_or_else(|e| panic!("{}: {e}", from.display()));
     fs::write(to, bytes).unwrap_or_else(|e| panic!("{}: {e}", to.display()));
 }
 
-fn part(file: &Path) {
+fn edit(file: &Path, edits: &[(&str, usize, &str)]) {
     let mut text = fs::read_to_string(file).unwrap();
-    for (old, times, new) in PARTED {
+    for &(old, times, new) in edits {
         assert_eq!(text.matches(old).count(), times, "{old:?} in {}", file.display());
         text = text.replace(old, new);
     }
@@ -68,7 +82,10 @@ fn place(src: &Path, out: &Path, name: &str) {
         copy(&src.join("core/aetherd/src/regulatory").join(file), &module.join(file));
     }
     if env::var_os("CARGO_FEATURE_UNEQUAL").is_some() {
-        part(&module.join("mod.rs"));
+        edit(&module.join("mod.rs"), &PARTED);
+    }
+    if env::var_os("CARGO_FEATURE_WATTS").is_some() {
+        edit(&module.join("mod.rs"), &AMENDED);
     }
     fs::create_dir_all(home.join("data/regulatory")).unwrap();
     fs::write(home.join("data/occupancy.json"), "{\"airs\":{}}").unwrap();
@@ -97,7 +114,7 @@ fn main() {
     if stub {
         place(&folder("PAMUKLID_STUB_SRC", rust), &out, "original");
         let own = folder("PAMUKLID_STUB_OWN", here.join("src"));
-        for name in ["expect", "adapter", "distance", "report", "airtime", "sixty"] {
+        for name in ["expect", "adapter", "distance", "edition", "report", "airtime", "sixty"] {
             let file = out.join(format!("stub_{name}.rs"));
             copy(&own.join(format!("{name}.rs")), &file);
             include(&file, name, &out.join(format!("include_{name}.rs")));

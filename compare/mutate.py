@@ -2,15 +2,15 @@
 """Plants one mistake at a time (mutations.py) in a copy of the Rust, or of the driver's own part,
 builds the driver against that copy and sees whether a run notices a difference.
 
-    python3 compare/mutate.py [--rust] [--stub] [--unequal] [--only TEXT] [--from N] [--work DIR] [--seed S]
-                              [--verdicts N] [--ceilings N] [--dials N] [--texts N] [--reports N]
-                              [--airtimes N]
+    python3 compare/mutate.py [--rust] [--stub] [--unequal | --watts] [--only TEXT] [--from N] [--work DIR]
+                              [--seed S] [--verdicts N] [--ceilings N] [--dials N] [--texts N] [--reports N]
+                              [--airtimes N] [--censuses N] [--editions N]
                               [--check] [-v] [--report FILE]
 
 Without --stub the library is linked (PAMUKLID_LIB_DIR); with --stub its place is taken by a second,
 unchanged copy of the Rust, which measures how sharp the cases are without the library. --rust plants
-the mistakes of the Rust's three files alone; --unequal those about two margins that differ, and needs the
-library. --check only sees that every old text occurs once.
+the mistakes of the Rust's three files alone; --unequal those about two margins that differ, --watts those about
+other 60 m power limits than 100 and 9.15, and both need the library. --check only sees that every old text occurs once.
 --report writes the list with the result as a page for docs/. Nothing else is written outside DIR (by
 default a temporary folder of its own, removed at the end). Exit 0: every mistake was noticed except
 those that change nothing.
@@ -28,7 +28,7 @@ sys.dont_write_bytecode = True
 HERE = os.path.dirname(os.path.abspath(__file__))
 sys.path.insert(0, HERE)
 
-from mutations import MUTATIONS, UNEQUAL
+from mutations import MUTATIONS, UNEQUAL, WATTS
 
 MODULE = "core/aetherd/src/regulatory"
 RUST = ["mod.rs", "profile.rs", "occupancy.rs"]
@@ -39,6 +39,7 @@ def main():
     args.add_argument("--rust", action="store_true")
     args.add_argument("--stub", action="store_true")
     args.add_argument("--unequal", action="store_true")
+    args.add_argument("--watts", action="store_true")
     args.add_argument("--only", default="")
     args.add_argument("--from", type=int, default=0, dest="start")
     args.add_argument("--work")
@@ -49,6 +50,8 @@ def main():
     args.add_argument("--texts", type=int, default=200000)
     args.add_argument("--reports", type=int, default=100000)
     args.add_argument("--airtimes", type=int, default=20000)
+    args.add_argument("--censuses", type=int, default=1000)
+    args.add_argument("--editions", type=int, default=100000)
     args.add_argument("--check", action="store_true")
     args.add_argument("--report")
     args.add_argument("-v", action="store_true", dest="verbose")
@@ -82,7 +85,7 @@ def plant_all(args, rust, work):
     place["stub.rs"] = os.path.join(driver, "src/stub.rs")
     text["stub.rs"] = open(os.path.join(HERE, "src/stub.rs"), encoding="utf-8").read()
     os.makedirs(os.path.join(work, "own"), exist_ok=True)
-    for name in ["expect.rs", "adapter.rs", "distance.rs", "report.rs", "airtime.rs", "sixty.rs"]:
+    for name in ["expect.rs", "adapter.rs", "distance.rs", "edition.rs", "report.rs", "airtime.rs", "sixty.rs"]:
         place[name] = os.path.join(driver, "src", name)
         text[name] = open(os.path.join(HERE, "src", name), encoding="utf-8").read()
         put(os.path.join(work, "own", name), text[name])
@@ -91,7 +94,7 @@ def plant_all(args, rust, work):
     for name in place:
         put(place[name], text[name])
 
-    planted = UNEQUAL if args.unequal else MUTATIONS
+    planted = UNEQUAL if args.unequal else WATTS if args.watts else MUTATIONS
     wrong = [m for m in planted if text[m[0]].count(m[1]) != 1 or m[1] == m[2]]
     for name, old, _, _ in wrong:
         print("not one place: %s: %r (%d times)" % (name, old, text[name].count(old)))
@@ -112,10 +115,13 @@ def plant_all(args, rust, work):
         build += ["--features", "stub"]
     if args.unequal:
         build += ["--features", "unequal"]
+    if args.watts:
+        build += ["--features", "watts"]
     program = os.path.join(work, "target/mutant/pamuklid-compare")
     run = [program, "--brief", "--seed", str(args.seed), "--verdicts", str(args.verdicts),
            "--ceilings", str(args.ceilings), "--dials", str(args.dials), "--texts", str(args.texts),
-           "--reports", str(args.reports), "--airtimes", str(args.airtimes)]
+           "--reports", str(args.reports), "--airtimes", str(args.airtimes),
+           "--censuses", str(args.censuses), "--editions", str(args.editions)]
 
     def attempt():
         """(built, exit status, first line that says what)"""

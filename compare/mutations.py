@@ -2,11 +2,12 @@
 file), new text. `same` says why a mistake changes no answer inside document 01's limits: such a one
 must survive, every other must be noticed.
 
-Files: profile.rs, occupancy.rs and mod.rs are the Rust; expect.rs, adapter.rs, distance.rs, sixty.rs and
-report.rs are the driver's own part, written from documents 01 and 02 (refusals 1 to 6, 15, 16, 20 to 25
-and their order, where a table is wrong, tidy, the distance of a dial, channel against segment, the report
-of a table, and what the Rust says only in words); stub.rs, with --stub, stands for a wrong library;
-build.rs, with --unequal, has the edits that give the Rust its second margin.
+Files: profile.rs, occupancy.rs and mod.rs are the Rust; expect.rs, adapter.rs, distance.rs, edition.rs,
+sixty.rs and report.rs are the driver's own part, written from documents 01 and 02 (refusals 1 to 6, 15, 16,
+20 to 26 and their order, where a table is wrong, tidy, the distance of a dial, writer and converters, channel
+against segment, the report of a table, and what the Rust says only in words); stub.rs, with --stub, stands for
+a wrong library; build.rs has the edits that give the Rust its second margin, with --unequal, and the 60 m
+power limits of the table, with --watts.
 """
 
 MUTATIONS = []
@@ -23,6 +24,14 @@ UNEQUAL = []
 
 def apart(file, old, new):
     UNEQUAL.append((file, old, new, None))
+
+
+# Mistakes about 60 m power limits that differ from 100 and 9.15, for runs with --watts, likewise.
+WATTS = []
+
+
+def amended(file, old, new):
+    WATTS.append((file, old, new, None))
 
 
 FINITE = "figures that aren't finite meet 6 before"
@@ -634,15 +643,20 @@ at(E, SIZE, "x.abs() > 1_099_511_627_776.0")
 at(E, SIZE, "!x.is_finite() || x.abs() > 1_099_511_627_777.0")
 at(E, SIZE, "!x.is_finite()")
 at(E, "if x == 0.0 { 0.0 } else { x }", "x")
-at(E, "if n < 92 || n > 65_536 {", "if n < 91 || n > 65_536 {")
-at(E, "if n < 92 || n > 65_536 {", "if n < 93 || n > 65_536 {")
-at(E, "if n < 92 || n > 65_536 {", "if n < 92 || n >= 65_536 {")
-at(E, "if n < 92 || n > 65_536 {", "if n < 92 || n > 65_537 {")
+at(E, "if n < 92 || n > 65_552 {", "if n < 91 || n > 65_552 {")
+at(E, "if n < 92 || n > 65_552 {", "if n < 93 || n > 65_552 {")
+at(E, "if n < 92 || n > 65_552 {", "if n < 92 || n >= 65_552 {")
+at(E, "if n < 92 || n > 65_552 {", "if n < 92 || n > 65_553 {")
+at(E, "if n < 92 || n > 65_552 {", "if n < 92 || n > 65_536 {")
+at(E, "if n < 92 || n > 65_552 {", "if n < 108 || n > 65_552 {")
 at(E, 'if image[end + 24..] != *b"EDGE" {', 'if image[end + 25..] != *b"DGE" {')
 at(E, 'if image[end + 24..] != *b"EDGE" {', 'if image[end + 24..n - 1] != *b"EDG" {')
 at(E, 'if image[end + 24..] != *b"EDGE" {', 'if image[end + 24..].to_ascii_uppercase() != *b"EDGE" {')
-at(E, "if u16_at(image, end + 22) != 1 {", "if image[end + 22] != 1 {")
-at(E, "if u16_at(image, end + 22) != 1 {", "if u16_at(image, end + 22) == 0 {")
+EDITION = "if !matches!(u16_at(image, end + 22), 1 | 2) {"
+at(E, EDITION, "if !matches!(image[end + 22], 1 | 2) {")
+at(E, EDITION, "if u16_at(image, end + 22) == 0 {")
+at(E, EDITION, "if !matches!(u16_at(image, end + 22), 1..=3) {")
+at(E, EDITION, "if u16_at(image, end + 22) != 1 {")
 at(E, "count > 256)", "count > 255)")
 at(E, "count > 256)", "count > 257)")
 at(E, "if end != front {\n        return 4;\n    }\n", "")
@@ -659,7 +673,9 @@ at(E, "out_of_size(x) || x.to_bits() == 1 << 63", "out_of_size(x) || x.is_sign_n
 at(E, "out_of_size(x) || x.to_bits() == 1 << 63", "x.to_bits() == 1 << 63")
 for k in range(5):
     keep = [i for i in range(5) if i != k]
-    at(E, "if (0..5).any(|i| bad(8 * i)) {", "if %s.into_iter().any(|i| bad(8 * i)) {" % keep)
+    at(E, "(0..5).any(|i| bad(8 * i))", "%s.into_iter().any(|i| bad(8 * i))" % keep)
+at(E, "(64..begin).step_by(8).any(bad)", "(64..begin).step_by(16).any(bad)")
+at(E, "(64..begin).step_by(8).any(bad)", "(72..begin.max(72)).step_by(8).any(bad)")
 at(E, "(0..3).any(|k| bad", "(0..2).any(|k| bad")
 at(E, "(0..3).any(|k| bad", "(1..3).any(|k| bad")
 at(E, "(0..3).any(|k| bad", "[0, 2].into_iter().any(|k| bad")
@@ -795,8 +811,8 @@ at(E, "if best.is_none_or(|(least, _)| sum < least) {", "if best.is_none_or(|(le
 at(E, "upper: above >= below }", "upper: above > below }")
 at(E, "((lo - lower) + lower, (hi + upper) - upper)", "(lo, hi)")
 at(E, "meant && overlaps(r, lo, hi) && watts > r.figure", "meant && overlaps(r, lo, hi) && watts >= r.figure")
-at(E, "watts.is_some_and(|w| w > 100.0)", "watts.is_some_and(|w| w >= 100.0)")
-at(E, "watts.is_some_and(|w| w > 9.15)", "watts.is_some_and(|w| w >= 9.15)")
+at(E, "watts.is_some_and(|w| w > table.limits().0)", "watts.is_some_and(|w| w >= table.limits().0)")
+at(E, "watts.is_some_and(|w| w > table.limits().1)", "watts.is_some_and(|w| w >= table.limits().1)")
 
 # -------------------------------------------------- mod.rs again: each early return left out
 at(M, "if s.itu_region != profile.itu_region {", "if false {")
@@ -942,8 +958,10 @@ at(E, "Fault { record: 65_535, table: 255, place: 0, refusal }", "Fault { record
 at(E, "Fault { place: 1, ..nowhere }", "Fault { place: 1, table: 0, ..nowhere }")
 at(E, "    if block_meets {", "    if false {")
 at(E, "        5 => !block_is_right(&image[..64]),\n", "")
-at(E, "        6 => [0, 8, 16, 24, 32].iter().any(|&at| bad_figure(image, at)),\n", "")
-at(E, "[0, 8, 16, 24, 32].iter().any(|&at| bad_figure(image, at))", "[0, 8, 16, 24].iter().any(|&at| bad_figure(image, at))")
+at(E, "        6 => [0, 8, 16, 24, 32]\n", "        6 => []\n")
+at(E, "        6 => [0, 8, 16, 24, 32]\n", "        6 => [0, 8, 16, 24]\n")
+at(E, ".chain((64..front_of(image)).step_by(8))", ".chain((64..front_of(image)).step_by(16))")
+at(E, ".chain((64..front_of(image)).step_by(8))", "")
 at(E, "        (5, CHANNELS) if t.flags & 4 == 0 => true,\n", "")
 at(E, "(5, CHANNELS) if t.flags & 4 == 0", "(5, CHANNELS) if t.flags & 16 == 0")
 at(E, "(5, PLAN_DATA | PLAN_AVOID) if t.flags & 16 == 0", "(5, PLAN_AVOID) if t.flags & 16 == 0")
@@ -1059,7 +1077,7 @@ at(N, WIDE, "if kind == 0 && x.audio.high - x.audio.low > (if r.flags & 1 == 1 {
 at(N, WIDE, "if false {")
 at(N, "drafted(t, x, 12, t.rules[0], (span(r), r.rule))", "drafted(t, x, 12, r.rule, (span(r), r.rule))")
 at(N, "drafted(t, x, 25, r.rule, (span(r), r.rule))", "drafted(t, x, 25, t.rules[3], (span(r), r.rule))")
-at(N, "expect::above_segment_watts(watts(s))", "expect::above_channel_watts(watts(s))")
+at(N, "expect::above_segment_watts(t, watts(s))", "expect::above_channel_watts(t, watts(s))")
 at(N, "if kind != 1 || (middle - r.low).abs() > t.tolerance {", "if (middle - r.low).abs() > t.tolerance {")
 at(N, "if kind != 1 || (middle - r.low).abs() > t.tolerance {", "if kind != 1 || (middle - r.low).abs() >= t.tolerance {")
 at(N, "note_shared: 1, ..blocked", "note_shared: 0, ..blocked")
@@ -1187,3 +1205,49 @@ at(T, UNEVEN, UNEVEN.replace("seconds != n || ", "seconds < n || "))
 at(T, UNEVEN, UNEVEN.replace("output != n || ", "output < n || "))
 at(T, UNEVEN, UNEVEN.replace("n > MOST", "n >= MOST"))
 at(T, UNEVEN, UNEVEN.replace("n > MOST", "n > MOST + 1"))
+
+# ------------------------------------------------------------------- writer and converters
+G = "edition.rs"
+# 3 after 4 to 14, 3 before 1 and 2, and 26 by one of the watts alone or by neither
+at(G, "        _ if image::edition_of(image) != Some(edition) => Err(3),\n        0 =>",
+   "        0 if image::edition_of(image) != Some(edition) => Err(3),\n        0 =>")
+at(G, "        1 | 2 => Err(checked),\n", "        1 => Err(checked),\n")
+at(G, "        1 | 2 => Err(checked),\n", "        2 => Err(checked),\n")
+at(G, "    if table.watts != Some(FIXED_WATTS) {", "    if table.limits().0 != FIXED_WATTS.0 {")
+at(G, "    if table.watts != Some(FIXED_WATTS) {", "    if table.limits().1 != FIXED_WATTS.1 {")
+at(G, "    if table.watts != Some(FIXED_WATTS) {", "    if lent >= image.len() - 16 && table.watts != Some(FIXED_WATTS) {")
+at(G, "if lent < image.len() { Err(23) }", "if lent <= image.len() { Err(23) }")
+at(G, "if lent < image.len() { Err(23) }", "if lent + 1 < image.len() { Err(23) }")
+at(G, "watts: Some(FIXED_WATTS), ..table }", "watts: Some((FIXED_WATTS.1, FIXED_WATTS.0)), ..table }")
+at(G, "if parts.records() > MOST {", "if parts.records() > MOST + 1 {")
+at(G, "if parts.records() > MOST {", "if parts.records() >= MOST {")
+at(G, "if parts.records() > MOST {", "if parts.figures.len() / 3 > MOST {")
+at(G, "if !matches!(parts.fields.edition, 1 | 2) {", "if !matches!(parts.fields.edition, 1..=3) {")
+at(G, "if !matches!(parts.fields.edition, 1 | 2) {", "if parts.runs_right() && !matches!(parts.fields.edition, 1 | 2) {")
+at(G, "any(|&count| count > 256)", "any(|&count| count > 257)", "the check of the image meets such a count too")
+at(G, "any(|&count| count > 256)", "any(|&count| count > 255)")
+at(G, "self.figures.len() == 3 * n && ", "self.figures.len() >= 3 * n && ")
+at(G, "self.codes.len() == 4 * n && ", "self.codes.len() >= 4 * n && ")
+at(G, "self.rules.len() == 2 * n\n", "self.rules.len() >= 2 * n\n")
+at(G, "watts: (f.edition == 2).then_some((f.channel_watts, f.segment_watts)),", "watts: (f.edition == 2).then_some((f.segment_watts, f.channel_watts)),")
+at(G, "high: self.figures[3 * i + 1],", "high: self.figures[3 * i],")
+at(G, "second: self.rules[2 * i + 1],", "second: self.rules[2 * i],")
+at("stub.rs", "        Err(refusal) => Image { length: 0, refusal },\n", "        Err(refusal) => Image { length: room as u32, refusal },\n")
+at("stub.rs", "            lent[..image.len()].copy_from_slice(&image);\n",
+   "            lent[..image.len()].copy_from_slice(&image);\n            lent[image.len()..].fill(0);\n")
+at("stub.rs", "        Err(refusal) => Image { length: 0, refusal },\n",
+   "        Err(refusal) => {\n            if room > 0 { unsafe { *out = 0 } }\n            Image { length: 0, refusal }\n        }\n")
+
+# ------------------------------------------------------------------------------ other watts
+amended(B, '"c.s.power_w.filter(|&p| p > c.s.channel_w)"', '"c.s.power_w.filter(|&p| p > c.s.segment_w)"')
+amended(B, '"c.s.power_w.filter(|&p| p > c.s.channel_w)"', '"c.s.power_w.filter(|&p| p >= c.s.channel_w)"')
+amended(B, '"c.s.power_w.filter(|&p| p > c.s.channel_w)"', '"c.s.power_w.filter(|&p| p > 100.0)"')
+amended(B, '"c.s.power_w.filter(|&p| p > c.s.segment_w)"', '"c.s.power_w.filter(|&p| p > c.s.channel_w)"')
+amended(B, '"c.s.power_w.filter(|&p| p > c.s.segment_w)"', '"c.s.power_w.filter(|&p| p >= c.s.segment_w)"')
+amended(B, '"c.s.power_w.filter(|&p| p > c.s.segment_w)"', '"c.s.power_w.filter(|&p| p > 9.15)"')
+amended(E, "watts.is_some_and(|w| w > table.limits().0)", "watts.is_some_and(|w| w > table.limits().0.max(0.0))")
+amended(E, "watts.is_some_and(|w| w > table.limits().1)", "watts.is_some_and(|w| w > table.limits().1.max(0.0))")
+amended(E, "watts.is_some_and(|w| w > table.limits().0)", "watts.is_some_and(|w| w > table.limits().1)")
+amended(E, "watts.is_some_and(|w| w > table.limits().1)", "watts.is_some_and(|w| w > table.limits().0)")
+amended(N, "expect::above_channel_watts(t, watts(s))", "watts(s).is_some_and(|w| w > 100.0)")
+amended(N, "expect::above_segment_watts(t, watts(s))", "watts(s).is_some_and(|w| w > 9.15)")

@@ -275,12 +275,17 @@ fn policy(p: &Prepared, s: &Station) -> Policy {
     }
 }
 
-/// The Rust has one margin: it is asked where the two are equal. With the feature `unequal` it has the
-/// second one too (build.rs).
-fn situation(s: &Station) -> rust::Situation {
+/// The Rust has one margin, and 100 and 9.15 as the 60 m power limits: it is asked where the two margins are
+/// equal and the watts are those. With the feature `unequal` it has the second margin too, with the feature
+/// `watts` the table's watts (build.rs).
+fn situation(p: &Prepared, s: &Station) -> rust::Situation {
     use rust::{ControlMode, LicenseClass, Sideband};
     let margin = expect::margins(s);
     assert!(cfg!(feature = "unequal") || margin.0 == margin.1, "the Rust has one margin");
+    let other = expect::other_watts(p.table.as_ref(), s);
+    assert!(cfg!(feature = "watts") || !other, "the Rust has 100 and 9.15 W");
+    #[cfg(feature = "watts")]
+    let (channel_w, segment_w) = p.table.as_ref().map_or(image::FIXED_WATTS, Table::limits);
     rust::Situation {
         dial_hz: (s.dial_known == 1).then_some(expect::read(s.dial_hz)),
         dial_source: None,
@@ -307,6 +312,10 @@ fn situation(s: &Station) -> rust::Situation {
         margin_hz: margin.0,
         #[cfg(feature = "unequal")]
         upper_hz: margin.1,
+        #[cfg(feature = "watts")]
+        channel_w,
+        #[cfg(feature = "watts")]
+        segment_w,
         band_plan: s.band_plan == 1,
         power_w: (s.power_known == 1).then_some(expect::read(s.power_w)),
     }
@@ -494,8 +503,8 @@ fn read(p: &Prepared, s: &Station, kind: u8, d: &rust::Decision) -> Result<Decis
                 return Err(wrong("verdict", &format!("{:?}", d.verdict), "the other"));
             }
         }
-        (24, _) if out.verdict != 2 => {
-            if expect::above_channel_watts(watts) {
+        (24, Some(table)) if out.verdict != 2 => {
+            if expect::above_channel_watts(table, watts) {
                 out.note_channel_power = 1;
                 notes.push(format!(
                     "At {:.0} W: 60 m channels are limited to 100 W ERP (§97.313(i)); the \
@@ -510,8 +519,8 @@ fn read(p: &Prepared, s: &Station, kind: u8, d: &rust::Decision) -> Result<Decis
                     .to_owned(),
             );
         }
-        (25, _) => {
-            if expect::above_segment_watts(watts) {
+        (25, Some(table)) => {
+            if expect::above_segment_watts(table, watts) {
                 out.note_segment_power = 1;
                 notes.push(format!(
                     "At {:.0} W: the 5351.5–5366.5 kHz segment is limited to 9.15 W ERP \
@@ -553,7 +562,7 @@ pub fn evaluate(
         audio: edges(e),
         direction: direction_of(direction),
     };
-    read(p, s, kind, &policy(p, s).evaluate(&situation(s), &tx))
+    read(p, s, kind, &policy(p, s).evaluate(&situation(p, s), &tx))
 }
 
 /// `unmeasured`, refusals included.
@@ -563,7 +572,7 @@ pub fn unmeasured(p: &Prepared, s: &Station) -> Result<Decision, String> {
     if refusal != 0 {
         return Ok(ffi::refused(refusal));
     }
-    let d = policy(p, s).unmeasured(&situation(s), "it", "why");
+    let d = policy(p, s).unmeasured(&situation(p, s), "it", "why");
     read(p, s, 0, &d)
 }
 
@@ -620,7 +629,7 @@ pub fn ceiling(
         control_floor: edges(floor),
     };
     let found =
-        policy(p, s).ceiling(&situation(s), &air, direction_of(direction), &|i| floors[i] == 1);
+        policy(p, s).ceiling(&situation(p, s), &air, direction_of(direction), &|i| floors[i] == 1);
     Ok(Ceiling {
         refusal: 0,
         rung: found.rung.map(|r| r as u16),
@@ -643,7 +652,7 @@ pub fn safe_dials(
     if refusal != 0 {
         return Ok((refusal, Vec::new()));
     }
-    let list = policy(p, s).safe_dials(&situation(s), edges(e), direction_of(direction));
+    let list = policy(p, s).safe_dials(&situation(p, s), edges(e), direction_of(direction));
     let mut rows = Vec::with_capacity(36 * list.len());
     // "A dial row is 36 bytes: segment low, high, dial low, high (f64), band byte, zero byte, u16
     // rule."

@@ -2,7 +2,7 @@
 //! around, or is aimed: one end or both, its middle or its dial on an edge of the table, an eighth
 //! beside it or one unit in the last place.
 
-use crate::draw::{BIG, Rng, UNEQUAL, nudge, unit};
+use crate::draw::{BIG, Rng, UNEQUAL, WATTS, nudge, plain, unit};
 use crate::ffi::{Edges, Figures, Station};
 use crate::image::POWER;
 use crate::tables::{Signal, World, some_audio, some_margins, watts};
@@ -36,20 +36,17 @@ impl World {
     }
 
     /// Audio edges for a given dial: both ends on targets near it, or one end and a width.
-    fn audio(
-        &self,
-        rng: &mut Rng,
-        dial: f64,
-        margin: (f64, f64),
-        sideband: u8,
-    ) -> (f64, f64) {
+    fn audio(&self, rng: &mut Rng, dial: f64, margin: (f64, f64), sideband: u8) -> (f64, f64) {
         let m = if rng.chance(75) { margin } else { (0.0, 0.0) };
         let (mut x, mut y) = (self.target_near(rng, dial), self.target_near(rng, dial));
         if x > y && rng.chance(90) {
             (x, y) = (y, x);
         }
-        let (mut low, mut high) =
-            if sideband == 0 { (x - dial + m.0, y - dial - m.1) } else { (dial - y + m.1, dial - x - m.0) };
+        let (mut low, mut high) = if sideband == 0 {
+            (x - dial + m.0, y - dial - m.1)
+        } else {
+            (dial - y + m.1, dial - x - m.0)
+        };
         match rng.below(4) {
             0 => high = low + self.width(rng),
             1 => low = high - self.width(rng),
@@ -69,11 +66,8 @@ impl World {
                 s.low = nudge(rng, self.scale, s.low, 25);
                 s.high = nudge(rng, self.scale, s.high, 25);
                 s.margin.0 = nudge(rng, self.scale, s.margin.0, 15);
-                s.margin.1 = if UNEQUAL {
-                    nudge(rng, self.scale, s.margin.1, 15)
-                } else {
-                    s.margin.0
-                };
+                s.margin.1 =
+                    if UNEQUAL { nudge(rng, self.scale, s.margin.1, 15) } else { s.margin.0 };
             }
             return s;
         }
@@ -160,6 +154,14 @@ impl World {
         if out.power_known == 1 && rng.chance(60) && !self.table.tables[POWER].is_empty() {
             let x = rng.pick(&self.table.tables[POWER]).figure;
             out.power_w = rng.pick(&[x, x.next_up(), x.next_down(), x + 1.0]);
+        }
+        if WATTS && out.power_known == 1 && rng.chance(60) {
+            // one of the table's 60 m power limits, one beside it, or one between the two
+            let (channel, segment) = self.table.limits();
+            let x = rng.pick(&[channel, segment]);
+            let between = f64::midpoint(channel, segment);
+            out.power_w =
+                plain(rng.pick(&[x, x.next_up(), x.next_down(), x + 1.0, x - 1.0, between]));
         }
         if rng.chance(10) {
             for _ in 0..1 + rng.below(2) {

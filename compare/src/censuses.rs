@@ -6,6 +6,7 @@ use std::process::exit;
 use crate::compare;
 use crate::draw::Rng;
 use crate::ffi::{self, Edges, Figures, Station};
+use crate::image::SEGMENTS;
 use crate::oracle::adapter::Prepared;
 use crate::reach::Key;
 use crate::{Run, Spoil, damage, expect, fixed, tables};
@@ -162,7 +163,12 @@ pub fn fixed(run: &mut Run) {
     say("a million dials", million, 0, Some((16, high - low + 1)));
     say("a million and one", Asked { last: 14_500_001, ..million }, 33, None);
     say("one dial", Asked { first: low.into(), last: low.into(), ..some }, 0, Some((16, 1)));
-    say("the dial below", Asked { first: i64::from(low) - 1, last: low.into(), ..some }, 0, Some((15, 1)));
+    say(
+        "the dial below",
+        Asked { first: i64::from(low) - 1, last: low.into(), ..some },
+        0,
+        Some((15, 1)),
+    );
     for (first, last, refusal) in [
         (1, 0, 33),
         (i64::MAX, i64::MIN, 33),
@@ -198,6 +204,23 @@ pub fn fixed(run: &mut Run) {
     let none = run.image(&[]);
     let wrong = [&image[..image.len() - 1], b"F"].concat();
     let letters = run.image(&wrong);
+    // the other refusals of an image that a run must meet, few of which a thousand stretches draw
+    let changed = |at: usize, to: u8| {
+        let mut image = image.clone();
+        image[at] = to;
+        image
+    };
+    let mut outside = table.clone();
+    outside.tables[SEGMENTS][0].high = 2e9;
+    let damaged = [
+        (1, image[..91].to_vec()),
+        (3, changed(image.len() - 6, 3)),
+        (4, changed(image.len() - 8, 1)),
+        (5, changed(41, 3)),
+        (6, changed(7, 0xff)),
+        (12, outside.encode()),
+    ]
+    .map(|(refusal, image)| (refusal, run.image(&image), image));
     let mut refused = |a: Asked, refusal: u8| {
         let got = run.census(a).0;
         if got != refusal {
@@ -207,6 +230,9 @@ pub fn fixed(run: &mut Run) {
     let back = Asked { first: 1, last: 0, ..some };
     refused(Asked { image: &[], p: &none, ..back }, 22);
     refused(Asked { image: &wrong, p: &letters, ..back }, 2);
+    for (refusal, p, image) in &damaged {
+        refused(Asked { image, p, ..back }, *refusal);
+    }
     refused(Asked { e: Edges::of([f64::NAN, 1.0, 0.0, 1.0]), ..back }, 15);
     refused(Asked { s: Station { margin_lower_hz: f64::NAN, ..s }, ..back }, 21);
     refused(Asked { kind: 4, ..back }, 20);

@@ -15,14 +15,14 @@ use crate::report::{self, Row};
 
 pub type Told<T> = Result<T, String>;
 
-fn unchanged(before: &[u8], after: &[u8], what: &str) -> Told<()> {
+pub fn unchanged(before: &[u8], after: &[u8], what: &str) -> Told<()> {
     if before == after {
         return Ok(());
     }
     Err(format!("the call changed its {what}"))
 }
 
-fn equal<T: PartialEq + Display>(what: &str, library: T, expected: T) -> Told<()> {
+pub fn equal<T: PartialEq + Display>(what: &str, library: T, expected: T) -> Told<()> {
     if library == expected {
         return Ok(());
     }
@@ -47,11 +47,16 @@ fn agreed(want: Told<Decision>, got: &Decision) -> Told<Decision> {
     }
 }
 
-/// What the library is lent of an image: of about a third of the accepted ones their form of edition 2, which must get the same answers
-/// ("Gate answers are the same for an edition 1 image and its raised form", document 02), else the image.
+/// What the library is lent of an image: of about a third of the accepted ones of edition 1 their form of
+/// edition 2, which must get the same answers ("Gate answers are the same for an edition 1 image and its raised
+/// form", document 02), else the image.
 fn lend(image: &[u8], p: &Prepared) -> Vec<u8> {
     let odd = image.iter().fold(0u8, |sum, &b| sum.wrapping_mul(31).wrapping_add(b)) % 3 == 0;
-    if p.refusal == 0 && odd && image::front_of(image) == 64 { image::raised(image) } else { image.to_vec() }
+    if p.refusal == 0 && odd && image::front_of(image) == 64 {
+        image::raised(image)
+    } else {
+        image.to_vec()
+    }
 }
 
 /// The check, the tidy question and, where the library has the call, where the table is wrong.
@@ -137,6 +142,7 @@ pub enum Room {
     More(usize),
     /// So many fewer, none at the least.
     Fewer(usize),
+    Bytes(usize),
 }
 
 impl Room {
@@ -161,12 +167,13 @@ impl Room {
             Self::Rows(n) => row * n,
             Self::More(n) => needed + n,
             Self::Fewer(n) => needed.saturating_sub(n),
+            Self::Bytes(n) => n,
         }
     }
 }
 
 /// Bytes that hold anything.
-fn filled(fill: u64, n: usize) -> Vec<u8> {
+pub fn filled(fill: u64, n: usize) -> Vec<u8> {
     let mut rng = Rng::new(fill, 0);
     (0..n).map(|_| rng.next() as u8).collect()
 }

@@ -4,7 +4,7 @@ use crate::cases::Ladder;
 use crate::draw::{BIG, Rng, UNEQUAL, nudge, plain};
 use crate::ffi::{Edges, Figures, Station};
 use crate::image::*;
-use crate::tables::{World, whole};
+use crate::tables::{World, some_watts, whole};
 
 /// A figure that meets 6, 15 or 21, or just doesn't.
 pub fn odd_figure(rng: &mut Rng) -> f64 {
@@ -169,16 +169,65 @@ pub fn samples() -> Vec<Vec<u8>> {
 
 /// A damaged copy of a world's image, by one to three mistakes.
 pub fn damaged(rng: &mut Rng, w: &World) -> Vec<u8> {
-    let mut t = w.table.clone();
+    spoilt(rng, w, w.table.clone())
+}
+
+fn spoilt(rng: &mut Rng, w: &World, t: Table) -> Vec<u8> {
     let rounds = rng.pick(&[1, 1, 1, 2, 3]);
-    for _ in 0..rounds {
-        spoil_table(rng, w, &mut t);
-    }
+    let t = spoilt_table(rng, w, t, rounds);
     let mut image = t.encode();
     if rng.chance(60) {
         for _ in 0..rounds {
-            spoil_bytes(rng, &mut image);
+            spoil_bytes(rng, &mut image, if t.watts.is_some() { 80 } else { 64 });
         }
+    }
+    image
+}
+
+/// A copy of a world's image in edition 2, with watts of its own: damaged in the same ways, by its watts alone,
+/// by a length of the other edition, or not at all.
+pub fn second(rng: &mut Rng, w: &World) -> Vec<u8> {
+    let mut watts = some_watts(rng);
+    let mut t = w.table.clone();
+    match rng.below(8) {
+        0 => {}
+        1 | 2 => {
+            let x = odd_figure(rng);
+            match rng.below(4) {
+                0 => watts = (x, odd_figure(rng)),
+                1 | 2 => watts.0 = x,
+                _ => watts.1 = x,
+            }
+        }
+        3 => return between(rng, t, watts),
+        _ => {
+            t.watts = Some(watts);
+            return spoilt(rng, w, t);
+        }
+    }
+    t.watts = Some(watts);
+    t.encode()
+}
+
+/// "1 now means under 92 or over 65,552, and a length wrong for the edition meets 4" (document 02): edition 2
+/// with fewer bytes than its general block and trailer, and either edition with more than edition 1 can have.
+fn between(rng: &mut Rng, mut t: Table, watts: (f64, f64)) -> Vec<u8> {
+    let mut image = if rng.chance(50) {
+        (t.watts, t.tables) = (Some(watts), Default::default());
+        let mut image = t.encode();
+        image.drain(..rng.below(18));
+        image
+    } else {
+        t.watts = rng.chance(30).then_some(watts);
+        let mut image = t.encode();
+        let more = (65_535 + rng.below(20)).saturating_sub(image.len());
+        let end = image.len() - 28;
+        image.splice(end..end, std::iter::repeat_n(0, more));
+        image
+    };
+    if rng.chance(50) {
+        let end = image.len() - 28;
+        image[end + 18..end + 22].copy_from_slice(&(end as u32).to_le_bytes());
     }
     image
 }
@@ -223,6 +272,14 @@ pub fn several(rng: &mut Rng, w: &World) -> Vec<u8> {
         (t.reading, t.offset) = (rng.pick(&[2, 3]), rng.pick(&[t.offset, f64::NAN]));
     }
     t.encode()
+}
+
+/// A table with so many mistakes.
+pub fn spoilt_table(rng: &mut Rng, w: &World, mut t: Table, mistakes: usize) -> Table {
+    for _ in 0..mistakes {
+        spoil_table(rng, w, &mut t);
+    }
+    t
 }
 
 fn spoil_table(rng: &mut Rng, w: &World, t: &mut Table) {
@@ -275,11 +332,13 @@ fn spoil_table(rng: &mut Rng, w: &World, t: &mut Table) {
             let x = odd_figure(rng);
             let table = rng.below(10);
             match table {
-                9 => match rng.below(5) {
-                    0 => t.data_limit = x,
-                    1 => t.elsewhere_limit = x,
-                    2 => t.width = x,
-                    3 => t.offset = x,
+                9 => match (rng.below(if t.watts.is_some() { 7 } else { 5 }), &mut t.watts) {
+                    (0, _) => t.data_limit = x,
+                    (1, _) => t.elsewhere_limit = x,
+                    (2, _) => t.width = x,
+                    (3, _) => t.offset = x,
+                    (5, Some(watts)) => watts.0 = x,
+                    (6, Some(watts)) => watts.1 = x,
                     _ => t.tolerance = x,
                 },
                 _ => {
@@ -332,21 +391,28 @@ fn spoil_table(rng: &mut Rng, w: &World, t: &mut Table) {
     }
 }
 
-fn spoil_bytes(rng: &mut Rng, image: &mut Vec<u8>) {
+/// `front`: where the tables begin, 64 or, in edition 2, 80.
+fn spoil_bytes(rng: &mut Rng, image: &mut Vec<u8>, front: usize) {
     let n = image.len();
     if n < 92 {
         return;
     }
     let end = n - 28;
+    let second = front == 80;
     match rng.below(14) {
         // 1
         0 => {
-            let to = rng.pick(&[0, 1, 27, 28, 63, 64, 91, 90, 92]);
+            let to = rng.pick(if second {
+                &[0, 1, 27, 28, 80, 91, 92, 107, 108]
+            } else {
+                &[0, 1, 27, 28, 63, 64, 91, 90, 92]
+            });
             image.drain(..n - to.min(n));
         }
         1 => {
             if rng.chance(15) {
-                let more = 65_536usize.saturating_sub(n) + rng.pick(&[0, 1, 2, 32, 1000]);
+                let most = 65_472 + front;
+                let more = most.saturating_sub(n) + rng.pick(&[0, 1, 2, 32, 1000]);
                 let at = end;
                 image.splice(at..at, std::iter::repeat_n(0, more));
             } else {
@@ -358,7 +424,8 @@ fn spoil_bytes(rng: &mut Rng, image: &mut Vec<u8>) {
         2 => image[end + 24 + rng.below(4)] ^= 1 << rng.below(8),
         // 3
         3 => {
-            let edition: u16 = rng.pick(&[0, 2, 3, 256, 257, 65535]);
+            let other = if second { 1 } else { 2 };
+            let edition: u16 = rng.pick(&[0, other, 3, 256, 257, 65535]);
             image[end + 22..end + 24].copy_from_slice(&edition.to_le_bytes());
         }
         // 4
@@ -422,16 +489,16 @@ fn spoil_bytes(rng: &mut Rng, image: &mut Vec<u8>) {
         }
         // 5 or 6: a byte of the general block
         9 | 10 => {
-            let at = if rng.chance(70) { 40 + rng.below(24) } else { rng.below(64) };
+            let at = if rng.chance(70) { 40 + rng.below(front - 40) } else { rng.below(front) };
             image[at] =
                 if rng.chance(50) { image[at] ^ 1 << rng.below(8) } else { rng.next() as u8 };
         }
         // 5 or 6: a byte of a record
         _ => {
-            if end > 64 {
-                let record = rng.below((end - 64) / 32);
+            if end > front {
+                let record = rng.below((end - front) / 32);
                 let at = if rng.chance(70) { 16 + rng.below(16) } else { rng.below(32) };
-                let at = 64 + 32 * record + at;
+                let at = front + 32 * record + at;
                 if at < end {
                     image[at] = if rng.chance(50) {
                         image[at] ^ 1 << rng.below(8)

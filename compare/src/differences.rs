@@ -533,6 +533,59 @@ fn brushed(run: &mut Run) {
     changed(&mut a, "22: a test emission", 30.0, was, by_segment(LEGAL, audio, air));
 }
 
+/// Document 02, 6, with the feature `watts`: on the tables of "sixty" and "fifty" with other watts, each limit by
+/// itself and both.
+pub fn other_watts(run: &mut Run) {
+    let mut a = on(run, sixty(), 0.0, SHORT);
+    a.s.power_known = 1;
+    for (watts, power, channel, segment) in [
+        (FIXED_WATTS, 9.15, LEGAL, LEGAL),
+        (FIXED_WATTS, 100.0, LEGAL, WARNING),
+        (FIXED_WATTS, 100.00000000000001, WARNING, WARNING),
+        ((9.15, 100.0), 9.150000000000002, WARNING, LEGAL),
+        ((9.15, 100.0), 100.0, WARNING, LEGAL),
+        ((100.0, 50.0), 50.0, LEGAL, LEGAL),
+        ((100.0, 50.0), 50.00000000000001, LEGAL, WARNING),
+        ((50.0, 9.15), 50.00000000000001, WARNING, WARNING),
+        ((200.0, 150.0), 150.0, LEGAL, LEGAL),
+        ((0.0, 0.0), 0.0, LEGAL, LEGAL),
+        ((0.0, 0.0), f64::from_bits(1), WARNING, WARNING),
+        ((0.0, -1.0), -0.0, LEGAL, WARNING),
+        ((-3.0, -5.0), -4.0, LEGAL, WARNING),
+        ((1_099_511_627_776.0, 1_099_511_627_776.0), 1_099_511_627_776.0, LEGAL, LEGAL),
+    ] {
+        (a.table.watts, a.s.power_w) = (Some(watts), power);
+        let mut want = on_channel(channel);
+        if channel == WARNING {
+            want = want.above_channel_watts();
+        }
+        verdict(&mut a, "other watts: on a channel", 88.0, want);
+        let mut want = in_segment(segment, 25, 13);
+        if segment == WARNING {
+            want = want.above_segment_watts();
+        }
+        verdict(&mut a, "other watts: in the segment", 30.0, want);
+    }
+    // 23 of that page, a CW carrier on a channel's centre, wider than the channel
+    let (audio, air) = ((-10.0, 10.0), (40.0, 60.0));
+    let mut a = on(run, fifty(), 0.0, audio);
+    (a.kind, a.s.power_known, a.s.power_w) = (1, 1, 20.0);
+    for (watts, channel, segment) in [
+        ((20.0, 20.0), LEGAL, LEGAL),
+        ((19.0, 20.0), WARNING, LEGAL),
+        ((20.0, 19.0), LEGAL, WARNING),
+        ((19.0, 19.0), WARNING, WARNING),
+    ] {
+        a.table.watts = Some(watts);
+        let mut was = by_channel(channel, audio, air);
+        if channel == WARNING {
+            was = was.above_channel_watts();
+        }
+        let now = by_segment(segment, audio, air);
+        changed(&mut a, "other watts: CW on the centre", 50.0, was, now);
+    }
+}
+
 /// 23: a CW carrier on a channel's centre, wider than the channel; and off the centre.
 fn brushed_by_cw(run: &mut Run) {
     let (audio, air) = ((-10.0, 10.0), (40.0, 60.0));

@@ -3,6 +3,9 @@
 /// Whether the lower and the upper margin are drawn apart (feature `unequal`); else they are one figure.
 pub const UNEQUAL: bool = cfg!(feature = "unequal");
 
+/// Whether tables have other 60 m power limits than 100 and 9.15 (feature `watts`); else they have those.
+pub const WATTS: bool = cfg!(feature = "watts");
+
 /// splitmix64.
 pub struct Rng(u64);
 

@@ -7,7 +7,7 @@ use crate::ffi::{Edges, Fault, Figures, Station};
 use crate::image::{
     AUTOMATIC, BANDS, CHANNELS, EXCLUDED, PLAN_AVOID, PLAN_DATA, POWER, PRIVILEGES, SEGMENTS,
 };
-use crate::image::{Record, Table, decode, f64_at, front_of, u16_at, u32_at};
+use crate::image::{FIXED_WATTS, Record, Table, decode, f64_at, front_of, u16_at, u32_at};
 
 /// "not finite or above 2^40 in size"
 pub fn out_of_size(x: f64) -> bool {
@@ -100,7 +100,10 @@ pub fn fault(image: &[u8], refusal: u8) -> Fault {
     }
     let block_meets = match refusal {
         5 => !block_is_right(&image[..64]),
-        6 => [0, 8, 16, 24, 32].into_iter().chain((64..front_of(image)).step_by(8)).any(|at| bad_figure(image, at)),
+        6 => [0, 8, 16, 24, 32]
+            .into_iter()
+            .chain((64..front_of(image)).step_by(8))
+            .any(|at| bad_figure(image, at)),
         _ => false,
     };
     if block_meets {
@@ -117,6 +120,16 @@ pub fn fault(image: &[u8], refusal: u8) -> Fault {
         }
     }
     nowhere
+}
+
+/// Whether an image that 1 to 4 let pass meets one of 5 to 14, whatever it meets before.
+pub fn meets(image: &[u8], refusal: u8) -> bool {
+    let t = decode(image);
+    match refusal {
+        11 => t.tables[BANDS].is_empty() || t.tables[SEGMENTS].is_empty(),
+        14 => t.data_limit <= 0.0,
+        _ => fault(image, refusal).place != 0,
+    }
 }
 
 /// Whether a record meets the test of a refusal, as the list of refusals in document 01 has it.
@@ -419,13 +432,19 @@ pub fn guidance(table: &Table, (lo, hi): (f64, f64), asked: bool) -> Guidance {
     data.iter().position(inside).map_or(Guidance::Outside, Guidance::Inside)
 }
 
-/// "Warnings are strictly above 100 W and 9.15 W."
-pub fn above_channel_watts(watts: Option<f64>) -> bool {
-    watts.is_some_and(|w| w > 100.0)
+/// "Warnings are strictly above 100 W and 9.15 W." "With other watts the notes and warnings are held to the
+/// same definition with those watts in it" (document 02).
+pub fn above_channel_watts(table: &Table, watts: Option<f64>) -> bool {
+    watts.is_some_and(|w| w > table.limits().0)
 }
 
-pub fn above_segment_watts(watts: Option<f64>) -> bool {
-    watts.is_some_and(|w| w > 9.15)
+pub fn above_segment_watts(table: &Table, watts: Option<f64>) -> bool {
+    watts.is_some_and(|w| w > table.limits().1)
+}
+
+/// Whether the station is judged by a table whose 60 m power limits are others than edition 1's.
+pub fn other_watts(table: Option<&Table>, s: &Station) -> bool {
+    s.policy == 2 && table.is_some_and(|table| table.limits() != FIXED_WATTS)
 }
 
 // ------------------------------------------------------------------------------ number texts

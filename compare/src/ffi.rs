@@ -6,8 +6,9 @@ pub use pamuklid::raw::fault_of;
 #[cfg(feature = "stub")]
 pub use pamuklid::raw::{Airtime, Ceiling, Census, Dials, Report, Tidiness};
 pub use pamuklid::raw::{
-    Decision, Distance, Edges, Fault, Station, Text, VERSION, airtime, ceiling, census, check, distance,
-    evaluate, fresh, report, safe_dials, text_at, text_hertz, text_khz, tidy, unmeasured, version,
+    Decision, Distance, Edges, Fault, Fields, Image, Station, Text, VERSION, airtime, ceiling,
+    census, check, distance, evaluate, fresh, lower, raise, report, safe_dials, text_at,
+    text_hertz, text_khz, tidy, unmeasured, version, write,
 };
 
 /// Every part absent, and blocked.

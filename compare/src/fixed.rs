@@ -9,7 +9,7 @@ use crate::Run;
 use crate::cases::Ladder;
 use crate::compare::Room;
 use crate::differences;
-use crate::draw::Rng;
+use crate::draw::{Rng, WATTS};
 use crate::expect;
 use crate::ffi::{Decision, Edges, Figures, Parts, Station};
 use crate::image::*;
@@ -186,6 +186,9 @@ pub fn run(run: &mut Run) {
     faults(run);
     nearest(run);
     differences::run(run);
+    if WATTS {
+        differences::other_watts(run);
+    }
     every_mark(run);
 }
 

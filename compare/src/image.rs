@@ -46,8 +46,13 @@ pub struct Table {
     pub emissions: u8,
     /// data, elsewhere, automatic segments, channels, emissions, privileges
     pub rules: [u16; 6],
+    /// Channel watts and segment watts, which edition 2 has; a table without them is of edition 1.
+    pub watts: Option<(f64, f64)>,
     pub tables: [Vec<Record>; 9],
 }
+
+/// The 60 m power limits of edition 1: of a channel, and of the segment.
+pub const FIXED_WATTS: (f64, f64) = (100.0, 9.15);
 
 impl Table {
     /// The image's bytes, as it is: nothing is checked or put right.
@@ -68,6 +73,11 @@ impl Table {
             out.extend(rule.to_le_bytes());
         }
         out.extend([0; 6]);
+        if let Some((channel, segment)) = self.watts {
+            for x in [channel, segment] {
+                out.extend(x.to_bits().to_le_bytes());
+            }
+        }
         for r in self.tables.iter().flatten() {
             out.extend(r.encode());
         }
@@ -76,7 +86,7 @@ impl Table {
             out.extend((t.len() as u16).to_le_bytes());
         }
         out.extend(front.to_le_bytes());
-        out.extend(1u16.to_le_bytes());
+        out.extend(self.edition().to_le_bytes());
         out.extend(b"EDGE");
         out
     }
@@ -96,7 +106,8 @@ impl Table {
         ];
         let mut out = format!(
             "  general: limit {:?}, elsewhere {:?}, width {:?}, offset {:?}, tolerance {:?}, region {}, \
-             reading {}, flags {:#07b}, channel band {}, sideband {}, emissions {:#06b}, rules {:?}\n",
+             reading {}, flags {:#07b}, channel band {}, sideband {}, emissions {:#06b}, rules {:?}, \
+             watts {:?}\n",
             self.data_limit,
             self.elsewhere_limit,
             self.width,
@@ -108,7 +119,8 @@ impl Table {
             self.channel_band,
             self.sideband,
             self.emissions,
-            self.rules
+            self.rules,
+            self.watts
         );
         for (name, records) in names.iter().zip(&self.tables) {
             for r in records {
@@ -132,6 +144,15 @@ impl Table {
 
     pub fn has(&self, flag: u8) -> bool {
         self.flags & flag != 0
+    }
+
+    pub fn edition(&self) -> u16 {
+        if self.watts.is_some() { 2 } else { 1 }
+    }
+
+    /// The 60 m power limits that it is judged by, of a channel and of the segment.
+    pub fn limits(&self) -> (f64, f64) {
+        self.watts.unwrap_or(FIXED_WATTS)
     }
 }
 
@@ -160,13 +181,18 @@ pub fn f64_at(b: &[u8], at: usize) -> f64 {
     f64::from_bits(u64::from_le_bytes(b[at..at + 8].try_into().unwrap()))
 }
 
-/// Where the tables of an image begin: "Edition 2 has two more f64 in the general block" (document 02).
-pub fn front_of(image: &[u8]) -> usize {
-    if u16_at(image, image.len() - 6) == 2 { 80 } else { 64 }
+/// The edition that an image names, where it is long enough for a trailer.
+pub fn edition_of(image: &[u8]) -> Option<u16> {
+    (image.len() >= 28).then(|| u16_at(image, image.len() - 6))
 }
 
-/// An image of edition 1 raised to edition 2: "channel watts at 64 and segment watts at 72, and the distance back is
-/// 16 longer", "going up always fills in 100 and 9.15" (document 02).
+/// Where the tables of an image begin: "Edition 2 has two more f64 in the general block" (document 02).
+pub fn front_of(image: &[u8]) -> usize {
+    if edition_of(image) == Some(2) { 80 } else { 64 }
+}
+
+/// An image of edition 1 raised to edition 2: "channel watts at 64 and segment watts at 72, and the distance
+/// back is 16 longer", "going up always fills in 100 and 9.15" (document 02).
 pub fn raised(image: &[u8]) -> Vec<u8> {
     let mut out = image[..64].to_vec();
     out.extend(100f64.to_bits().to_le_bytes());
@@ -195,9 +221,13 @@ pub fn decode(image: &[u8]) -> Table {
         sideband: image[44],
         emissions: image[45],
         rules: [46, 48, 50, 52, 54, 56].map(|at| u16_at(image, at)),
+        watts: None,
         tables: Default::default(),
     };
     let mut at = front_of(image);
+    if at == 80 {
+        table.watts = Some((f64_at(image, 64), f64_at(image, 72)));
+    }
     for t in 0..9 {
         for _ in 0..u16_at(image, end + 2 * t) {
             let r = &image[at..at + 32];

@@ -1,8 +1,10 @@
 //! Runs the Rust, unchanged, beside the proved library, and compares every part of every answer.
 //!
 //!     pamuklid-compare [--verdicts N] [--ceilings N] [--dials N] [--texts N] [--reports N]
-//!                      [--airtimes N] [--censuses N] [--direction D] [--seed S] [--few] [--brief]
+//!                      [--airtimes N] [--censuses N] [--editions N] [--direction D] [--seed S] [--few]
+//!                      [--brief]
 //!     pamuklid-compare --replay FILE [--seed S]
+//!     pamuklid-compare --replay-check FILE | --replay-more FILE [--seed S]
 //!
 //! Exit 0: no difference, and everything that can be reached was; 1: a difference, printed with all
 //! its inputs and then made smaller; 2: wrong arguments; 3: no difference, but something was never
@@ -20,6 +22,7 @@ mod damage;
 mod differences;
 mod distance;
 mod draw;
+mod editions;
 mod expect;
 mod ffi;
 mod fixed;
@@ -40,7 +43,7 @@ use std::process::exit;
 
 use cases::Ladder;
 use compare::{Call, Case, Found, Room, Told};
-use draw::{Rng, UNEQUAL};
+use draw::{Rng, UNEQUAL, WATTS};
 use ffi::{Decision, Edges, Figures, Parts, Station, StationParts};
 use oracle::adapter::{self, Prepared};
 use oracle::sixty::{self, Change, Climb};
@@ -102,10 +105,13 @@ pub struct Run {
     pub left: (u64, u64),
     /// Verdicts, ceilings and dial lists whose margins differ.
     pub apart: [u64; 3],
+    /// Verdicts and ceilings by a table whose watts are others than edition 1's.
+    pub other_watts: [u64; 2],
     pub texts: texts::Met,
     pub reports: reports::Met,
     pub airtimes: airtimes::Met,
     pub censuses: censuses::Met,
+    pub editions: editions::Met,
     directions: Directions,
     brief: bool,
 }
@@ -128,10 +134,12 @@ impl Run {
             changed: (0, 0),
             left: (0, 0),
             apart: [0; 3],
+            other_watts: [0; 2],
             texts: texts::Met::default(),
             reports: reports::Met::default(),
             airtimes: airtimes::Met::default(),
             censuses: censuses::Met::default(),
+            editions: editions::Met::default(),
             directions: Directions::new(only),
             brief,
         }
@@ -167,6 +175,7 @@ impl Run {
             self.reach.count("check refused", u16::from(p.refusal), 0);
             self.reach.count("tidy refused", u16::from(refusal), 0);
         }
+        self.reach.edition(image, p.refusal);
         let number = u16::from(f.refusal);
         match f.place {
             0 => self.reach.count("fault without a place", number, 0),
@@ -215,7 +224,11 @@ impl Run {
         if d.refusal == 0 {
             self.verdicts += 1;
             self.apart[0] += u64::from(expect::margins_differ(s));
+            self.other_watts[0] += u64::from(expect::other_watts(p.table.as_ref(), s));
             self.reach.decision(&d, kind);
+            if let Some(table) = p.table.as_ref().filter(|_| WATTS) {
+                self.reach.watts(&d, table, s, kind);
+            }
             self.reach.verdict_by_direction(&d, s, direction);
         } else {
             self.refused += 1;
@@ -272,6 +285,7 @@ impl Run {
         if c.refusal == 0 {
             self.ceilings += 1;
             self.apart[1] += u64::from(expect::margins_differ(s));
+            self.other_watts[1] += u64::from(expect::other_watts(p.table.as_ref(), s));
             let known = |x: bool| u16::from(x);
             self.reach.count(
                 "ceiling rung, limit",
@@ -511,6 +525,33 @@ fn one_list(run: &mut Run, rng: &mut Rng, w: &World, (image, p): (&[u8], &Prepar
     }
 }
 
+/// With the feature `watts` most worlds are of edition 2, with watts from a stream of their own.
+fn amended(run: &Run, w: World) -> World {
+    let rng = &mut Rng::new(run.seed, run.place + (1 << 39));
+    if WATTS && !rng.chance(5) { w.with_watts(tables::some_watts(rng)) } else { w }
+}
+
+/// An image of edition 2, mostly a damaged one, and a call on it where it is refused: under Rules that call
+/// is refused too.
+fn second(run: &mut Run, rng: &mut Rng, w: &World) {
+    let image = damage::second(rng, w);
+    let p = run.image(&image);
+    if p.refusal == 0 {
+        return;
+    }
+    let signal = w.signal(rng);
+    let s = Station { policy: 2, ..w.station(rng, &signal) };
+    let e = w.edges(rng, signal.low, signal.high);
+    let direction = rng.below(4) as u8;
+    match rng.below(8) {
+        0 => _ = run.verdict(&image, &p, &s, rng.below(4) as u8, direction, &e),
+        1 => _ = run.unmeasured(&image, &p, &s),
+        2 => _ = run.ceiling(&image, &p, &s, direction, &cases::ladder(rng, w, &signal)),
+        3 => _ = run.dials(&image, &p, &s, direction, &e, Room::draw(rng, 36), rng.next()),
+        _ => {}
+    }
+}
+
 /// Document 02, 4, channel against segment, behind all other cases: stated ones, then tables made for it by a
 /// stream of their own, most of whose cases it changes. A fiftieth of the verdicts and of the ceilings.
 fn brushes(run: &mut Run, wanted: &Wanted) {
@@ -525,7 +566,7 @@ fn brushes(run: &mut Run, wanted: &Wanted) {
         run.place += 1;
         let rng = &mut Rng::new(run.seed, run.place + (1 << 36));
         run.directions.begin(run.seed, run.place);
-        let w = tables::brush(rng);
+        let w = amended(run, tables::brush(rng));
         let p = run.image(&w.image);
         if p.refusal != 0 {
             run.reach.count("worlds refused", u16::from(p.refusal), 0);
@@ -555,6 +596,7 @@ struct Wanted {
     reports: u64,
     airtimes: u64,
     censuses: u64,
+    editions: u64,
 }
 
 fn run_all(run: &mut Run, wanted: &Wanted) {
@@ -571,10 +613,13 @@ fn run_all(run: &mut Run, wanted: &Wanted) {
         exit(1);
     }
     fixed::run(run);
-    texts::fixed(run);
-    texts::run(run, wanted.texts);
-    airtimes::fixed(run);
-    airtimes::run(run, wanted.airtimes);
+    // with the feature `watts` verdicts, ceilings and lists alone: nothing else reads them
+    if !WATTS {
+        texts::fixed(run);
+        texts::run(run, wanted.texts);
+        airtimes::fixed(run);
+        airtimes::run(run, wanted.airtimes);
+    }
     let none = run.image(&[]);
     // of one direction alone as many are drawn: the fixed cases have theirs
     let fixed = match run.directions.only {
@@ -609,6 +654,7 @@ fn run_all(run: &mut Run, wanted: &Wanted) {
             25 | 50 | 75 => tables::marks(rng),
             _ => tables::world(rng),
         };
+        let w = amended(run, w);
         let p = run.image(&w.image);
         if p.refusal != 0 {
             run.reach.count("worlds refused", u16::from(p.refusal), 0);
@@ -662,17 +708,22 @@ fn run_all(run: &mut Run, wanted: &Wanted) {
             }
         }
         run.image(&damage::several(&mut Rng::new(run.seed, run.place + (1 << 33)), &w));
+        second(run, &mut Rng::new(run.seed, place + (1 << 40)), &w);
     }
     brushes(run, &wanted);
-    reports::run(run, wanted.reports);
-    censuses::fixed(run);
-    censuses::run(run, wanted.censuses);
+    if !WATTS {
+        reports::run(run, wanted.reports);
+        censuses::fixed(run);
+        censuses::run(run, wanted.censuses);
+        editions::fixed(run);
+        editions::run(run, wanted.editions);
+    }
 }
 
-/// Every bit of the sample images turned over, one at a time: the check, the tidy question, and where
-/// the table is wrong.
+/// Every bit of the sample images of both editions turned over, one at a time: the check, the tidy question,
+/// and where the table is wrong.
 fn every_bit(run: &mut Run) {
-    for sample in damage::samples() {
+    for sample in damage::samples().into_iter().flat_map(|first| [image::raised(&first), first]) {
         let p = run.image(&sample);
         assert_eq!(p.refusal, 0, "a sample is accepted");
         for at in 0..8 * sample.len() {
@@ -686,8 +737,10 @@ fn every_bit(run: &mut Run) {
 fn usage() -> ! {
     eprintln!(
         "usage: pamuklid-compare [--verdicts N] [--ceilings N] [--dials N] [--texts N] \
-         [--reports N] [--airtimes N] [--censuses N] [--direction D] [--seed S] [--few] [--brief]\n\
-         \x20      pamuklid-compare --replay FILE [--seed S]"
+         [--reports N] [--airtimes N] [--censuses N] [--editions N] [--direction D] [--seed S] [--few] \
+         [--brief]\n\
+         \x20      pamuklid-compare --replay FILE [--seed S]\n\
+         \x20      pamuklid-compare --replay-check FILE | --replay-more FILE [--seed S]"
     );
     exit(2)
 }
@@ -701,6 +754,7 @@ fn main() {
         reports: 1_000_000,
         airtimes: 1_000_000,
         censuses: 1_000,
+        editions: 1_000_000,
     };
     let (mut seed, mut only, mut few, mut brief, mut replay) = (1, None, false, false, None);
     let mut args = std::env::args().skip(1);
@@ -714,6 +768,7 @@ fn main() {
             "--reports" => wanted.reports = number(),
             "--airtimes" => wanted.airtimes = number(),
             "--censuses" => wanted.censuses = number(),
+            "--editions" => wanted.editions = number(),
             "--direction" => match number() {
                 direction @ 0..=3 => only = Some(direction as u8),
                 _ => usage(),
@@ -721,13 +776,23 @@ fn main() {
             "--seed" => seed = number(),
             "--few" => few = true,
             "--brief" => brief = true,
-            "--replay" => replay = Some(args.next().unwrap_or_else(|| usage())),
+            "--replay" | "--replay-check" | "--replay-more" => {
+                replay = Some((arg, args.next().unwrap_or_else(|| usage())));
+            }
             _ => usage(),
         }
     }
     let mut run = Run::new(seed, only, brief);
-    if let Some(file) = replay {
-        replay::write(&mut run, &file);
+    if let Some((how, file)) = replay {
+        match how.as_str() {
+            "--replay" => replay::write(&mut run, &file),
+            "--replay-more" if WATTS => replay::more(&mut run, &file),
+            "--replay-more" => {
+                eprintln!("--replay-more has cases with other watts: it needs compare/run --watts");
+                exit(2)
+            }
+            _ => replay::check(&mut run, &file),
+        }
         return;
     }
     let start = std::time::Instant::now();
@@ -755,6 +820,10 @@ fn main() {
             "margins that differ: {verdicts} verdicts, {ceilings} ceilings, {lists} dial lists"
         );
     }
+    if WATTS {
+        let [verdicts, ceilings] = run.other_watts;
+        println!("other watts than 100 and 9.15: {verdicts} verdicts, {ceilings} ceilings");
+    }
     println!(
         "changed by document 02, 4, and held to its words: {} of the verdicts, {} of the ceilings; {} and {} \
          of them not on tables made for it",
@@ -772,26 +841,32 @@ fn main() {
         "distance: {} compared; demand 3: {met} dials with its premises met, {nought} of them nought",
         run.distances
     );
-    println!(
-        "texts: {} figures compared, each in three texts; {} calls refused",
-        run.texts.figures, run.texts.refused
-    );
-    println!(
-        "reports: {} compared, with {} rows, {} of them overlaps and {} gaps; {} calls refused",
-        run.reports.reports,
-        run.reports.rows,
-        run.reports.overlaps,
-        run.reports.gaps,
-        run.reports.refused
-    );
-    println!(
-        "time on the air: {} logs compared, with {} records; {} calls refused",
-        run.airtimes.logs, run.airtimes.records, run.airtimes.refused
-    );
-    println!(
-        "censuses: {} stretches compared, with {} dials; {} calls refused",
-        run.censuses.stretches, run.censuses.dials, run.censuses.refused
-    );
+    if !WATTS {
+        println!(
+            "texts: {} figures compared, each in three texts; {} calls refused",
+            run.texts.figures, run.texts.refused
+        );
+        println!(
+            "reports: {} compared, with {} rows, {} of them overlaps and {} gaps; {} calls refused",
+            run.reports.reports,
+            run.reports.rows,
+            run.reports.overlaps,
+            run.reports.gaps,
+            run.reports.refused
+        );
+        println!(
+            "time on the air: {} logs compared, with {} records; {} calls refused",
+            run.airtimes.logs, run.airtimes.records, run.airtimes.refused
+        );
+        println!(
+            "censuses: {} stretches compared, with {} dials; {} calls refused",
+            run.censuses.stretches, run.censuses.dials, run.censuses.refused
+        );
+        println!(
+            "writer and converters: {} images written, {} raised, {} lowered; {} of these calls refused",
+            run.editions.written, run.editions.raised, run.editions.lowered, run.editions.refused
+        );
+    }
     run.texts.count(&mut run.reach);
     let missing = run.reach.missing(only);
     if !brief && !few {

@@ -4,5 +4,7 @@ use crate::expect;
 include!(concat!(env!("OUT_DIR"), "/oracle.rs"));
 #[path = "adapter.rs"]
 pub mod adapter;
+#[path = "edition.rs"]
+pub mod edition;
 #[path = "sixty.rs"]
 pub mod sixty;

@@ -2,10 +2,13 @@
 
 use std::collections::BTreeMap;
 
+use crate::draw::{BIG, WATTS};
+use crate::expect;
 use crate::ffi::{Decision, Station};
+use crate::image::{self, FIXED_WATTS, Table};
 use crate::oracle::adapter::Ceiling;
 use crate::oracle::sixty::{Change, Climb};
-use crate::{airtimes, censuses, reports, texts};
+use crate::{airtimes, censuses, editions, reports, texts};
 
 pub type Key = (&'static str, u16, u16);
 
@@ -194,6 +197,86 @@ const BY_DIRECTION: [(&str, &[u16], &[u16]); 7] = [
 const NO_DIRECTION: [&str; 3] =
     ["no direction, verdict", "no direction, ceiling", "no direction, dial list"];
 
+/// Watts of edition 2 that meet 6: a NaN, the infinities, above 2^40 in size, negative zero.
+fn odd_watts(x: f64) -> Option<u16> {
+    match x {
+        _ if x.is_nan() => Some(0),
+        f64::INFINITY => Some(1),
+        f64::NEG_INFINITY => Some(2),
+        _ if x > BIG => Some(3),
+        _ if x < -BIG => Some(4),
+        _ if x.to_bits() == 1 << 63 => Some(5),
+        _ => None,
+    }
+}
+
+/// Watts that don't: zero, negative, subnormal, 2^40 and its negative, others.
+fn plain_watts(x: f64) -> u16 {
+    match x {
+        0.0 => 0,
+        _ if x == -BIG => 1,
+        _ if x < 0.0 => 2,
+        _ if x.is_subnormal() => 3,
+        _ if x == BIG => 4,
+        _ => 5,
+    }
+}
+
+/// What edition 2 has to meet: each refusal but 3, which it passes, and none; the lengths that only one of the
+/// editions can have; each watt figure that is refused, alone, and each kind that isn't.
+fn of_edition_2() -> Vec<Key> {
+    let mut out: Vec<Key> =
+        (0..=14).filter(|&n| n != 3).map(|n| ("edition 2 checked", n, 0)).collect();
+    out.extend([("edition 2 under 108 bytes", 4, 0), ("edition 1 over 65,536 bytes", 4, 0)]);
+    for watts in 0..2 {
+        out.extend((0..6).map(|how| ("watts refused", watts, how)));
+        out.extend((0..6).map(|how| ("watts accepted", watts, how)));
+    }
+    out
+}
+
+/// What other watts have to meet on 60 m: answers by a channel and by the segment, with the station's power on
+/// both sides of each of the two figures; with and without their warning, for each kind of emission; with a
+/// power one unit in the last place beside the figure and just it; where 100 or 9.15 would say otherwise, both
+/// ways; with each kind of figure; and by document 02, 4 also from a warning to legal.
+fn of_other_watts() -> Vec<Key> {
+    let mut out = vec![("changed CW 24 to 25", 1, 0)];
+    for what in ON_SIXTY {
+        out.extend((0..4).map(|sides| (what.sides, sides / 2, sides % 2)));
+        out.extend((0..6).map(|n| (what.kind, n / 2, n % 2)));
+        out.extend((0..3).map(|n| (what.beside, n, 0)));
+        out.extend((0..2).map(|n| (what.otherwise, n, 0)));
+        out.extend((0..6).map(|n| (what.figure, n, 0)));
+    }
+    out
+}
+
+/// The names of what an answer by a channel and one by the segment meet.
+struct Named {
+    sides: &'static str,
+    kind: &'static str,
+    beside: &'static str,
+    otherwise: &'static str,
+    figure: &'static str,
+}
+
+const ON_SIXTY: [Named; 2] = [
+    Named {
+        sides: "channel, power above channel watts, segment watts",
+        kind: "channel, kind, warned",
+        beside: "channel, power next below, at, next above its watts",
+        otherwise: "channel, warned, not by 100 W",
+        figure: "channel, its watts",
+    },
+    Named {
+        sides: "segment, power above channel watts, segment watts",
+        kind: "segment, kind, warned",
+        beside: "segment, power next below, at, next above its watts",
+        otherwise: "segment, warned, not by 9.15 W",
+        figure: "segment, its watts",
+    },
+];
+
 impl Reach {
     pub fn count(&mut self, what: &'static str, a: u16, b: u16) {
         self.add((what, a, b), 1);
@@ -240,6 +323,54 @@ impl Reach {
         }
     }
 
+    /// What the check says of an image, by the edition that it names.
+    pub fn edition(&mut self, image: &[u8], refusal: u8) {
+        let (edition, number) = (image::edition_of(image), u16::from(refusal));
+        if edition == Some(1) && (65_537..=65_552).contains(&image.len()) {
+            self.count("edition 1 over 65,536 bytes", number, 0);
+        }
+        if edition != Some(2) {
+            return;
+        }
+        self.count("edition 2 checked", number, 0);
+        if (92..108).contains(&image.len()) {
+            self.count("edition 2 under 108 bytes", number, 0);
+        }
+        if refusal == 0 {
+            for (place, at) in [(0, 64), (1, 72)] {
+                self.count("watts accepted", place, plain_watts(image::f64_at(image, at)));
+            }
+        }
+        if let Some((which, how)) = watts_refused(image, refusal) {
+            self.count("watts refused", which, how);
+        }
+    }
+
+    /// An answer on 60 m that isn't blocked, of a station whose power is known.
+    pub fn watts(&mut self, d: &Decision, t: &Table, s: &Station, kind: u8) {
+        let place = match (d.code, d.verdict) {
+            (24, 0 | 1) => 0,
+            (25, _) => 1,
+            _ => return,
+        };
+        if s.power_known != 1 || !expect::other_watts(Some(t), s) {
+            return;
+        }
+        let (power, limits) = (expect::read(s.power_w), [t.limits().0, t.limits().1]);
+        let (what, own) = (&ON_SIXTY[place], limits[place]);
+        let fixed = [FIXED_WATTS.0, FIXED_WATTS.1][place];
+        let warned = u16::from(d.verdict);
+        self.count(what.sides, u16::from(power > limits[0]), u16::from(power > limits[1]));
+        self.count(what.kind, kind.into(), warned);
+        if let Some(n) = [own.next_down(), own, own.next_up()].iter().position(|&x| x == power) {
+            self.count(what.beside, n as u16, 0);
+        }
+        if u16::from(power > fixed) != warned {
+            self.count(what.otherwise, warned, 0);
+        }
+        self.count(what.figure, plain_watts(own), 0);
+    }
+
     pub fn verdict_by_direction(&mut self, d: &Decision, s: &Station, direction: u8) {
         self.count("verdict by direction", direction.into(), 0);
         if d.code == 20 && s.control == 2 && d.automatic_known == 0 {
@@ -278,11 +409,18 @@ impl Reach {
             out.extend(verdicts.iter().map(|&v| ("code, verdict", code, v)));
         }
         out.extend(LIMITS.map(|code| ("ceiling limit", code, 0)));
-        out.extend(texts::required());
-        out.extend(reports::required());
-        out.extend(airtimes::required());
-        if only.is_none() {
-            out.extend(censuses::required());
+        out.extend(of_edition_2());
+        if WATTS {
+            // verdicts, ceilings and lists alone
+            out.extend(of_other_watts());
+        } else {
+            out.extend(texts::required());
+            out.extend(reports::required());
+            out.extend(airtimes::required());
+            out.extend(editions::required());
+            if only.is_none() {
+                out.extend(censuses::required());
+            }
         }
         out.extend([0, 1, 2, 3, 4, 11, 14].map(|number| ("fault without a place", number, 0)));
         for (number, general, tables) in FAULTS {
@@ -330,4 +468,19 @@ impl Reach {
             println!("  {what} ({a}): {places} places, the least reached {least} times");
         }
     }
+}
+
+/// Where an image of edition 2 meets 6 by one of its watts and nothing else: which, and what is wrong with it.
+pub fn watts_refused(image: &[u8], refusal: u8) -> Option<(u16, u16)> {
+    if refusal != 6 || image::edition_of(image) != Some(2) {
+        return None;
+    }
+    let which = match [64, 72].map(|at| odd_watts(image::f64_at(image, at))) {
+        [Some(how), None] => (0, how),
+        [None, Some(how)] => (1, how),
+        _ => return None,
+    };
+    let mut plain = image.to_vec();
+    plain[64..80].fill(0);
+    (expect::image_1_to_6(&plain) == 0).then_some(which)
 }

@@ -3,6 +3,10 @@
 //! direction 3, which it has not, are its Originate's; those that document 02, 4 changed are worked out from
 //! it, sixty.rs); refusals, and the parts that the Rust has only as text, are worked out from document 01
 //! (expect.rs); texts are the Rust's own. Every answer was compared with the linked library's on the way.
+//! A list is read again as it is written: each case's inputs are taken, both sides are asked, and the answer
+//! must stand there to the byte (`check`). Behind a list that was kept come the cases of edition 2 (`more`),
+//! with 100 and 9.15 and with other watts: these are the answers of the Rust's copy with other watts, so that
+//! the feature `watts` is needed; without it their pages are passed over when a list is read.
 //!
 //! All numbers are little-endian; f64 means its 64 bits. No padding. The list is u32 number of
 //! pages, then those:
@@ -38,20 +42,22 @@
 //!               u8 notes, else they are all zero (103 or 359 bytes)
 
 use std::collections::{BTreeMap, BTreeSet};
+use std::process::exit;
 
 use crate::cases::{self, Ladder};
 use crate::compare::{Found, Room};
 use crate::damage;
 use crate::distance::{self, Asked};
-use crate::draw::{Rng, Scale};
+use crate::draw::{Rng, Scale, WATTS};
 use crate::expect;
 use crate::ffi::{Decision, Edges, Figures, Parts, Station, StationParts};
-use crate::image::{CHANNELS, SEGMENTS};
+use crate::image::{self, CHANNELS, FIXED_WATTS, SEGMENTS};
 use crate::oracle::adapter::{self, Ceiling, Prepared};
 use crate::oracle::sixty::{Change, Climb};
 use crate::reach::{self, CHANGES, Key};
 use crate::tables::{self, World};
-use crate::{Run, differences, fixed, texts};
+use crate::texts::{self, Answered};
+use crate::{Run, differences, fixed};
 
 #[derive(Default)]
 struct List {
@@ -80,6 +86,27 @@ impl List {
 
     fn changes(&mut self, key: Key) {
         *self.changed.entry(key).or_default() += 1;
+    }
+
+    fn save(&self, file: &str) {
+        let mut out = self.images.to_le_bytes().to_vec();
+        out.extend(&self.bytes);
+        if let Err(e) = std::fs::write(file, &out) {
+            eprintln!("{file}: {e}");
+            exit(2);
+        }
+    }
+
+    fn told(&self) -> String {
+        let [checks, verdicts, unmeasured, ceilings, dials, distances, faults, texts] = self.calls;
+        format!(
+            "{} bytes; {} images, {} cases: {checks} image cases, {verdicts} verdicts, {unmeasured} \
+             unmeasured, {ceilings} ceilings, {dials} dial lists, {distances} distances, {faults} faults, \
+             {texts} texts",
+            4 + self.bytes.len(),
+            self.images,
+            self.calls.iter().sum::<u32>(),
+        )
     }
 }
 
@@ -151,17 +178,27 @@ impl<'a> Page<'a> {
     fn check(&mut self, list: &mut List, most: u32) {
         let (tidy, refusal) = adapter::tidy(self.p);
         if list.wants((0, u16::from(tidy), u16::from(refusal), 0), most) {
-            self.add(list, (0, refusal, 0), &[refusal, tidy]);
+            self.add_check(list);
         }
+    }
+
+    fn add_check(&mut self, list: &mut List) {
+        let (tidy, refusal) = adapter::tidy(self.p);
+        self.add(list, (0, refusal, 0), &[refusal, tidy]);
     }
 
     fn fault(&mut self, list: &mut List, most: u32) {
         let f = expect::fault(self.image, self.p.refusal);
         let place = u16::from(f.place) * 256 + u16::from(f.table);
         if list.wants((10, u16::from(f.refusal), place, f.record.min(1)), most) {
-            let [low, high] = f.record.to_le_bytes();
-            self.add(list, (6, f.refusal, 0), &[f.refusal, f.place, f.table, low, high]);
+            self.add_fault(list);
         }
+    }
+
+    fn add_fault(&mut self, list: &mut List) {
+        let f = expect::fault(self.image, self.p.refusal);
+        let [low, high] = f.record.to_le_bytes();
+        self.add(list, (6, f.refusal, 0), &[f.refusal, f.place, f.table, low, high]);
     }
 
     fn verdict(
@@ -214,11 +251,15 @@ impl<'a> Page<'a> {
     fn unmeasured(&mut self, run: &mut Run, list: &mut List, s: &Station, most: u32) {
         let d = run.unmeasured(self.image, self.p, s);
         if list.wants((3, u16::from(d.refusal), 0, 0), most) {
-            let mut out = Vec::new();
-            station(&mut out, s);
-            decision(&mut out, &d);
-            self.add(list, (2, d.refusal, 0), &out);
+            self.add_unmeasured(list, s, &d);
         }
+    }
+
+    fn add_unmeasured(&mut self, list: &mut List, s: &Station, d: &Decision) {
+        let mut out = Vec::new();
+        station(&mut out, s);
+        decision(&mut out, d);
+        self.add(list, (2, d.refusal, 0), &out);
     }
 
     fn ceiling(
@@ -331,26 +372,34 @@ impl<'a> Page<'a> {
             Err(refusal) => u16::from(refusal),
         };
         if list.wants((9, class, (rows.len() / 36).min(3) as u16, 0), most) {
-            let mut out = a.dial.to_bits().to_le_bytes().to_vec();
-            out.extend([a.flags, a.channel_band]);
-            out.extend(a.count.to_le_bytes());
-            out.extend((rows.len() as u32).to_le_bytes());
-            out.extend(&rows);
-            let flat = distance::flat(far);
-            out.extend([flat.refusal, flat.listed]);
-            out.extend(flat.distance_hz.to_bits().to_le_bytes());
-            self.add(list, (5, flat.refusal, 0), &out);
+            self.add_distance(list, &a, &rows, far);
         }
     }
 
-    fn texts(&mut self, run: &mut Run, list: &mut List) {
-        for (call, hz, room, refusal, text) in texts::sample(run) {
-            let mut out = vec![call as u8];
-            out.extend(hz.to_bits().to_le_bytes());
-            out.extend([room as u8, refusal, text.len() as u8]);
-            out.extend(&text);
-            self.add(list, (7, refusal, call as u8), &out);
-        }
+    fn add_distance(
+        &mut self,
+        list: &mut List,
+        a: &Asked,
+        rows: &[u8],
+        far: Result<Option<f64>, u8>,
+    ) {
+        let mut out = a.dial.to_bits().to_le_bytes().to_vec();
+        out.extend([a.flags, a.channel_band]);
+        out.extend(a.count.to_le_bytes());
+        out.extend((rows.len() as u32).to_le_bytes());
+        out.extend(rows);
+        let flat = distance::flat(far);
+        out.extend([flat.refusal, flat.listed]);
+        out.extend(flat.distance_hz.to_bits().to_le_bytes());
+        self.add(list, (5, flat.refusal, 0), &out);
+    }
+
+    fn add_text(&mut self, list: &mut List, (call, hz, room, refusal, text): Answered) {
+        let mut out = vec![call as u8];
+        out.extend(hz.to_bits().to_le_bytes());
+        out.extend([room as u8, refusal, text.len() as u8]);
+        out.extend(&text);
+        self.add(list, (7, refusal, call as u8), &out);
     }
 }
 
@@ -382,28 +431,15 @@ pub fn write(run: &mut Run, file: &str) {
         }
     }
     let mut last = Page::new(&[], &none);
-    last.texts(run, &mut list);
+    texts::sample(run).into_iter().for_each(|text| last.add_text(&mut list, text));
     last.end(&mut list);
     to_automatic(run, &mut list);
     let before = list.changed.clone();
     brushed(run, &mut list);
     let missing: Vec<_> = wanted().into_iter().filter(|k| !list.seen.contains(k)).collect();
     assert!(missing.is_empty(), "every code and every refusal: {missing:?}");
-    let mut out = list.images.to_le_bytes().to_vec();
-    out.extend(&list.bytes);
-    if let Err(e) = std::fs::write(file, &out) {
-        eprintln!("{file}: {e}");
-        std::process::exit(2);
-    }
-    let [checks, verdicts, unmeasured, ceilings, dials, distances, faults, texts] = list.calls;
-    println!(
-        "{} bytes; {} images, {checks} image cases, {verdicts} verdicts, {unmeasured} unmeasured, \
-         {ceilings} ceilings, {dials} dial lists, {distances} distances, {faults} faults, {texts} texts; \
-         seed {}",
-        out.len(),
-        list.images,
-        run.seed
-    );
+    list.save(file);
+    println!("{}; seed {}", list.told(), run.seed);
     println!("changed by document 02, 4, where they stood, and added at the end:");
     for (key, what) in CHANGES.into_iter().filter(|(key, _)| !of_rung(key)) {
         let stood = before.get(&key).copied().unwrap_or(0);
@@ -668,4 +704,349 @@ fn page(
     }
     page.end(list);
     bare.end(list);
+}
+
+// ------------------------------------------------------------------------ a list that was kept
+
+/// Bytes of a list, read one thing after the other.
+struct Reader<'a> {
+    bytes: &'a [u8],
+    at: usize,
+}
+
+impl<'a> Reader<'a> {
+    fn take(&mut self, n: usize) -> &'a [u8] {
+        let taken = &self.bytes[self.at..self.at + n];
+        self.at += n;
+        taken
+    }
+
+    fn byte(&mut self) -> u8 {
+        self.take(1)[0]
+    }
+
+    fn word(&mut self) -> u16 {
+        image::u16_at(self.take(2), 0)
+    }
+
+    fn long(&mut self) -> u32 {
+        image::u32_at(self.take(4), 0)
+    }
+
+    fn figure(&mut self) -> f64 {
+        image::f64_at(self.take(8), 0)
+    }
+
+    fn station(&mut self) -> Station {
+        let [margin, dial_hz, power_w] = [(); 3].map(|()| self.figure());
+        let codes = self.take(8);
+        Station {
+            margin_lower_hz: margin,
+            margin_upper_hz: margin,
+            dial_hz,
+            power_w,
+            policy: codes[0],
+            control: codes[1],
+            license: codes[2],
+            sideband: codes[3],
+            itu_region: codes[4],
+            band_plan: codes[5],
+            dial_known: codes[6],
+            power_known: codes[7],
+        }
+    }
+
+    fn edges(&mut self) -> Edges {
+        Edges::of([(); 4].map(|()| self.figure()))
+    }
+}
+
+impl Page<'_> {
+    /// The next case of a list, from its inputs: it is added with the answer of both sides.
+    fn again(&mut self, run: &mut Run, list: &mut List, from: &mut Reader) {
+        match from.byte() {
+            0 => self.add_check(list),
+            1 => {
+                let (s, kind, direction) = (from.station(), from.byte(), from.byte());
+                let e = from.edges();
+                let judged = run.judged(self.image, self.p, &s, kind, direction, &e);
+                self.add_verdict(list, &s, (kind, direction), &e, &judged);
+            }
+            2 => {
+                let s = from.station();
+                let d = run.unmeasured(self.image, self.p, &s);
+                self.add_unmeasured(list, &s, &d);
+            }
+            3 => {
+                let (s, direction) = (from.station(), from.byte());
+                let (ordinary, floor) = (from.edges(), from.edges());
+                let (figures, floors) = (from.word(), from.word());
+                let rungs = (0..figures).map(|_| from.figure()).collect();
+                let floors = from.take(floors.into()).to_vec();
+                let l = Ladder { ordinary, floor, rungs, floors };
+                let climbed = run.climbed(self.image, self.p, &s, direction, &l);
+                self.add_ceiling(list, &s, direction, &l, &climbed);
+            }
+            4 => {
+                let (s, direction, e) = (from.station(), from.byte(), from.edges());
+                let room = Room::Bytes(from.long() as usize);
+                let found = run.dials(self.image, self.p, &s, direction, &e, room, 0);
+                self.add_dials(list, &s, direction, &e, &found);
+            }
+            5 => {
+                let (dial, flags, channel_band) = (from.figure(), from.byte(), from.byte());
+                let a = Asked { dial, flags, channel_band, count: from.long() };
+                let size = from.long() as usize;
+                let rows = from.take(size);
+                let far = run.distance(&a, rows);
+                self.add_distance(list, &a, rows, far);
+            }
+            6 => self.add_fault(list),
+            _ => {
+                let (call, hz, room) = (from.byte().into(), from.figure(), from.byte().into());
+                self.add_text(list, texts::answered(run, call, hz, room));
+            }
+        }
+    }
+}
+
+/// Reads a list, asks both sides for every case, and ends the run where an answer is another. Up to the first
+/// accepted image of edition 2 (`kept`), or whole. Without the feature `watts` the Rust isn't asked about pages
+/// with other watts.
+fn read(run: &mut Run, file: &str, kept: bool) -> List {
+    let bytes = std::fs::read(file).unwrap_or_else(|e| {
+        eprintln!("{file}: {e}");
+        exit(2)
+    });
+    let mut from = Reader { bytes: &bytes, at: 0 };
+    let (mut list, mut passed) = (List::default(), 0);
+    for number in 0..from.long() {
+        let start = from.at;
+        let size = from.long() as usize;
+        let end = from.at + size;
+        let length = from.long() as usize;
+        let image = from.take(length);
+        let p = run.image(image);
+        let second = p.table.as_ref().filter(|t| p.refusal == 0 && t.watts.is_some());
+        if kept && second.is_some() {
+            break;
+        }
+        if !WATTS && second.is_some_and(|t| t.limits() != FIXED_WATTS) {
+            passed += 1;
+            list.images += 1;
+            list.bytes.extend(&bytes[start..end]);
+            from.at = end;
+            continue;
+        }
+        let mut page = Page::new(image, &p);
+        for case in 0..from.long() {
+            let (begin, made) = (from.at, page.bytes.len());
+            page.again(run, &mut list, &mut from);
+            let made = &page.bytes[made..];
+            if !bytes[begin..end].starts_with(made) {
+                println!(
+                    "DIFFERENCE: {file}, image {number}, case {case}: the list has another answer"
+                );
+                exit(1);
+            }
+            from.at = begin + made.len();
+        }
+        assert_eq!(from.at, end, "{file}, image {number}: a page has its cases and no more");
+        page.end(&mut list);
+    }
+    if !kept {
+        assert!(bytes[4..] == list.bytes, "{file}: the list as it was read");
+    }
+    println!("{}: {passed} images with other watts were passed over", list.told());
+    list
+}
+
+/// Every case of a list, beside both sides.
+pub fn check(run: &mut Run, file: &str) {
+    read(run, file, false);
+    println!("no difference");
+}
+
+/// The cases of edition 2, behind those of a list that was kept; such cases of an earlier time are made anew.
+pub fn more(run: &mut Run, file: &str) {
+    let mut list = read(run, file, true);
+    let (bytes, images) = (list.bytes.len(), list.images);
+    let calls = list.calls;
+    list.seen.clear();
+    of_edition_2(run, &mut list);
+    list.save(file);
+    let added: Vec<u32> = list.calls.iter().zip(calls).map(|(all, kept)| all - kept).collect();
+    println!(
+        "added {} bytes, {} images, {} cases, by call {added:?}",
+        list.bytes.len() - bytes,
+        list.images - images,
+        added.iter().sum::<u32>()
+    );
+    println!("{}; seed {}", list.told(), run.seed);
+}
+
+/// What edition 2 has to be there with: every code of a verdict and every refusal of each call. 3 it passes.
+fn wanted_of_edition_2() -> Vec<(u8, u8, u8)> {
+    let of = |&(call, refusal, _): &(u8, u8, u8)| refusal != 3 && matches!(call, 0..=4 | 6);
+    wanted().into_iter().filter(of).filter(|&(_, refusal, _)| refusal != 22).collect()
+}
+
+/// Images of edition 2: "sixty" of docs/DIFFERENCES.md at the edges of its watts, the practice table, worlds with
+/// 100 and 9.15 and with other watts in turn, and damaged ones.
+fn of_edition_2(run: &mut Run, list: &mut List) {
+    let practice = tables::settle(fixed::practice(), Scale::Hf, None, 2).with_watts(FIXED_WATTS);
+    second(run, list, &mut Rng::new(run.seed, 1 << 42), &practice, 60);
+    at_the_watts(run, list);
+    for place in 1..=2000 {
+        run.place = place;
+        let rng = &mut Rng::new(run.seed, place + (1 << 42));
+        let w = if place % 3 == 0 { tables::brush(rng) } else { tables::world(rng) };
+        let other = tables::some_watts(rng);
+        let w = w.with_watts(if place % 2 == 0 { FIXED_WATTS } else { other });
+        if w.image.len() > 700 {
+            continue;
+        }
+        second(run, list, rng, &w, 8);
+        let image = damage::second(rng, &w);
+        let p = run.image(&image);
+        if image.len() <= 700 && p.refusal != 0 {
+            refused(run, list, rng, &w, &image, &p);
+        }
+    }
+    let missing: Vec<_> =
+        wanted_of_edition_2().into_iter().filter(|k| !list.seen.contains(k)).collect();
+    assert!(missing.is_empty(), "every code and every refusal with edition 2: {missing:?}");
+}
+
+/// On a channel and in the segment, with a power just at each of the watts and one unit in the last place above.
+fn at_the_watts(run: &mut Run, list: &mut List) {
+    let s = Station {
+        margin_lower_hz: 0.0,
+        margin_upper_hz: 0.0,
+        policy: 2,
+        control: 0,
+        license: 4,
+        sideband: 0,
+        itu_region: 0,
+        dial_known: 1,
+        power_known: 1,
+        ..expect::FRESH
+    };
+    let e = Edges::of([0.0, 5.0, 0.0, 5.0]);
+    for watts in [FIXED_WATTS, (9.15, 100.0), (50.0, 20.0), (0.0, -1.0)] {
+        let mut table = fixed::sixty();
+        table.watts = Some(watts);
+        let image = table.encode();
+        let p = run.image(&image);
+        let mut page = Page::new(&image, &p);
+        for power_w in [watts.0, watts.0.next_up(), watts.1, watts.1.next_up()] {
+            for dial_hz in [88.0, 30.0] {
+                let s = Station { dial_hz, power_w, ..s };
+                let judged = run.judged(&image, &p, &s, 0, 0, &e);
+                page.add_verdict(list, &s, (0, 0), &e, &judged);
+            }
+        }
+        page.end(list);
+    }
+}
+
+/// Cases on an accepted image of edition 2, of which those are taken that are still wanted.
+fn second(run: &mut Run, list: &mut List, rng: &mut Rng, w: &World, tries: usize) {
+    let p = run.image(&w.image);
+    if p.refusal != 0 {
+        return;
+    }
+    let mut page = Page::new(&w.image, &p);
+    let (tidy, _) = adapter::tidy(&p);
+    if list.wants((20, u16::from(tidy), 0, 0), 2) {
+        page.add_check(list);
+        page.add_fault(list);
+    }
+    for _ in 0..tries {
+        let (signal, mut s, mut e, mut kind, mut direction) =
+            crate::draw(rng, w, |drawn| drawn, |_, _, _, _, _| false);
+        if rng.chance(6) {
+            match rng.below(4) {
+                0 => damage::spoil_code(rng, &mut kind),
+                1 => damage::spoil_direction(rng, &mut direction),
+                2 => damage::spoil_edges(rng, &mut e),
+                _ => damage::spoil_station(rng, &mut s),
+            }
+        }
+        let judged = run.judged(&w.image, &p, &s, kind, direction, &e);
+        let d = &judged.0;
+        // on 60 m by the warning, the kind and the side of 100 or 9.15
+        let fixed = if d.code == 24 { FIXED_WATTS.0 } else { FIXED_WATTS.1 };
+        let above = s.power_known == 1 && s.power_w > fixed;
+        let shape = match (d.refusal, d.code) {
+            (0, 24 | 25) => u16::from(kind) * 2 + u16::from(above) + 1,
+            _ => 0,
+        };
+        let key = (21, u16::from(d.refusal), u16::from(d.code) * 4 + u16::from(d.verdict), shape);
+        if list.wants(key, 1) {
+            page.add_verdict(list, &s, (kind, direction), &e, &judged);
+        }
+        let d = run.unmeasured(&w.image, &p, &s);
+        if list.wants((22, d.refusal.into(), 0, 0), 1) {
+            page.add_unmeasured(list, &s, &d);
+        }
+        let mut l = cases::ladder(rng, w, &signal);
+        if rng.chance(10) {
+            damage::spoil_ladder(rng, &mut l);
+        }
+        if l.rungs.len() <= 24 {
+            let climbed = run.climbed(&w.image, &p, &s, direction, &l);
+            let c = &climbed.0;
+            let limit = c.limit.map_or(0, |d| d.code);
+            if list.wants((23, c.refusal.into(), limit.into(), c.rung.is_some().into()), 1) {
+                page.add_ceiling(list, &s, direction, &l, &climbed);
+            }
+        }
+        let room = Room::draw(rng, 36);
+        let found = run.dials(&w.image, &p, &s, direction, &e, room, 0);
+        let n = found.rows.len() / 36;
+        let key = (24, found.refusal.into(), n.min(3) as u16, u16::from(s.control == 2));
+        if n <= 20 && list.wants(key, 1) {
+            page.add_dials(list, &s, direction, &e, &found);
+        }
+    }
+    page.end(list);
+}
+
+/// A damaged image of edition 2: its check and where it is wrong, and a call of each kind, which it refuses too.
+fn refused(run: &mut Run, list: &mut List, rng: &mut Rng, w: &World, image: &[u8], p: &Prepared) {
+    let mut page = Page::new(image, p);
+    let (f, watts) = (expect::fault(image, p.refusal), reach::watts_refused(image, p.refusal));
+    let place = u16::from(f.place) * 256 + u16::from(f.table);
+    // by its watts alone, by each of them and each kind of figure
+    if let Some((which, how)) = watts {
+        if list.wants((25, which, how, 0), 1) {
+            page.add_check(list);
+            page.add_fault(list);
+        }
+    } else if list.wants((26, f.refusal.into(), place, 0), 1) {
+        page.add_check(list);
+        page.add_fault(list);
+    }
+    let signal = w.signal(rng);
+    let s = Station { policy: 2, ..w.station(rng, &signal) };
+    let (e, number) = (w.edges(rng, signal.low, signal.high), u16::from(p.refusal));
+    if list.wants((27, number, 1, 0), 1) {
+        let judged = run.judged(image, p, &s, 0, 0, &e);
+        page.add_verdict(list, &s, (0, 0), &e, &judged);
+    }
+    if list.wants((27, number, 2, 0), 1) {
+        let d = run.unmeasured(image, p, &s);
+        page.add_unmeasured(list, &s, &d);
+    }
+    if list.wants((27, number, 3, 0), 1) {
+        let l = Ladder { ordinary: e, floor: e, rungs: e.figures().to_vec(), floors: vec![0] };
+        let climbed = run.climbed(image, p, &s, 0, &l);
+        page.add_ceiling(list, &s, 0, &l, &climbed);
+    }
+    if list.wants((27, number, 4, 0), 1) {
+        let found = run.dials(image, p, &s, 0, &e, Room::Rows(2), 0);
+        page.add_dials(list, &s, 0, &e, &found);
+    }
+    page.end(list);
 }

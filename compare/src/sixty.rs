@@ -131,7 +131,7 @@ fn by_channel(t: &Table, s: &Station, kind: u8, x: &Sent, r: &Record) -> Decisio
     if kind != 1 || (middle - r.low).abs() > t.tolerance {
         return blocked;
     }
-    let above = u8::from(expect::above_channel_watts(watts(s)));
+    let above = u8::from(expect::above_channel_watts(t, watts(s)));
     Decision { verdict: above, note_channel_power: above, note_shared: 1, ..blocked }
 }
 
@@ -140,7 +140,7 @@ fn by_segment(t: &Table, s: &Station, kind: u8, x: &Sent, r: &Record) -> Decisio
     if kind == 0 && x.audio.high - x.audio.low > t.data_limit {
         return drafted(t, x, 12, t.rules[0], (span(r), r.rule));
     }
-    let above = u8::from(expect::above_segment_watts(watts(s)));
+    let above = u8::from(expect::above_segment_watts(t, watts(s)));
     let blocked = drafted(t, x, 25, r.rule, (span(r), r.rule));
     Decision { verdict: above, note_segment_power: above, ..blocked }
 }

@@ -5,11 +5,11 @@ use std::cell::RefCell;
 use std::rc::Rc;
 
 use crate::ffi::{
-    Airtime, Ceiling, Census, Decision, Dials, Distance, Edges, Fault, Report, Station, Text, Tidiness,
-    VERSION,
+    Airtime, Ceiling, Census, Decision, Dials, Distance, Edges, Fault, Fields, Image, Report,
+    Station, Text, Tidiness, VERSION,
 };
 use crate::original::adapter::{self, Prepared};
-use crate::original::{airtime, distance, expect, report, sixty};
+use crate::original::{airtime, distance, edition, expect, report, sixty};
 use crate::texts::Line;
 
 thread_local! {
@@ -249,4 +249,49 @@ extern "C" fn pamuklid_airtime_of(
         *place = airtime::total(starts, bands, seconds, i);
     }
     Airtime { count: starts.len() as u32, refusal: 0 }
+}
+
+/// The image that a call gives, in the bytes lent for it.
+fn given(want: edition::Given, out: *mut u8, room: usize) -> Image {
+    match want {
+        Ok(image) => {
+            let lent = unsafe { std::slice::from_raw_parts_mut(out, room) };
+            lent[..image.len()].copy_from_slice(&image);
+            Image { length: image.len() as u32, refusal: 0 }
+        }
+        Err(refusal) => Image { length: 0, refusal },
+    }
+}
+
+#[unsafe(no_mangle)]
+extern "C" fn pamuklid_raise(image: *const u8, n: usize, out: *mut u8, room: usize) -> Image {
+    let image = unsafe { slice(image, n) };
+    given(edition::raised(image, prepared(image).refusal, room), out, room)
+}
+
+#[unsafe(no_mangle)]
+extern "C" fn pamuklid_lower(image: *const u8, n: usize, out: *mut u8, room: usize) -> Image {
+    let image = unsafe { slice(image, n) };
+    given(edition::lowered(image, prepared(image).refusal, room), out, room)
+}
+
+#[unsafe(no_mangle)]
+extern "C" fn pamuklid_write(
+    fields: Fields,
+    figures: *const f64,
+    figure_count: usize,
+    codes: *const u8,
+    code_count: usize,
+    rules: *const u16,
+    rule_count: usize,
+    out: *mut u8,
+    room: usize,
+) -> Image {
+    let parts = edition::Parts {
+        fields,
+        figures: unsafe { slice(figures, figure_count) }.to_vec(),
+        codes: unsafe { slice(codes, code_count) }.to_vec(),
+        rules: unsafe { slice(rules, rule_count) }.to_vec(),
+    };
+    given(edition::written(&parts, room).expect("the Rust's check"), out, room)
 }

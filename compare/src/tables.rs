@@ -40,6 +40,15 @@ pub struct World {
     pub class: u8,
 }
 
+impl World {
+    /// The same in edition 2, with these watts.
+    pub fn with_watts(mut self, watts: (f64, f64)) -> Self {
+        self.table.watts = Some(watts);
+        self.image = self.table.encode();
+        self
+    }
+}
+
 fn rule(rng: &mut Rng) -> u16 {
     match rng.below(10) {
         0..=3 => rng.below(8) as u16,
@@ -322,6 +331,35 @@ pub fn watts(rng: &mut Rng) -> f64 {
         1 => x.next_down(),
         _ => x,
     })
+}
+
+/// A 60 m power limit: as stations have it, one unit in the last place beside that, zero, negative, tiny, up
+/// to 2^40.
+fn power_limit(rng: &mut Rng) -> f64 {
+    plain(match rng.below(8) {
+        0 => 0.0,
+        1 => -rng.pick(&[f64::from_bits(1), 0.125, 3.0, 100.0, BIG]),
+        2 => f64::from_bits(1 + rng.below(3) as u64),
+        3 => rng.pick(&[BIG, BIG.next_down(), 1e9, f64::MIN_POSITIVE]),
+        _ => watts(rng),
+    })
+}
+
+/// The watts of a table of edition 2, of a channel and of the segment: any two, one figure twice, and edition
+/// 1's, both, alone or exchanged.
+pub fn some_watts(rng: &mut Rng) -> (f64, f64) {
+    let (channel, segment) = FIXED_WATTS;
+    match rng.below(12) {
+        0 => (channel, segment),
+        1 => (segment, channel),
+        2 | 3 => (channel, power_limit(rng)),
+        4 | 5 => (power_limit(rng), segment),
+        6 => {
+            let x = power_limit(rng);
+            (x, x)
+        }
+        _ => (power_limit(rng), power_limit(rng)),
+    }
 }
 
 fn channels(

@@ -552,12 +552,12 @@ pub fn sample(run: &mut Run) -> Vec<Answered> {
         // 21 is met before 24
         asked.extend(refused().map(|hz| (call, hz, rng.below(2))));
     }
-    let mut out = Vec::new();
-    for (call, hz, room) in asked {
-        let want = wanted(call, hz);
-        run.text(call, hz, room, 0xa5, &want);
-        let (refusal, text) = answer(&want, room);
-        out.push((call, hz, room, refusal, text.to_vec()));
-    }
-    out
+    asked.into_iter().map(|(call, hz, room)| answered(run, call, hz, room)).collect()
+}
+
+pub fn answered(run: &mut Run, call: usize, hz: f64, room: usize) -> Answered {
+    let want = wanted(call, hz);
+    run.text(call, hz, room, 0xa5, &want);
+    let (refusal, text) = answer(&want, room);
+    (call, hz, room, refusal, text.to_vec())
 }
