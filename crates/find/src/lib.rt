@@ -102,6 +102,18 @@ fn class_holding(r: Record, n: u8, a: Range) -> bool
     r.class == n && holding(r, a)
 }
 
+fn overlapping(r: Record, a: Range) -> bool
+    ensures { λ x. ⌜ x ≡ asks (Question.Overlaps a) r ⌝ }
+{
+    table::span_of(r).overlaps(a)
+}
+
+fn of_band(r: Record, n: u8) -> bool
+    ensures { λ x. ⌜ x ≡ asks (Question.OfBand n) r ⌝ }
+{
+    r.band == n
+}
+
 // The first that holds a range.
 fn find_holding(s: &[u8], start: usize, count: usize, a: Range) -> Found
     requires { ⌜ start + 32 * count ≤ length (now s) ⌝ }
@@ -132,6 +144,36 @@ fn find_class(s: &[u8], start: usize, count: usize, n: u8, a: Range) -> Found
     Found::Nothing
 }
 
+// The first that touches a range.
+fn find_overlapping(s: &[u8], start: usize, count: usize, a: Range) -> Found
+    requires { ⌜ start + 32 * count ≤ length (now s) ⌝ }
+    ensures { λ r. ⌜ r ≡ first (asksAt (now (s .entry)) start (Question.Overlaps a)) count ⌝ }
+{
+    let mut i: usize = 0;
+    while i < count {
+        if overlapping(layout::record_at(s, start + layout::RECORD_SIZE * i), a) {
+            return Found::At(i);
+        }
+        i += 1;
+    }
+    Found::Nothing
+}
+
+// The first of a band's number.
+fn find_band(s: &[u8], start: usize, count: usize, n: u8) -> Found
+    requires { ⌜ start + 32 * count ≤ length (now s) ⌝ }
+    ensures { λ r. ⌜ r ≡ first (asksAt (now (s .entry)) start (Question.OfBand n)) count ⌝ }
+{
+    let mut i: usize = 0;
+    while i < count {
+        if of_band(layout::record_at(s, start + layout::RECORD_SIZE * i), n) {
+            return Found::At(i);
+        }
+        i += 1;
+    }
+    Found::Nothing
+}
+
 // The first that any question fits.
 fn find_any(s: &[u8], start: usize, count: usize, q: Question) -> Found
     requires { ⌜ start + 32 * count ≤ length (now s) ⌝ }
@@ -155,6 +197,8 @@ pub fn find_from(s: &[u8], start: usize, count: usize, q: Question) -> Found
     match q {
         Question::Holds(a) => find_holding(s, start, count, a),
         Question::ClassHolds(n, a) => find_class(s, start, count, n, a),
+        Question::Overlaps(a) => find_overlapping(s, start, count, a),
+        Question::OfBand(n) => find_band(s, start, count, n),
         _ => find_any(s, start, count, q),
     }
 }
