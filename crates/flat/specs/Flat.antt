@@ -64,6 +64,8 @@ use Rattle.writer.specs.Write.{roomTest, imageAnswer, imageBytes, imageFrom, wr
 use Rattle.writer.specs.declared.ImageAnswer.{ImageAnswer}
 use Rattle.writer.specs.declared.ImageAnswer.the-variants.{Length as ImageOf, Refused as NoImage}
 use Rattle.convert.specs.Convert.{raiseTests, lowerTests, raisedOf, loweredOf}
+use Rattle.amended.specs.Amended.{effectiveOf}
+use Rattle.amend.specs.Amend.{amendTests}
 use Rattle.flat.specs.declared.FlatDistance.{FlatDistance}
 use Rattle.flat.specs.declared.FlatStation.{FlatStation}
 use Rattle.flat.specs.declared.FlatEdges.{FlatEdges}
@@ -309,6 +311,9 @@ FlatRaised l lent left answer = FlatLeft (refusalOf (raiseTests l ++ roomTest (r
 abbrev pub FlatLowered : List ℕ → List ℕ → List ℕ → FlatImage → Type 0
 FlatLowered l lent left answer = FlatLeft (refusalOf (lowerTests l ++ roomTest (loweredOf l) lent)) (loweredOf l) lent left answer
 
+abbrev pub FlatAmended : List ℕ → List ℕ → ℕ → List ℕ → List ℕ → FlatImage → Type 0
+FlatAmended l a day lent left answer = FlatLeft (refusalOf (amendTests l a day lent)) (effectiveOf l a day) lent left answer
+
 -- a census: its counts, or a refusal's number and noughts
 abbrev pub censusFlat : Census → FlatCensus
 censusFlat c = record { counts = c .counts; refusal = refusalNumber (c .refusal) }
@@ -343,6 +348,6 @@ pub record FlatTotalled (starts bands seconds lent left : List ℕ) (answer : Fl
   pub answered : answer ≡ airtimeFlat (airtimeAnswer (refusalOf (airtimeTests starts bands seconds lent)) (length starts))
   pub elements : left ≡ airtimeLeft (refusalOf (airtimeTests starts bands seconds lent)) (totalsOf starts bands seconds) lent
 
--- the boundary's version, 0.11.0: 10,000 times the first number, 100 times the second, and the third
+-- the boundary's version, 0.12.0: 10,000 times the first number, 100 times the second, and the third
 abbrev pub versionNumber : ℕ
-versionNumber = 1100
+versionNumber = 1200

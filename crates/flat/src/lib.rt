@@ -1,6 +1,6 @@
 // The records of the boundary to C: flat structs of numbers, made from the answers and read into the station record and the edges. It
 // uses codes, profile, occupancy, air, station, fault, tidy, decision, numbers, ceiling, dials, report, census, distance, number_texts,
-// airtime, given, writer and convert.
+// airtime, given, writer, convert, amended and amend.
 use air::Margins;
 use airtime::Airtime;
 use ceiling::CeilingAnswer;

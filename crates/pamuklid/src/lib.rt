@@ -1,5 +1,5 @@
 // The boundary to C: the public calls, exported, with flat structs of numbers. It uses station, image, fault, tidy, numbers, verdict,
-// ceiling, dials, report, census, distance, number_texts, airtime, writer, convert and flat.
+// ceiling, dials, report, census, distance, number_texts, airtime, writer, convert, amend and flat.
 use flat::FlatAirtime;
 use flat::FlatCeiling;
 use flat::FlatCensus;
@@ -27,11 +27,12 @@ ghost use Rattle.distance.specs.Distance.{distanceOf};
 ghost use Rattle.number_texts.specs.Text.{atText, khzText, hertzText};
 ghost use Rattle.numbers.specs.Refusal.{refusalNumber};
 ghost use Rattle.flat.specs.Flat.{stationRecordOf, stationOf, edgesOf, faultFlat, tidinessFlat, flatOf};
-ghost use Rattle.flat.specs.Flat.{ceilingFlat, FlatDialed, FlatReported, censusFlat, FlatWritten, FlatRaised, FlatLowered, distanceFlat, FlatTexted, FlatTotalled};
+ghost use Rattle.flat.specs.Flat.{ceilingFlat, FlatDialed, FlatReported, censusFlat, FlatWritten, FlatRaised, FlatLowered, FlatAmended};
+ghost use Rattle.flat.specs.Flat.{distanceFlat, FlatTexted, FlatTotalled};
 ghost use Rattle.flat.specs.Flat.{versionNumber};
 
-// The version of this boundary: 0.11.0.
-pub const VERSION: u32 = 1100;
+// The version of this boundary: 0.12.0.
+pub const VERSION: u32 = 1200;
 
 // The version of this boundary, that of the header: 10,000 times the first number, 100 times the second, and the third.
 #[no_mangle]
@@ -104,6 +105,14 @@ pub extern "C" fn pamuklid_lower(image: &[u8], out: &mut [u8]) -> FlatImage
     ensures { λ r. ⌜ FlatLowered (now (image .entry)) (now (out .entry)) (now (out .exit)) r ⌝ }
 {
     flat::image_flat(convert::lower(image, out))
+}
+
+// The effective image of a day: the base image with the amendments of the list that are in force, into the bytes lent.
+#[no_mangle]
+pub extern "C" fn pamuklid_amend(image: &[u8], list: &[u8], day: u32, out: &mut [u8]) -> FlatImage
+    ensures { λ r. ⌜ FlatAmended (now (image .entry)) (now (list .entry)) day (now (out .entry)) (now (out .exit)) r ⌝ }
+{
+    flat::image_flat(amend::amend(image, list, day, out))
 }
 
 // The calls that take or give a station record. `_2` is the second layout of FlatStation, with two margins: a program that was compiled
