@@ -72,10 +72,12 @@ module _ (l a : List ℕ) (day k : ℕ) where
 
   pub latest-named : (n : ℕ) → namedAt l a n ≡ k
       → latest l a day k (n + 1) ≡ cond (inForce a day n && asLate a (latest l a day k n) n) (At n) (latest l a day k n)
-  latest-named n e = latest-more n ∙ ap (λ (b : Bool). cond (b && (inForce a day n && asLate a (latest l a day k n) n)) (At n) (latest l a day k n)) (eq-eqb _ _ e)
+  latest-named n e = latest-more n ∙ ap (λ (b : Bool). cond (b && (inForce a day n && asLate a (latest l a day k n) n)) (At n)
+      (latest l a day k n)) (eq-eqb _ _ e)
 
   pub latest-other : (n : ℕ) → (namedAt l a n ≡ k → ⊥) → latest l a day k (n + 1) ≡ latest l a day k n
-  latest-other n e = latest-more n ∙ ap (λ (b : Bool). cond (b && (inForce a day n && asLate a (latest l a day k n) n)) (At n) (latest l a day k n)) (ne-eqb _ _ e)
+  latest-other n e = latest-more n ∙ ap (λ (b : Bool). cond (b && (inForce a day n && asLate a (latest l a day k n) n)) (At n)
+      (latest l a day k n)) (ne-eqb _ _ e)
 
 -- what is found is one of those asked
 pub latest-below : (l a : List ℕ) (day k n j : ℕ) → latest l a day k n ≡ At j → j < n

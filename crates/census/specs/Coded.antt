@@ -143,7 +143,8 @@ module _ (table : Table) (c : Case) where
 
   segment-coded : (band : ℕ) (s : Segment) → Coded (sixtySegment table c band s)
   unfolding sixtySegment simpleOf finishOf advised allowedOnSixty
-  segment-coded band s = on-cond (isData (c .kind) && wider (c .width) (generalLimit table .«max_bandwidth_hz»)) (record { coded = refl }) (record { coded = refl })
+  segment-coded band s = on-cond (isData (c .kind) && wider (c .width) (generalLimit table .«max_bandwidth_hz»)) (record { coded = refl })
+      (record { coded = refl })
 
   in-segment-coded : (ch : Channels) {a : Decision} → Coded a → Coded (inSixtySegment table c ch a)
   in-segment-coded ch s =

@@ -46,7 +46,8 @@ most = record { value = refl }
 pub whole-in-size : (z : ℤ) → natAbs z ≤ farthest → inSize limit40 (ofInt binary64 z) ≡ true
 whole-in-size (pos n) h =
     let x = ofInt binary64 (pos n) in
-    ap (λ (t : Bool). le (cond t (neg x) (cond (eq x zeroHz) zeroHz x)) limit40) (lt-eighths (above n h) zero-eighths ∙ le-ltb (8 * n + 0) (0 + 0) (omega arith))
+    ap (λ (t : Bool). le (cond t (neg x) (cond (eq x zeroHz) zeroHz x)) limit40) (lt-eighths (above n h) zero-eighths ∙ le-ltb (8 * n + 0)
+    (0 + 0) (omega arith))
     ∙ go (eq x zeroHz)
   where
     zero-in : le zeroHz limit40 ≡ true

@@ -82,7 +82,8 @@ module _ (l : List ℕ) (class : ℕ) (lent : List ℕ) where
       (rw (le-ltb 4 class h) (refusal-stays (checkTests l) (lentTests (reportRows (tableOf l) class) lent) n (sym e)))
       (record { answered = refl; bytes = refl })
 
-  pub reported-rows : (left : List ℕ) (a : TableReport) → class ≤ 4 → Accepted ≡ checkOf l → Filled (reportRows (tableOf l) class) lent left a → Reported l class lent left a
+  pub reported-rows : (left : List ℕ) (a : TableReport) → class ≤ 4 → Accepted ≡ checkOf l → Filled (reportRows
+      (tableOf l) class) lent left a → Reported l class lent left a
   unfolding checkOf
   reported-rows left a h e f =
       answered-as (refusalOf (reportTests l class lent)) (refusalOf (lentTests (reportRows (tableOf l) class) lent)) (reportRows (tableOf l) class) lent left a

@@ -48,13 +48,15 @@ module _ (s p x : Range) (long : lengthy p ≡ true) (is : x ≡ commonOf s p) (
   pub begins-inside : lt (x .«low_hz») (p .«high_hz») ≡ true
   begins-inside =
       let n = lt-number (p .«low_hz») (p .«high_hz») long in
-      let m : lt (p .«high_hz») (x .«high_hz») ≡ false = ap (λ (y : Range). lt (p .«high_hz») (y .«high_hz»)) is ∙ min-second (s .«high_hz») (p .«high_hz») (n .1) .1 in
+      let m : lt (p .«high_hz») (x .«high_hz») ≡ false = ap (λ (y : Range). lt (p .«high_hz») (y .«high_hz»)) is ∙ min-second (s .«high_hz»)
+      (p .«high_hz») (n .1) .1 in
       lt-not (x .«low_hz») (x .«high_hz») (p .«high_hz») (n .1) shared m
 
   pub ends-inside : lt (p .«low_hz») (x .«high_hz») ≡ true
   ends-inside =
       let n = lt-number (p .«low_hz») (p .«high_hz») long in
-      let m : lt (x .«low_hz») (p .«low_hz») ≡ false = ap (λ (y : Range). lt (y .«low_hz») (p .«low_hz»)) is ∙ max-second (s .«low_hz») (p .«low_hz») (n .0) .1 in
+      let m : lt (x .«low_hz») (p .«low_hz») ≡ false = ap (λ (y : Range). lt (y .«low_hz») (p .«low_hz»)) is ∙ max-second (s .«low_hz»)
+      (p .«low_hz») (n .0) .1 in
       not-lt (p .«low_hz») (x .«low_hz») (x .«high_hz») (n .0) m shared
 
   -- where it ends below the piece's end, it ends where the range does

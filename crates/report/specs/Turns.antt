@@ -68,4 +68,5 @@ module _ (l : List ℕ) (g s : Ranges) (e : g ≡ rangesOf l privileges) (f : s 
       (class i : ℕ) (r : Record) (x : Range) → i < s .count → r ≡ recordAt l (s .start + recordSize * i) → x ≡ spanOf r
       → length (ofPart (leftFrom (tableOf l .at (g .table)) (OfClass class) (g .count - 0) 0) x) ≡ length (gapsAt (tableOf l) class i)
   gaps-long class i r x k q p =
-      sym (length-map (ofPart (leftFrom (tableOf l .at (g .table)) (OfClass class) (g .count - 0) 0) x) (gapRow class i)) ∙ ap length (gaps-read class i r x k q p)
+      sym (length-map (ofPart (leftFrom (tableOf l .at (g .table)) (OfClass class) (g .count - 0) 0) x) (gapRow class i)) ∙ ap length
+      (gaps-read class i r x k q p)

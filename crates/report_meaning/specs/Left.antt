@@ -58,7 +58,8 @@ pub record Share (m : Members) (p : Range) (r : Record) (x : Range) : Type 0 whe
   pub counts : isMember m r ≡ true
   pub taken : Taken (spanOf r) p x
 
-shared-stretch : (m : Members) (p : Range) (r : Record) (x : Range) → lengthy (spanOf r) ≡ true → lengthy p ≡ true → sharedWith m p r ≡ Stretch x → Share m p r x
+shared-stretch : (m : Members) (p : Range) (r : Record) (x : Range) → lengthy (spanOf r) ≡ true → lengthy p ≡ true
+    → sharedWith m p r ≡ Stretch x → Share m p r x
 unfolding sharedWith
 shared-stretch m p r x S P e = go (isMember m r) refl (lengthy (commonOf (spanOf r) p)) refl e
   where
@@ -73,7 +74,8 @@ shared-stretch m p r x S P e = go (isMember m r) refl (lengthy (commonOf (spanOf
 
 shared-nothing : (m : Members) (p : Range) (r : Record) → isMember m r ≡ true → sharedWith m p r ≡ Nothing → shareOf (spanOf r) p ≡ false
 unfolding sharedWith
-shared-nothing m p r k e = go (lengthy (commonOf (spanOf r) p)) refl (ap (λ (a : Bool). cond a (cond (lengthy (commonOf (spanOf r) p)) (Stretch (commonOf (spanOf r) p)) Nothing) Nothing) (sym k) ∙ e)
+shared-nothing m p r k e = go (lengthy (commonOf (spanOf r) p)) refl (ap (λ (a : Bool). cond a (cond (lengthy (commonOf (spanOf r) p))
+    (Stretch (commonOf (spanOf r) p)) Nothing) Nothing) (sym k) ∙ e)
   where
     go : (b : Bool) → lengthy (commonOf (spanOf r) p) ≡ b → cond b (Stretch (commonOf (spanOf r) p)) Nothing ≡ Nothing → shareOf (spanOf r) p ≡ false
     go true f q = absurd (let z : _≡_ {A = ℕ} 0 1 = cc in omega arith)
@@ -379,8 +381,16 @@ module _ (at : ℕ → Record) (m : Members) where
           let H = shared-stretch m p (at i) x (L i (omega arith) (omega arith)) P e in
           apart-append (x .«low_hz») (x .«high_hz») (H .taken .long) (ofPart F (under p x)) (ofPart F (over p x))
           (part-every F (UpTo (x .«low_hz»)) (under p x)
-          (λ U. every-map (Sound n (suc i) (under p x)) (UpTo (x .«low_hz»)) (λ g w. (high-number g (w .long), held-high (under p x) g (w .inside))) (F (under p x)) (sound (under p x) U)))
+          (λ U. every-map (Sound n (suc i) (under p x)) (UpTo (x .«low_hz»)) (λ g w. (
+            high-number g (w .long),
+            held-high (under p x) g
+                (w .inside),
+          )) (F (under p x)) (sound (under p x) U)))
           (part-every F (FromOn (x .«high_hz»)) (over p x)
-          (λ O. every-map (Sound n (suc i) (over p x)) (FromOn (x .«high_hz»)) (λ g w. (low-number g (w .long), held-low (over p x) g (w .inside))) (F (over p x)) (sound (over p x) O)))
+          (λ O. every-map (Sound n (suc i) (over p x)) (FromOn (x .«high_hz»)) (λ g w. (
+            low-number g (w .long),
+            held-low (over p x) g
+                (w .inside),
+          )) (F (over p x)) (sound (over p x) O)))
           (part-apart F (under p x) (rec (under p x)))
           (part-apart F (over p x) (rec (over p x)))

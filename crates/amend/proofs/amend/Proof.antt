@@ -31,17 +31,25 @@ list-wrong-requires c κs = omega (arith, accepted-whole (c .before .before .bef
 returns : tie.Need-returns
 returns c =
     let a = c .before .before .before .before .before .before .before .before .args in
-    left-no (refusalOf (amendTests (a .image .now) (a .list .now) (a .day) (a .out .now))) (effectiveOf (a .image .now) (a .list .now) (a .day)) (a .out .now) 27
+    left-no (refusalOf (amendTests (a .image .now) (a .list .now) (a .day) (a .out .now))) (effectiveOf (a .image .now) (a .list .now)
+    (a .day)) (a .out .now) 27
     (amend-list (a .image .now) (a .list .now) (a .day) (a .out .now) (accepted (c .before .before)) (sym (c .before .list-wrong .ensures) ∙ c .if1 .taken))
 
 returns-2 : tie.Need-returns-2
 returns-2 c =
     let a = c .before .before .before .before .before .before .before .before .before .args in
-    left-no (refusalOf (amendTests (a .image .now) (a .list .now) (a .day) (a .out .now))) (effectiveOf (a .image .now) (a .list .now) (a .day)) (a .out .now) 28
-    (amend-room (a .image .now) (a .list .now) (a .day) (a .out .now) (accepted (c .before .before .before)) (sym (c .before .before .list-wrong .ensures) ∙ c .before .if1 .left) (c .if2 .taken))
+    left-no (refusalOf (amendTests (a .image .now) (a .list .now) (a .day) (a .out .now))) (effectiveOf (a .image .now) (a .list .now)
+    (a .day)) (a .out .now) 28
+    (amend-room (a .image .now) (a .list .now) (a .day) (a .out .now) (accepted (c .before .before .before)) (sym
+    (c .before .before .list-wrong .ensures) ∙ c .before .if1 .left) (c .if2 .taken))
 
 fit-requires : tie.Need-fit-requires
-fit-requires c κs = (accepted (c .before .before .before .before), sym (c .before .before .before .list-wrong .ensures) ∙ c .before .before .if1 .left, c .before .if2 .left)
+fit-requires c κs = (
+  accepted (c .before .before .before .before),
+  sym (c .before .before .before .list-wrong .ensures)
+      ∙ c .before .before .if1 .left,
+  c .before .if2 .left,
+)
 
 returns-3 : tie.Need-returns-3
 returns-3 c =
@@ -57,7 +65,10 @@ returns-4 c =
     let a = c .before .before .before .before .before .before .before .before .before .before .before .before .before .args in
     left-same (refusalOf (amendTests (a .image .now) (a .list .now) (a .day) (a .out .now))) (checkOf (effectiveOf (a .image .now) (a .list .now) (a .day)))
     (effectiveOf (a .image .now) (a .list .now) (a .day)) (a .out .now) _ _
-    (amend-check (a .image .now) (a .list .now) (a .day) (a .out .now) (accepted (c .before .before .before .before .before .before .before)) (sym (c .before .before .before .before .before .before .list-wrong .ensures) ∙ c .before .before .before .before .before .if1 .left) (c .before .before .before .before .if2 .left))
+    (amend-check (a .image .now) (a .list .now) (a .day) (a .out .now) (accepted
+    (c .before .before .before .before .before .before .before)) (sym
+    (c .before .before .before .before .before .before .list-wrong .ensures) ∙ c .before .before .before .before .before .if1 .left)
+    (c .before .before .before .before .if2 .left))
     (c .before .before .fit .ensures)
 
 pub amend-spec : {M : Type 1} → statement M

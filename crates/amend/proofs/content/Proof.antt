@@ -77,8 +77,10 @@ returns-6 c = rw (passed-5 (c .before .before)) (rw (← c .before .some-in4 .en
 passed-6 : (c : tie.Else6) → Left 6 (c .before .before .before .before .before .before .before .before .before .before .before .before .before .before .before)
 passed-6 c = passed-5 (c .before .before) ∙ (rw (← c .before .some-in4 .ensures) (rw (c .if6 .left)))
 
-passed-bare : (c : tie.Else6) → Left 7 (c .before .before .before .before .before .before .before .before .before .before .before .before .before .before .before)
-passed-bare c = passed-6 c ∙ rw (base (c .before .before .before .before .before .before .before .before .before .before .before .before .before .before .before) .stocked)
+passed-bare : (c : tie.Else6) → Left 7
+    (c .before .before .before .before .before .before .before .before .before .before .before .before .before .before .before)
+passed-bare c = passed-6 c ∙ rw (base
+    (c .before .before .before .before .before .before .before .before .before .before .before .before .before .before .before) .stocked)
 
 is-homeless-requires : tie.Need-is-homeless-requires
 is-homeless-requires c κs = search needs
@@ -86,20 +88,24 @@ is-homeless-requires c κs = search needs
 returns-7 : tie.Need-returns-7
 returns-7 c = rw (passed-bare (c .before .before)) (rw (← c .before .is-homeless .ensures) (rw (c .if7 .taken)))
 
-passed-7 : (c : tie.Else7) → Left 8 (c .before .before .before .before .before .before .before .before .before .before .before .before .before .before .before .before .before)
+passed-7 : (c : tie.Else7) → Left 8
+    (c .before .before .before .before .before .before .before .before .before .before .before .before .before .before .before .before .before)
 passed-7 c = passed-bare (c .before .before) ∙ (rw (← c .before .is-homeless .ensures) (rw (c .if7 .left)))
 
 some-in-requires-5 : tie.Need-some-in-requires-5
-some-in-requires-5 c κs = (c .before .before .before .before .before .before .before .before .before .before .before .before .before .before .before .before .before .pre .0, omega arith)
+some-in-requires-5 c κs =
+    (c .before .before .before .before .before .before .before .before .before .before .before .before .before .before .before .before .before .pre .0, omega arith)
 
 returns-8 : tie.Need-returns-8
 returns-8 c = rw (passed-7 (c .before .before)) (rw (← c .before .some-in5 .ensures) (rw (c .if8 .taken)))
 
-passed-8 : (c : tie.Else8) → Left 9 (c .before .before .before .before .before .before .before .before .before .before .before .before .before .before .before .before .before .before .before)
+passed-8 : (c : tie.Else8) → Left 9
+    (c .before .before .before .before .before .before .before .before .before .before .before .before .before .before .before .before .before .before .before)
 passed-8 c = passed-7 (c .before .before) ∙ (rw (← c .before .some-in5 .ensures) (rw (c .if8 .left)))
 
 returns-9 : tie.Need-returns-9
-returns-9 c = rw (passed-8 c) (rw (base (c .before .before .before .before .before .before .before .before .before .before .before .before .before .before .before .before .before .before .before) .limited))
+returns-9 c = rw (passed-8 c) (rw (base
+    (c .before .before .before .before .before .before .before .before .before .before .before .before .before .before .before .before .before .before .before) .limited))
 
 pub content-spec : {M : Type 1} → statement M
 content-spec =

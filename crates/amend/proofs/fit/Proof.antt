@@ -41,14 +41,21 @@ put-image-requires : tie.Need-put-image-requires
 put-image-requires c κs = search needs
 
 cast-t20 : tie.Need-cast-t20
-cast-t20 c = omega (arith, accepted-whole (c .before .before .before .before .before .before .before .before .before .before .before .before .before .before .before .args .image .now) (c .before .before .before .before .before .before .before .before .before .before .before .before .before .before .before .pre .0) .small)
+cast-t20 c = omega (
+  arith,
+  accepted-whole
+      (c .before .before .before .before .before .before .before .before .before .before .before .before .before .before .before .args .image .now)
+      (c .before .before .before .before .before .before .before .before .before .before .before .before .before .before .before .pre .0) .small,
+)
 
 returns : tie.Need-returns
 returns c =
     let a = c .before .before .before .before .before .before .before .before .before .before .before .args in
     let image = effectiveOf (a .image .now) (a .list .now) (a .day) in
     left-no (checkOf image) image (a .out .now) _
-    (check-content (a .image .now) (a .list .now) (a .day) (c .before .before .before .before .before .before .before .before .before .before .before .pre .0) ∙ sym (c .before .before .before .content .ensures) ∙ c .before .n .given .1)
+    (check-content (a .image .now) (a .list .now) (a .day)
+    (c .before .before .before .before .before .before .before .before .before .before .before .pre .0) ∙ sym
+    (c .before .before .before .content .ensures) ∙ c .before .n .given .1)
 
 same-length : tie.Need-same-length
 same-length c = search needs
@@ -59,7 +66,9 @@ returns-2 c =
     let p = c .before .before .before .before .before .before .before .before .before .before .before .before .before .before .before .pre in
     left-effective (a .image .now) (a .list .now) (a .day) (a .out .now) _ (checkOf (effectiveOf (a .image .now) (a .list .now) (a .day)))
     (accepted-whole (a .image .now) (p .0))
-    (check-content (a .image .now) (a .list .now) (a .day) (p .0) ∙ sym (c .before .before .before .before .before .before .before .content .ensures) ∙ c .before .before .before .before .before .enum-told .given .1)
+    (check-content (a .image .now) (a .list .now) (a .day) (p .0) ∙ sym
+    (c .before .before .before .before .before .before .before .content .ensures)
+    ∙ c .before .before .before .before .before .enum-told .given .1)
     (c .before .before .put-image .ensures)
 
 pub fit-spec : {M : Type 1} → statement M

@@ -27,10 +27,14 @@ segment :
     c .before .before .record-at .result ≡ recordIn (effectiveOf (a .image .now) (a .list .now) (a .day)) segments (c .before .before .before .before .loop .i)
 segment c =
     let a = c .before .before .before .before .before .before .before .before .before .before .args in
-    let k : c .before .before .before .before .loop .i < countOf (a .image .now) segments = omega (arith, c .before .before .before .before .before .count-of .ensures, c .before .before .before .loop-test .taken) in
+    let k : c .before .before .before .before .loop .i < countOf (a .image .now) segments = omega
+    (arith, c .before .before .before .before .before .count-of .ensures, c .before .before .before .loop-test .taken) in
     c .before .before .record-at .ensures
-    ∙ ap (λ (s : ℕ). recordAt (effectiveOf (a .image .now) (a .list .now) (a .day)) (slotAt (a .image .now) (s + c .before .before .before .before .loop .i))) (c .before .before .before .before .before .before .records-before .ensures)
-    ∙ sym (record-in-same (a .image .now) (a .list .now) (a .day) (c .before .before .before .before .before .before .before .before .before .before .pre .whole) segments (c .before .before .before .before .loop .i) (omega arith) k)
+    ∙ ap (λ (s : ℕ). recordAt (effectiveOf (a .image .now) (a .list .now) (a .day)) (slotAt (a .image .now)
+    (s + c .before .before .before .before .loop .i))) (c .before .before .before .before .before .before .records-before .ensures)
+    ∙ sym (record-in-same (a .image .now) (a .list .now) (a .day)
+    (c .before .before .before .before .before .before .before .before .before .before .pre .whole) segments
+    (c .before .before .before .before .loop .i) (omega arith) k)
 
 -- what a turn asked of segment i
 asked :
@@ -63,7 +67,12 @@ record-at-requires c κs =
     let p = c .before .before .before .before .before .before .before .pre in
     let k : c .before .loop .i < countOf (a .image .now) segments = omega (arith, c .before .before .count-of .ensures, c .loop-test .taken) in (
       p,
-      omega (arith, slot-below (a .image .now) (a .list .now) (a .day) (p .whole) segments (c .before .loop .i) (omega arith) k, c .before .before .before .records-before .ensures),
+      omega (
+        arith,
+        slot-below (a .image .now) (a .list .now) (a .day) (p .whole) segments (c .before .loop .i)
+            (omega arith) k,
+        c .before .before .before .records-before .ensures,
+      ),
     )
 
 span-of-requires : tie.Need-span-of-requires Inv-loop μ-loop
@@ -75,9 +84,11 @@ some-in-requires c κs = (c .before .before .before .before .before .before .bef
 returns : tie.Need-returns Inv-loop μ-loop
 returns c =
     let a = c .before .before .before .before .before .before .before .before .before .before .before .args in
-    some-here _ _ _ (c .before .before .before .before .loop-test .taken) (c .before .before .before .before .before .loop .inv) (rw (← asked (c .before)) (c .if1 .taken))
+    some-here _ _ _ (c .before .before .before .before .loop-test .taken) (c .before .before .before .before .before .loop .inv) (rw
+    (← asked (c .before)) (c .if1 .taken))
     ∙ ap (some (homelessAt (tableOf (effectiveOf (a .image .now) (a .list .now) (a .day))) false))
-    (c .before .before .before .before .before .before .count-of .ensures ∙ sym (count-in-same (a .image .now) (a .list .now) (a .day) (c .before .before .before .before .before .before .before .before .before .before .before .pre .whole) segments (omega arith)))
+    (c .before .before .before .before .before .before .count-of .ensures ∙ sym (count-in-same (a .image .now) (a .list .now) (a .day)
+    (c .before .before .before .before .before .before .before .before .before .before .before .pre .whole) segments (omega arith)))
 
 add-i : tie.Need-add-i Inv-loop μ-loop
 add-i c = omega arith
@@ -86,14 +97,16 @@ loop-less : tie.Need-loop-less Inv-loop μ-loop
 loop-less c = omega arith
 
 loop-again : tie.Need-loop-again Inv-loop μ-loop
-loop-again c = passed-step _ _ _ (c .before .before .before .before .loop-test .taken) (c .before .before .before .before .before .loop .inv) (rw (← asked (c .before)) (c .if1 .left))
+loop-again c = passed-step _ _ _ (c .before .before .before .before .loop-test .taken)
+    (c .before .before .before .before .before .loop .inv) (rw (← asked (c .before)) (c .if1 .left))
 
 returns-2 : tie.Need-returns-2 Inv-loop μ-loop
 returns-2 c =
     let a = c .before .before .before .before .before .before .before .args in
     some-none _ _ _ (c .loop-test .left) (c .before .loop .inv)
     ∙ ap (some (homelessAt (tableOf (effectiveOf (a .image .now) (a .list .now) (a .day))) false))
-    (c .before .before .count-of .ensures ∙ sym (count-in-same (a .image .now) (a .list .now) (a .day) (c .before .before .before .before .before .before .before .pre .whole) segments (omega arith)))
+    (c .before .before .count-of .ensures ∙ sym (count-in-same (a .image .now) (a .list .now) (a .day)
+    (c .before .before .before .before .before .before .before .pre .whole) segments (omega arith)))
 
 pub is-homeless-spec : {M : Type 1} → statement M
 is-homeless-spec =

@@ -29,13 +29,19 @@ loop-holds : tie.Need-loop-holds Inv-loop μ-loop
 loop-holds c =
     let a = c .before .before .before .before .before .before .before .before .before .args in
     put-none (a .image .now) (a .list .now) (a .day) _
-    (ap (take (length (a .image .now))) (c .before .before .before .copy .ensures) ∙ copied-front (a .image .now) (a .out .now) (c .before .before .before .before .before .before .before .before .before .pre .1))
+    (ap (take (length (a .image .now))) (c .before .before .before .copy .ensures) ∙ copied-front (a .image .now) (a .out .now)
+    (c .before .before .before .before .before .before .before .before .before .pre .1))
 
 put-record-requires : tie.Need-put-record-requires Inv-loop μ-loop
 put-record-requires c κs = (
   c .before .before .before .before .before .before .before .before .before .before .before .before .pre .0,
   omega (arith, c .before .loop-test .taken, c .before .before .before .records-before .ensures),
-  omega (arith, c .before .before .loop .inv .same, c .before .before .before .before .before .before .copy .kept .0, c .before .before .before .before .before .before .before .before .before .before .before .before .pre .1),
+  omega (
+    arith,
+    c .before .before .loop .inv .same,
+    c .before .before .before .before .before .before .copy .kept .0,
+    c .before .before .before .before .before .before .before .before .before .before .before .before .pre .1,
+  ),
 )
 
 add-k : tie.Need-add-k Inv-loop μ-loop
@@ -47,7 +53,10 @@ loop-less c = omega (arith, c .before .before .before .before .loop-test .taken)
 loop-again : tie.Need-loop-again Inv-loop μ-loop
 loop-again c =
     let a = c .before .before .before .before .before .before .before .before .before .before .before .before .before .before .before .args in
-    put-more (a .image .now) (a .list .now) (a .day) _ _ _ _ (c .before .before .before .before .before .before .before .before .before .before .before .before .before .before .before .pre .0 .whole) (c .before .before .before .before .before .loop .inv) (omega (arith, c .before .before .before .before .loop-test .taken, c .before .before .before .before .before .before .records-before .ensures))
+    put-more (a .image .now) (a .list .now) (a .day) _ _ _ _
+    (c .before .before .before .before .before .before .before .before .before .before .before .before .before .before .before .pre .0 .whole)
+    (c .before .before .before .before .before .loop .inv) (omega
+    (arith, c .before .before .before .before .loop-test .taken, c .before .before .before .before .before .before .records-before .ensures))
     (c .before .before .put-record .ensures)
 
 same-length : tie.Need-same-length Inv-loop μ-loop
@@ -58,7 +67,8 @@ returns c =
     let a = c .before .before .before .before .before .before .before .before .before .before .before .args in
     put-all (a .image .now) (a .list .now) (a .day) _ _ _ (c .before .loop .inv) (omega (arith, c .loop-test .left, c .before .before .records-before .ensures))
     ∙ ap (λ (y : List ℕ). effectiveOf (a .image .now) (a .list .now) (a .day) ++ y)
-    (ap (drop (length (a .image .now))) (c .before .before .before .before .before .copy .ensures) ∙ copied-behind (a .image .now) (a .out .now) (c .before .before .before .before .before .before .before .before .before .before .before .pre .1))
+    (ap (drop (length (a .image .now))) (c .before .before .before .before .before .copy .ensures) ∙ copied-behind (a .image .now)
+    (a .out .now) (c .before .before .before .before .before .before .before .before .before .before .before .pre .1))
 
 pub put-image-spec : {M : Type 1} → statement M
 put-image-spec =

@@ -11,7 +11,15 @@ use Rattle.amend.proofs.put_record.Statement.{statement}
 use Rattle.amend.proofs.put_record.Tie as tie
 
 counting-requires : tie.Need-counting-requires
-counting-requires c κs = (c .before .before .before .before .pre .0, omega (arith, c .before .before .before .before .pre .1, few-records (c .before .before .before .before .args .image .now) (c .before .before .before .before .pre .0 .whole)))
+counting-requires c κs = (
+  c .before .before .before .before .pre .0,
+  omega (
+    arith,
+    c .before .before .before .before .pre .1,
+    few-records
+        (c .before .before .before .before .args .image .now) (c .before .before .before .before .pre .0 .whole),
+  ),
+)
 
 enum-known-j : tie.Need-enum-known-j
 enum-known-j c = search needs
@@ -31,7 +39,8 @@ mul-from c =
     omega (
       arith,
       within-list (a .list .now) _
-          (latest-below (a .image .now) (a .list .now) (a .day) (a .k) (amendmentsIn (a .list .now)) _ (sym (c .before .before .before .before .counting .ensures) ∙ c .before .before .j .given .1)),
+          (latest-below (a .image .now) (a .list .now) (a .day) (a .k) (amendmentsIn (a .list .now)) _ (sym
+          (c .before .before .before .before .counting .ensures) ∙ c .before .before .j .given .1)),
     )
 
 add-from : tie.Need-add-from
@@ -40,7 +49,8 @@ add-from c =
     omega (
       arith,
       within-list (a .list .now) _
-          (latest-below (a .image .now) (a .list .now) (a .day) (a .k) (amendmentsIn (a .list .now)) _ (sym (c .before .before .before .before .counting .ensures) ∙ c .before .before .j .given .1)),
+          (latest-below (a .image .now) (a .list .now) (a .day) (a .k) (amendmentsIn (a .list .now)) _ (sym
+          (c .before .before .before .before .counting .ensures) ∙ c .before .before .j .given .1)),
     )
 
 put-part-requires : tie.Need-put-part-requires
@@ -56,7 +66,8 @@ put-part-requires c κs =
       omega (
         arith,
         within-list (a .list .now) _
-            (latest-below (a .image .now) (a .list .now) (a .day) (a .k) (amendmentsIn (a .list .now)) _ (sym (c .before .before .before .before .before .counting .ensures) ∙ c .before .before .before .j .given .1)),
+            (latest-below (a .image .now) (a .list .now) (a .day) (a .k) (amendmentsIn (a .list .now)) _ (sym
+            (c .before .before .before .before .before .counting .ensures) ∙ c .before .before .before .j .given .1)),
       ),
     )
 
@@ -67,7 +78,9 @@ same-length : tie.Need-same-length
 same-length c = search needs
 
 returns : tie.Need-returns
-returns c = rw (← c .before .before .before .before .before .before .before .before .counting .ensures) (rw (c .before .before .before .before .before .before .j .given .1) (rw (← c .before .before .before .before .tables-from .ensures) (c .before .before .put-part .ensures)))
+returns c = rw (← c .before .before .before .before .before .before .before .before .counting .ensures) (rw
+    (c .before .before .before .before .before .before .j .given .1) (rw (← c .before .before .before .before .tables-from .ensures)
+    (c .before .before .put-part .ensures)))
 
 returns-2 : tie.Need-returns-2
 returns-2 c = rw (← c .before .before .counting .ensures) (rw (c .enum-told .given .1))

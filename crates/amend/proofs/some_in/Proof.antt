@@ -39,7 +39,12 @@ record-at-requires c κs =
     let p = c .before .before .before .before .before .before .before .pre in
     let k : c .before .loop .i < countOf (a .image .now) (a .t) = omega (arith, c .before .before .count-of .ensures, c .loop-test .taken) in (
       p .0,
-      omega (arith, slot-below (a .image .now) (a .list .now) (a .day) (p .0 .whole) (a .t) (c .before .loop .i) (p .1) k, c .before .before .before .records-before .ensures),
+      omega (
+        arith,
+        slot-below (a .image .now) (a .list .now) (a .day) (p .0 .whole) (a .t) (c .before .loop .i)
+            (p .1) k,
+        c .before .before .before .records-before .ensures,
+      ),
     )
 
 answers-requires : tie.Need-answers-requires Inv-loop μ-loop
@@ -49,8 +54,10 @@ returns : tie.Need-returns Inv-loop μ-loop
 returns c =
     let a = c .before .before .before .before .before .before .before .before .before .before .args in
     let p = c .before .before .before .before .before .before .before .before .before .before .pre in
-    some-here _ _ _ (c .before .before .before .loop-test .taken) (c .before .before .before .before .loop .inv) (rw (← c .before .before .record-at .ensures) (rw (← c .before .answers .ensures) (c .if1 .taken)))
-    ∙ some-slots (a .image .now) (a .list .now) (a .day) (p .0 .whole) (a .t) (a .q) _ _ (p .1) (c .before .before .before .before .before .before .records-before .ensures) (c .before .before .before .before .before .count-of .ensures)
+    some-here _ _ _ (c .before .before .before .loop-test .taken) (c .before .before .before .before .loop .inv) (rw
+    (← c .before .before .record-at .ensures) (rw (← c .before .answers .ensures) (c .if1 .taken)))
+    ∙ some-slots (a .image .now) (a .list .now) (a .day) (p .0 .whole) (a .t) (a .q) _ _ (p .1)
+    (c .before .before .before .before .before .before .records-before .ensures) (c .before .before .before .before .before .count-of .ensures)
 
 add-i : tie.Need-add-i Inv-loop μ-loop
 add-i c = omega arith
@@ -60,14 +67,16 @@ loop-less c = omega arith
 
 loop-again : tie.Need-loop-again Inv-loop μ-loop
 loop-again c =
-    passed-step _ _ _ (c .before .before .before .loop-test .taken) (c .before .before .before .before .loop .inv) (rw (← c .before .before .record-at .ensures) (rw (← c .before .answers .ensures) (c .if1 .left)))
+    passed-step _ _ _ (c .before .before .before .loop-test .taken) (c .before .before .before .before .loop .inv) (rw
+    (← c .before .before .record-at .ensures) (rw (← c .before .answers .ensures) (c .if1 .left)))
 
 returns-2 : tie.Need-returns-2 Inv-loop μ-loop
 returns-2 c =
     let a = c .before .before .before .before .before .before .before .args in
     let p = c .before .before .before .before .before .before .before .pre in
     some-none _ _ _ (c .loop-test .left) (c .before .loop .inv)
-    ∙ some-slots (a .image .now) (a .list .now) (a .day) (p .0 .whole) (a .t) (a .q) _ _ (p .1) (c .before .before .before .records-before .ensures) (c .before .before .count-of .ensures)
+    ∙ some-slots (a .image .now) (a .list .now) (a .day) (p .0 .whole) (a .t) (a .q) _ _ (p .1)
+    (c .before .before .before .records-before .ensures) (c .before .before .count-of .ensures)
 
 pub some-in-spec : {M : Type 1} → statement M
 some-in-spec =

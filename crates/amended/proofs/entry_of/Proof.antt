@@ -20,7 +20,8 @@ cast-result : tie.Need-cast-result
 cast-result c = omega (arith, c .shared-slice-known4 .given (c .before .before .before .before .before .args .k))
 
 returns-2 : tie.Need-returns-2
-returns-2 c = c .before .before .before .before .before .pre .0 .indexed (c .before .if1 .left) .held (c .before .before .before .before .before .args .k) (c .before .before .before .before .before .pre .1)
+returns-2 c = c .before .before .before .before .before .pre .0 .indexed (c .before .if1 .left) .held
+    (c .before .before .before .before .before .args .k) (c .before .before .before .before .before .pre .1)
 
 pub entry-of-spec : {M : Type 1} → statement M
 entry-of-spec =

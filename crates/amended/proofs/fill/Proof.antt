@@ -70,7 +70,8 @@ loop-again : tie.Need-loop-again Inv-loop μ-loop
 loop-again c =
     let a = c .before .before .before .before .before .before .before .before .before .args in (
       omega (arith, c .before .before .before .loop-test .taken),
-      indexed-step (a .image .now) (a .list .now) (a .day) (c .before .before .before .before .loop .index) (c .before .before .before .before .loop .j) (c .before .before .named-at .result) _ (c .before .before .before .before .loop .inv .1)
+      indexed-step (a .image .now) (a .list .now) (a .day) (c .before .before .before .before .loop .index)
+          (c .before .before .before .before .loop .j) (c .before .before .named-at .result) _ (c .before .before .before .before .loop .inv .1)
           (c .before .before .named-at .ensures .0) (c .before .before .named-at .ensures .1) (c .next-entry .ensures .0),
     )
 

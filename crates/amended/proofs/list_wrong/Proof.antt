@@ -36,7 +36,8 @@ loop-less : tie.Need-loop-less Inv-loop μ-loop
 loop-less c = omega arith
 
 loop-again : tie.Need-loop-again Inv-loop μ-loop
-loop-again c = passed-step _ _ _ (c .before .before .loop-test .taken) (c .before .before .before .loop .inv) (rw (← c .before .is-stray .ensures) (c .if2 .left))
+loop-again c = passed-step _ _ _ (c .before .before .loop-test .taken) (c .before .before .before .loop .inv) (rw
+    (← c .before .is-stray .ensures) (c .if2 .left))
 
 returns-3 : tie.Need-returns-3 Inv-loop μ-loop
 unfolding listWrong

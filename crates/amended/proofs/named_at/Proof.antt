@@ -13,11 +13,13 @@ use Rattle.amended.proofs.named_at.Tie as tie
 sum :
     (c : tie.After-index-at)
     → let a = c .before .before .before .before .before .args in
-    (c .before .records-before .result + c .index-at .result ≡ namedAt (a .image .now) (a .list .now) (a .j)) × (namedAt (a .image .now) (a .list .now) (a .j) < 2045)
+    (c .before .records-before .result + c .index-at .result ≡ namedAt (a .image .now) (a .list .now) (a .j)) × (namedAt (a .image .now)
+    (a .list .now) (a .j) < 2045)
 sum c =
     let a = c .before .before .before .before .before .args in
     let p = c .before .before .before .before .before .pre in (
-      ap₂ (λ (x y : ℕ). x + y) (c .before .records-before .ensures ∙ ap (recordsBefore (a .image .now)) (c .before .before .table-at .ensures)) (c .index-at .ensures),
+      ap₂ (λ (x y : ℕ). x + y) (c .before .records-before .ensures ∙ ap (recordsBefore (a .image .now))
+          (c .before .before .table-at .ensures)) (c .index-at .ensures),
       omega (arith, named-below (a .image .now) (a .list .now) (a .j) (p .0) (p .2), few-records (a .image .now) (p .0)),
     )
 

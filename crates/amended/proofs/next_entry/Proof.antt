@@ -16,7 +16,12 @@ is-after-requires c κs = search needs
 returns : tie.Need-returns
 returns c =
     let a = c .before .before .before .before .args in (
-      next-future (a .list .now) (a .day) (a .entry) (a .j) (omega (arith, c .before .before .day-at .ensures, ltb-true (a .day) (c .before .before .day-at .result) (sym (c .before .is-after .ensures) ∙ c .if1 .taken))),
+      next-future (a .list .now) (a .day) (a .entry) (a .j) (omega (
+        arith,
+        c .before .before .day-at .ensures,
+        ltb-true (a .day)
+            (c .before .before .day-at .result) (sym (c .before .is-after .ensures) ∙ c .if1 .taken),
+      )),
       omega arith,
     )
 
@@ -27,7 +32,12 @@ returns-2 : tie.Need-returns-2
 returns-2 c =
     let a = c .before .before .before .before .before .args in (
       next-first (a .list .now) (a .day) (a .entry) (a .j)
-          (omega (arith, c .before .before .before .day-at .ensures, ltb-false (a .day) (c .before .before .before .day-at .result) (sym (c .before .before .is-after .ensures) ∙ c .before .if1 .left))) (c .if2 .taken),
+          (omega (
+            arith,
+            c .before .before .before .day-at .ensures,
+            ltb-false (a .day) (c .before .before .before .day-at .result) (sym
+                (c .before .before .is-after .ensures) ∙ c .before .if1 .left),
+          )) (c .if2 .taken),
       omega arith,
     )
 
@@ -41,7 +51,13 @@ returns-3 : tie.Need-returns-3
 returns-3 c =
     let a = c .before .before .before .before .before .before .before .args in (
       next-earlier (a .list .now) (a .day) (a .entry) (a .j)
-          (omega (arith, c .before .before .before .before .before .day-at .ensures, ltb-false (a .day) (c .before .before .before .before .before .day-at .result) (sym (c .before .before .before .before .is-after .ensures) ∙ c .before .before .before .if1 .left))) (c .before .before .if2 .left)
+          (omega (
+            arith,
+            c .before .before .before .before .before .day-at .ensures,
+            ltb-false (a .day)
+                (c .before .before .before .before .before .day-at .result) (sym (c .before .before .before .before .is-after .ensures)
+                ∙ c .before .before .before .if1 .left),
+          )) (c .before .before .if2 .left)
           (omega (arith, c .before .before .before .before .before .day-at .ensures, c .before .day-at2 .ensures, c .if3 .taken)),
       omega arith,
     )
@@ -53,7 +69,13 @@ returns-4 : tie.Need-returns-4
 returns-4 c =
     let a = c .before .before .before .before .before .before .before .args in (
       next-later (a .list .now) (a .day) (a .entry) (a .j)
-          (omega (arith, c .before .before .before .before .before .day-at .ensures, ltb-false (a .day) (c .before .before .before .before .before .day-at .result) (sym (c .before .before .before .before .is-after .ensures) ∙ c .before .before .before .if1 .left))) (c .before .before .if2 .left)
+          (omega (
+            arith,
+            c .before .before .before .before .before .day-at .ensures,
+            ltb-false (a .day)
+                (c .before .before .before .before .before .day-at .result) (sym (c .before .before .before .before .is-after .ensures)
+                ∙ c .before .before .before .if1 .left),
+          )) (c .before .before .if2 .left)
           (omega (arith, c .before .before .before .before .before .day-at .ensures, c .before .day-at2 .ensures, c .if3 .left)),
       omega arith,
     )

@@ -13,7 +13,15 @@ use Rattle.amended.proofs.record_at.Statement.{statement}
 use Rattle.amended.proofs.record_at.Tie as tie
 
 counting-requires : tie.Need-counting-requires
-counting-requires c κs = (c .before .before .before .pre .0, omega (arith, c .before .before .before .pre .1, few-records (c .before .before .before .args .image .now) (c .before .before .before .pre .0 .whole)))
+counting-requires c κs = (
+  c .before .before .before .pre .0,
+  omega (
+    arith,
+    c .before .before .before .pre .1,
+    few-records
+        (c .before .before .before .args .image .now) (c .before .before .before .pre .0 .whole),
+  ),
+)
 
 enum-known-j : tie.Need-enum-known-j
 enum-known-j c = search needs
@@ -24,7 +32,8 @@ mul-record-at c =
     omega (
       arith,
       within-list (a .list .now) _
-          (latest-below (a .image .now) (a .list .now) (a .day) (a .k) (amendmentsIn (a .list .now)) _ (sym (c .before .before .before .counting .ensures) ∙ c .before .j .given .1)),
+          (latest-below (a .image .now) (a .list .now) (a .day) (a .k) (amendmentsIn (a .list .now)) _ (sym
+          (c .before .before .before .counting .ensures) ∙ c .before .j .given .1)),
     )
 
 add-record-at : tie.Need-add-record-at
@@ -33,7 +42,8 @@ add-record-at c =
     omega (
       arith,
       within-list (a .list .now) _
-          (latest-below (a .image .now) (a .list .now) (a .day) (a .k) (amendmentsIn (a .list .now)) _ (sym (c .before .before .before .counting .ensures) ∙ c .before .j .given .1)),
+          (latest-below (a .image .now) (a .list .now) (a .day) (a .k) (amendmentsIn (a .list .now)) _ (sym
+          (c .before .before .before .counting .ensures) ∙ c .before .j .given .1)),
     )
 
 record-at-requires : tie.Need-record-at-requires
@@ -42,7 +52,8 @@ record-at-requires c κs =
     omega (
       arith,
       within-list (a .list .now) _
-          (latest-below (a .image .now) (a .list .now) (a .day) (a .k) (amendmentsIn (a .list .now)) _ (sym (c .before .before .before .counting .ensures) ∙ c .before .j .given .1)),
+          (latest-below (a .image .now) (a .list .now) (a .day) (a .k) (amendmentsIn (a .list .now)) _ (sym
+          (c .before .before .before .counting .ensures) ∙ c .before .j .given .1)),
     )
 
 enum-told : tie.Need-enum-told

@@ -44,7 +44,8 @@ returns c =
     (stretchTests (a .first) (a .last)) _ _ _
     (c .before .before .before .before .before .mark-refusal .ensures)
     (c .before .before .before .evaluate-refusals .ensures
-    ∙ ap (λ (q : StationRecord). refusalOf (evaluateTests q (a .kind) (a .direction) (a .e) (a .image .now))) (c .before .before .before .before .without-dial .ensures))
+    ∙ ap (λ (q : StationRecord). refusalOf (evaluateTests q (a .kind) (a .direction) (a .e) (a .image .now)))
+    (c .before .before .before .before .without-dial .ensures))
     (c .before .before .stretch-refusals .ensures
     ∙ ap (λ (z : ℤ). refusalOf (stretchTests z (toZ w64 (ofZ w64 (a .last))))) (toZ-ofZ w64 (a .first) (start .fits .first))
     ∙ ap (λ (z : ℤ). refusalOf (stretchTests (a .first) z)) (toZ-ofZ w64 (a .last) (start .fits .last)))

@@ -16,7 +16,8 @@ record Places (first last dials : ℕ) : Type 0 where
   few : dials ≤ most
   are : dials ≡ suc (last - first)
 
-places : (c : tie.After-lifted2) → Places (c .lifted2 .result) (c .before .lifted .result) (dialsOf (c .before .before .args .first) (c .before .before .args .last))
+places : (c : tie.After-lifted2) → Places (c .lifted2 .result) (c .before .lifted .result) (dialsOf (c .before .before .args .first)
+    (c .before .before .args .last))
 places c =
     let a = c .before .before in
     let first = c .lifted2 .ensures ∙ ap lift (toZ-ofZ w64 (a .args .first) (a .fits .first)) in

@@ -84,7 +84,8 @@ gaps-left-is-lengthy-requires : (t : ℕ) → gaps-left-lts.Need-is-lengthy-requ
 gaps-left-is-lengthy-requires t c κs = search needs
 
 gaps-left-next-requires : (t : ℕ) → gaps-left-lts.Need-next-requires (claims t) (gaps-left-at t) gaps-left.Post
-gaps-left-next-requires t c κs = (c .before .before .before .before .pre .1 .0, c .before .before .before .before .pre .1 .1, c .before .before .before .before .pre .1 .2)
+gaps-left-next-requires t c κs =
+    (c .before .before .before .before .pre .1 .0, c .before .before .before .before .pre .1 .1, c .before .before .before .before .pre .1 .2)
 
 gaps-left-enum-known-j : (t : ℕ) → gaps-left-lts.Need-enum-known-j (claims t) (gaps-left-at t) gaps-left.Post
 gaps-left-enum-known-j t c = search needs
@@ -140,14 +141,21 @@ gaps-left-offer-requires : (t : ℕ) → gaps-left-lts.Need-offer-requires (clai
 gaps-left-offer-requires t c κs = search needs
 
 gaps-left-add-result : (t : ℕ) → gaps-left-lts.Need-add-result (claims t) (gaps-left-at t) gaps-left.Post
-gaps-left-add-result t c = omega (arith, ap length (whole t (c .before .before .before .before)), c .before .before .before .before .before .before .before .before .before .before .before .pre .1 .3)
+gaps-left-add-result t c = omega (
+  arith,
+  ap length (whole t
+      (c .before .before .before .before)),
+  c .before .before .before .before .before .before .before .before .before .before .before .pre .1 .3,
+)
 
 gaps-left-same-length-2 : (t : ℕ) → gaps-left-lts.Need-same-length-2 (claims t) (gaps-left-at t) gaps-left.Post
 gaps-left-same-length-2 t c = c .before .before .offer .kept .0
 
 gaps-left-returns-2 : (t : ℕ) → gaps-left-lts.Need-returns-2 (claims t) (gaps-left-at t) gaps-left.Post
 gaps-left-returns-2 t c =
-    part-poured (gapRow (c .before .before .before .before .before .before .before .before .before .before .before .args .class) (c .before .before .before .before .before .before .before .before .before .before .before .args .segment)) _ _ _ _ _ (whole t (c .before .before .before .before)) (c .before .before .offer .ensures)
+    part-poured (gapRow (c .before .before .before .before .before .before .before .before .before .before .before .args .class)
+    (c .before .before .before .before .before .before .before .before .before .before .before .args .segment)) _ _ _ _ _ (whole t
+    (c .before .before .before .before)) (c .before .before .offer .ensures)
 
 gaps-left-returns-3 : (t : ℕ) → gaps-left-lts.Need-returns-3 (claims t) (gaps-left-at t) gaps-left.Post
 gaps-left-returns-3 t c =

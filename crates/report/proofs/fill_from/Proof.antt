@@ -13,7 +13,8 @@ same-length : tie.Need-same-length
 same-length c = search needs
 
 returns : tie.Need-returns
-returns c = filled-long _ (c .before .before .before .before .before .before .before .before .args .rows .now) _ refl (omega (arith, c .if1 .taken, c .before .before .before .gather .ensures .counted))
+returns c = filled-long _ (c .before .before .before .before .before .before .before .before .args .rows .now) _ refl (omega
+    (arith, c .if1 .taken, c .before .before .before .gather .ensures .counted))
 
 settle-requires : tie.Need-settle-requires
 settle-requires c κs =
@@ -32,7 +33,8 @@ same-length-3 c = search needs
 
 returns-2 : tie.Need-returns-2
 returns-2 c =
-    filled-fit _ _ _ _ (omega (arith, c .before .before .before .before .before .before .before .before .gather .ensures .counted)) (c .before .before .before .before .before .if1 .left) (c .before .before .settle .ensures)
+    filled-fit _ _ _ _ (omega (arith, c .before .before .before .before .before .before .before .before .gather .ensures .counted))
+    (c .before .before .before .before .before .if1 .left) (c .before .before .settle .ensures)
 
 pub fill-from-spec : {M : Type 1} → statement M
 fill-from-spec =

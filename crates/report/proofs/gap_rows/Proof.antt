@@ -66,9 +66,11 @@ gaps-left-requires c κs =
       omega (
         arith,
         t .inv .0 .counted,
-        gaps-long (s .args .image .now) (g .result) (f .result) (g .ensures) (f .ensures) (s .args .class) (t .i) _ _ h (c .before .before .record-at .ensures) (c .span-of .ensures),
+        gaps-long (s .args .image .now) (g .result) (f .result) (g .ensures) (f .ensures) (s .args .class) (t .i) _ _ h
+            (c .before .before .record-at .ensures) (c .span-of .ensures),
         ap length (from-step (f .result .count) (t .i) (gapsAt (tableOf (s .args .image .now)) (s .args .class)) h),
-        length-append (gapsAt (tableOf (s .args .image .now)) (s .args .class) (t .i)) (from (f .result .count) (gapsAt (tableOf (s .args .image .now)) (s .args .class)) (t .i + 1)),
+        length-append (gapsAt (tableOf (s .args .image .now)) (s .args .class) (t .i)) (from (f .result .count) (gapsAt (tableOf
+            (s .args .image .now)) (s .args .class)) (t .i + 1)),
         s .pre .1,
       ),
     )
@@ -87,7 +89,8 @@ loop-again c =
     let t = c .before .before .before .before .before .before .before .before .before .loop in
     let h = c .before .before .before .before .before .before .before .if1 .taken in (
       pouring-more _ _ _ _ _ _ _ _ _ _ _ (t .inv .0) (from-step (f .result .count) (t .i) (gapsAt (tableOf (s .args .image .now)) (s .args .class)) h)
-          (rw (gaps-read (s .args .image .now) (g .result) (f .result) (g .ensures) (f .ensures) (s .args .class) (t .i) _ _ h (c .before .before .before .before .before .record-at .ensures)
+          (rw (gaps-read (s .args .image .now) (g .result) (f .result) (g .ensures) (f .ensures) (s .args .class) (t .i) _ _ h
+          (c .before .before .before .before .before .record-at .ensures)
           (c .before .before .before .span-of .ensures)) at
           (c .before .before .gaps-left .ensures)),
       c .before .before .gaps-left .kept .1 .0 ∙ t .inv .1,

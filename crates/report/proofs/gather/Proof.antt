@@ -10,7 +10,15 @@ use Rattle.report.proofs.gather.Statement.{statement}
 use Rattle.report.proofs.gather.Tie as tie
 
 overlap-rows-requires : tie.Need-overlap-rows-requires
-overlap-rows-requires c κs = (c .before .before .before .pre, omega arith, omega (arith, table-few (c .before .before .before .args .image .now) (c .before .before .before .pre) bands (omega arith)))
+overlap-rows-requires c κs = (
+  c .before .before .before .pre,
+  omega arith,
+  omega (
+    arith,
+    table-few
+        (c .before .before .before .args .image .now) (c .before .before .before .pre) bands (omega arith),
+  ),
+)
 
 overlap-rows-requires-2 : tie.Need-overlap-rows-requires-2
 overlap-rows-requires-2 c κs =
@@ -57,7 +65,8 @@ same-length c = search needs
 returns : tie.Need-returns
 unfolding reportRows
 returns c =
-    poured-more _ _ _ _ _ _ _ _ _ (c .before .before .before .before .before .before .before .before .before .before .before .before .before .before .overlap-rows .ensures)
+    poured-more _ _ _ _ _ _ _ _ _
+    (c .before .before .before .before .before .before .before .before .before .before .before .before .before .before .overlap-rows .ensures)
     (poured-more _ _ _ _ _ _ _ _ _ (c .before .before .before .before .before .before .before .before .before .before .overlap-rows2 .ensures)
     (poured-more _ _ _ _ _ _ _ _ _ (c .before .before .before .before .before .before .overlap-rows3 .ensures) (c .before .before .gap-rows .ensures)))
 

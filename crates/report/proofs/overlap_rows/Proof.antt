@@ -62,7 +62,8 @@ pair-rows-requires c κs =
         t .inv .0 .counted,
         ap length (pairs-read (s .args .image .now) (s .args .t) (f .result) (s .pre .1) (f .ensures) (t .i) _ h (c .before .record-at .ensures)),
         ap length (from-step (f .result .count) (t .i) (pairRowsAt (tableOf (s .args .image .now)) (s .args .t)) h),
-        length-append (pairRowsAt (tableOf (s .args .image .now)) (s .args .t) (t .i)) (from (f .result .count) (pairRowsAt (tableOf (s .args .image .now)) (s .args .t)) (t .i + 1)),
+        length-append (pairRowsAt (tableOf (s .args .image .now)) (s .args .t) (t .i)) (from (f .result .count) (pairRowsAt (tableOf
+            (s .args .image .now)) (s .args .t)) (t .i + 1)),
         s .pre .2,
       ),
     )
@@ -80,7 +81,8 @@ loop-again c =
     let t = c .before .before .before .before .before .before .before .before .loop in
     let h = c .before .before .before .before .before .before .if1 .taken in (
       pouring-more _ _ _ _ _ _ _ _ _ _ _ (t .inv .0) (from-step (f .result .count) (t .i) (pairRowsAt (tableOf (s .args .image .now)) (s .args .t)) h)
-          (rw (pairs-read (s .args .image .now) (s .args .t) (f .result) (s .pre .1) (f .ensures) (t .i) _ h (c .before .before .before .before .record-at .ensures)) at
+          (rw (pairs-read (s .args .image .now) (s .args .t) (f .result) (s .pre .1) (f .ensures) (t .i) _ h
+          (c .before .before .before .before .record-at .ensures)) at
           (c .before .before .pair-rows .ensures)),
       c .before .before .pair-rows .kept .1 .0 ∙ t .inv .1,
     )

@@ -73,7 +73,11 @@ loop-holds : tie.Need-loop-holds Inv-loop μ-loop
 loop-holds c = (pouring-none _ _ _ _ _ refl, refl)
 
 next-requires : tie.Need-next-requires Inv-loop μ-loop
-next-requires c κs = (c .before .before .before .before .before .before .pre .0, c .before .before .before .before .before .before .pre .1, c .before .before .before .before .before .before .pre .2)
+next-requires c κs = (
+  c .before .before .before .before .before .before .pre .0,
+  c .before .before .before .before .before .before .pre .1,
+  c .before .before .before .before .before .before .pre .2,
+)
 
 enum-known-j : tie.Need-enum-known-j Inv-loop μ-loop
 enum-known-j c = search needs
@@ -96,7 +100,8 @@ same-length c = c .before .before .before .loop .inv .1
 returns : tie.Need-returns Inv-loop μ-loop
 returns c =
     rw (known (c .before .before .before .before))
-    (pouring-done _ _ _ _ _ _ _ (c .before .before .before .loop .inv .0) (swept-none _ _ _ _ _ _ (sym (c .before .before .next .ensures) ∙ c .enum-told .given .1)))
+    (pouring-done _ _ _ _ _ _ _ (c .before .before .before .loop .inv .0) (swept-none _ _ _ _ _ _ (sym (c .before .before .next .ensures)
+    ∙ c .enum-told .given .1)))
 
 add-n : tie.Need-add-n Inv-loop μ-loop
 add-n c =
@@ -113,7 +118,8 @@ loop-less c = omega (arith, ap length (given (c .before .before .before .before 
 
 loop-again : tie.Need-loop-again Inv-loop μ-loop
 loop-again c = (
-  pouring-step _ _ _ _ _ _ _ _ _ _ (c .before .before .before .before .before .before .before .before .before .loop .inv .0) (given (c .before .before .before .before .before .before)) (c .before .before .offer .ensures),
+  pouring-step _ _ _ _ _ _ _ _ _ _ (c .before .before .before .before .before .before .before .before .before .loop .inv .0) (given
+      (c .before .before .before .before .before .before)) (c .before .before .offer .ensures),
   c .before .before .offer .kept .0 ∙ c .before .before .before .before .before .before .before .before .before .loop .inv .1,
 )
 

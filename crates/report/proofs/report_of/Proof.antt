@@ -25,7 +25,8 @@ fill-requires c κs = accepted-whole _ (sym (c .before .before .before .check .e
 returns-2 : tie.Need-returns-2
 returns-2 c =
     let a = c .before .before .before .before .before .before .before .args in
-    reported-image (a .image .now) (a .class) (a .rows .now) _ (c .before .before .before .before .if1 .left) (sym (c .before .n .given .1) ∙ c .before .before .before .check .ensures)
+    reported-image (a .image .now) (a .class) (a .rows .now) _ (c .before .before .before .before .if1 .left) (sym (c .before .n .given .1)
+    ∙ c .before .before .before .check .ensures)
 
 same-length : tie.Need-same-length
 same-length c = search needs
@@ -34,7 +35,8 @@ returns-3 : tie.Need-returns-3
 returns-3 c =
     let a = c .before .before .before .before .before .before .before .before .before .before .args in
     reported-rows (a .image .now) (a .class) (a .rows .now) _ _ (c .before .before .before .before .before .before .before .if1 .left)
-    (sym (c .before .before .before .before .enum-told .given .1) ∙ c .before .before .before .before .before .before .check .ensures) (c .before .before .fill .ensures)
+    (sym (c .before .before .before .before .enum-told .given .1) ∙ c .before .before .before .before .before .before .check .ensures)
+    (c .before .before .fill .ensures)
 
 pub report-of-spec : {M : Type 1} → statement M
 report-of-spec =

@@ -15,7 +15,8 @@ same-length : tie.Need-same-length
 same-length c = search needs
 
 returns : tie.Need-returns
-returns c = c .before .before .copy .ensures ∙ copied _ _ _ _ (c .before .before .before .before .before .before .before .before .pre .1) (c .before .before .before .before .before .before .before .before .pre .2) (c .before .before .before .before .if1 .taken)
+returns c = c .before .before .copy .ensures ∙ copied _ _ _ _ (c .before .before .before .before .before .before .before .before .pre .1)
+    (c .before .before .before .before .before .before .before .before .pre .2) (c .before .before .before .before .if1 .taken)
 
 gather-requires : tie.Need-gather-requires
 gather-requires c κs = search needs
@@ -24,7 +25,8 @@ same-length-2 : tie.Need-same-length-2
 same-length-2 c = search needs
 
 returns-2 : tie.Need-returns-2
-returns-2 c = poured _ _ _ _ _ (c .before .before .before .before .before .before .before .before .pre .2) (c .before .before .before .before .before .before .before .before .pre .3) (c .before .before .gather .ensures)
+returns-2 c = poured _ _ _ _ _ (c .before .before .before .before .before .before .before .before .pre .2)
+    (c .before .before .before .before .before .before .before .before .pre .3) (c .before .before .gather .ensures)
 
 pub settle-spec : {M : Type 1} → statement M
 settle-spec =
