@@ -7,12 +7,15 @@
  * its own: equal arguments give equal answers, and calls may run at once on several threads.
  *
  * An image, rungs and floor bytes are lent as a pointer and a count of elements. They are only read,
- * during the call, and no byte of them changes; so are the starts, bands and seconds of a log, and the
- * figures, codes and rules of records that are to be an image. Dial rows, the rows of a report, texts, totals
- * and the bytes for an image that is written, raised or lowered are lent to be written: see
- * pamuklid_safe_dials, pamuklid_report_of, pamuklid_text_at, pamuklid_airtime_of, pamuklid_write and
- * pamuklid_raise. With a count of 0 a pointer is not followed, but pass one that is not null. What is lent to
- * be written may not overlap what else is lent to the same call.
+ * during the call, and no byte of them changes; so are the starts, bands and seconds of a log, the figures,
+ * codes and rules of records that are to be an image, and a list of amendments. Dial rows, the rows of a
+ * report, texts, totals and the bytes for an image that is written, raised, lowered or amended are lent to be
+ * written: see pamuklid_safe_dials, pamuklid_report_of, pamuklid_text_at, pamuklid_airtime_of, pamuklid_write,
+ * pamuklid_raise and pamuklid_amend. With a count of 0 a pointer is not followed, but pass one that is not
+ * null. What is lent to be written may not overlap what else is lent to the same call.
+ *
+ * A walk (pamuklid_walk_step) goes on from one call to the next. Its state is a struct that the caller keeps:
+ * each call takes it by value and gives the next one back.
  *
  * Structs go by value. Their sizes and offsets are checked below when this header is compiled (C11 or
  * C++11 on); whether the library is of the header's version is asked once, as the program starts:
@@ -31,8 +34,8 @@
 extern "C" {
 #endif
 
-/* The version of this header, 0.11.0: major * 10000 + minor * 100 + patch. */
-#define PAMUKLID_VERSION 1100
+/* The version of this header, 0.13.0: major * 10000 + minor * 100 + patch. */
+#define PAMUKLID_VERSION 1300
 
 /* Refusals, by number. A call that is refused has answered nothing: send nothing. */
 #define PAMUKLID_ACCEPTED 0                 /* none: the image is accepted, the call was answered */
@@ -61,7 +64,8 @@ extern "C" {
 #define PAMUKLID_REFUSAL_RUNGS 16           /* rungs not in fours, more than 256 of them, or floor bytes
                                                that are not one for each rung, 0 or 1 */
 #define PAMUKLID_REFUSAL_STATION_CODE 20    /* a station code, a presence byte, the plan mark, the kind, the
-                                               direction or the license of a report outside its values */
+                                               direction or the license of a report outside its values; a
+                                               walk's state that no call gives */
 #define PAMUKLID_REFUSAL_STATION_FIGURE 21  /* a station figure, or a dial asked, not finite or above 2^40
                                                in size (only where it is known); a figure to be written,
                                                not finite or above 2^43 in size */
@@ -73,17 +77,23 @@ extern "C" {
 #define PAMUKLID_REFUSAL_REPORT 25          /* a report longer than the whole rows lent */
 #define PAMUKLID_REFUSAL_WATTS 26           /* an image that is to be lowered, with other watts than 100 and
                                                9.15, which edition 1 cannot hold */
+#define PAMUKLID_REFUSAL_AMENDMENTS 27      /* a list of amendments not in forties, or with a table above 8 or
+                                               an index beyond its table, in force or not */
+#define PAMUKLID_REFUSAL_AMENDED_ROOM 28    /* an image to be amended, longer than the bytes lent for it */
+#define PAMUKLID_REFUSAL_SECOND_SWAP 29     /* a swap while one waits */
+#define PAMUKLID_REFUSAL_WALK 30            /* a step with no walk open, or an opening while one is open */
 #define PAMUKLID_REFUSAL_STARTS 31          /* a start of a log below the one before */
 #define PAMUKLID_REFUSAL_RUNS 32            /* starts, bands, seconds and totals not one for each record, or
                                                over 65,536 records */
 #define PAMUKLID_REFUSAL_STRETCH 33         /* a first dial above the last, or more dials than
                                                PAMUKLID_MOST_DIALS */
 #define PAMUKLID_REFUSAL_FAR_DIAL 34        /* a first or last dial above 2^40 in size */
-/* They are looked for in the order 20, 21, 22, 1 to 14, 26, 15, 33, 34, 16, 23, 24, 25, 31, 32, each over the
- * whole input before the next; 22 and 1 to 14 with PAMUKLID_POLICY_RULES only, except by the calls that are
- * about the image alone (pamuklid_check, pamuklid_tidy, pamuklid_report_of, pamuklid_fault_of, pamuklid_write,
- * pamuklid_raise, pamuklid_lower), which have 1 to 14 always; pamuklid_write, which puts the letters there
- * itself, never 2. */
+/* They are looked for in the order 29, 30, 20, 21, 22, 1 to 14, 26, 27, 28, 15, 33, 34, 16, 23, 24, 25, 31, 32,
+ * each over the whole input before the next; 22 and 1 to 14 with PAMUKLID_POLICY_RULES only, except by the
+ * calls that are about the image alone (pamuklid_check, pamuklid_tidy, pamuklid_report_of, pamuklid_fault_of,
+ * pamuklid_write, pamuklid_raise, pamuklid_lower, pamuklid_amend), which have 1 to 14 always; pamuklid_write,
+ * which puts the letters there itself, never 2. pamuklid_amend has 1 to 14 of the base image, 27, 28, and then
+ * 5 to 10, 12 and 13 of the effective one. */
 
 /* pamuklid_station: policy */
 #define PAMUKLID_POLICY_UNSET 0    /* none was chosen: everything is blocked */
@@ -278,6 +288,34 @@ typedef struct {
     uint8_t refusal;         /* PAMUKLID_ACCEPTED: judged; else PAMUKLID_REFUSAL_... */
 } pamuklid_ceiling;
 
+/* The state of a walk, the caller's to keep: pamuklid_walk_first, _swap, _open and _step give it. It need not
+ * be kept secret, but it must not be made up or changed. What no call gives meets 20: an image, waiting or
+ * walking above 1, a place above 255, with no walk open a swap that waits or a place above 0, and edges of
+ * rungs judged that 15 would refuse. */
+typedef struct {
+    pamuklid_edges occupied; /* what the rungs judged so far occupy; not looked at where place is 0 */
+    uint32_t place;          /* how many rungs of the walk were judged, 0 to 255, and the index of the next; 0
+                                with no walk open */
+    uint8_t image;           /* the image in force, 0 or 1; while a walk is open the one that it goes by */
+    uint8_t waiting;         /* 1 where a swap waits for the end of the walk, else 0 */
+    uint8_t walking;         /* 1 where a walk is open, else 0 */
+} pamuklid_walk;
+
+/* The answer of a swap and of an opening. */
+typedef struct {
+    pamuklid_walk state;     /* the next state; on a refusal the one that was given, unchanged */
+    uint8_t refusal;         /* PAMUKLID_ACCEPTED; PAMUKLID_REFUSAL_SECOND_SWAP (a swap),
+                                PAMUKLID_REFUSAL_WALK (an opening) or PAMUKLID_REFUSAL_STATION_CODE */
+} pamuklid_walk_answer;
+
+/* The answer of a step. */
+typedef struct {
+    pamuklid_ceiling ceiling; /* of the rungs judged so far, this one among them; its refusal is the step's */
+    pamuklid_walk state;      /* the next state; on a refusal the one that was given, unchanged */
+    uint8_t over;             /* 1 where the walk is over: its first blocked rung or its last was judged, or no
+                                 rung was lent at its place; else 0, also on a refusal */
+} pamuklid_step;
+
 /* The most rows that a list can have. */
 #define PAMUKLID_MOST_ROWS 16777472
 
@@ -345,6 +383,15 @@ typedef struct {
     uint32_t length;         /* the bytes that were written, those of the image; 0 on a refusal */
     uint8_t refusal;         /* PAMUKLID_ACCEPTED; else PAMUKLID_REFUSAL_... */
 } pamuklid_image;
+
+/* An amendment is PAMUKLID_AMENDMENT bytes, little-endian. By offset: */
+#define PAMUKLID_AMENDMENT 40
+#define PAMUKLID_AMENDMENT_TABLE 0  /* u16, PAMUKLID_TABLE_..., 0 to 8 */
+#define PAMUKLID_AMENDMENT_INDEX 2  /* u16, the index of the record in its table, from 0 */
+#define PAMUKLID_AMENDMENT_DAY 4    /* u32, the day from which on it is in force: a number, counted from
+                                       whichever day trustee and caller agree on */
+#define PAMUKLID_AMENDMENT_RECORD 8 /* PAMUKLID_IMAGE_RECORD bytes, the record that replaces it, as it stands in
+                                       an image (docs/IMAGE.md) */
 
 /* The bytes of the longest text, "-8796093022.208". */
 #define PAMUKLID_MOST_TEXT 15
@@ -537,6 +584,21 @@ pamuklid_image pamuklid_raise(const uint8_t *image, size_t n, uint8_t *out, size
  * 26, 23. */
 pamuklid_image pamuklid_lower(const uint8_t *image, size_t n, uint8_t *out, size_t out_len);
 
+/* The effective image of a day: image, the base, with each record replaced by the amendment in the list that is
+ * in force for it. That is the one of the latest day not after the day asked, and of equal days the later in the
+ * list. Where none is in force, the record is the base's; with none at all, the effective image is the base. No
+ * count and no field of the general block changes. list holds list_len / PAMUKLID_AMENDMENT amendments, in any
+ * order and as many as there are; of those that are not in force the record is not looked at.
+ * out[0] to out[length - 1] are written, the effective image, as long as the base; bytes past it stay as lent.
+ * On a refusal no byte of out changes. The image, the list and out are runs of bytes of their own: an image is
+ * not amended in place. Reads image[0] to image[n - 1] and list[0] to list[list_len - 1]; the time is that of
+ * the image and of the list, not of their product.
+ * Refusals 1 to 14 of the base; 27 (list_len is no multiple of PAMUKLID_AMENDMENT, or anywhere in the list, in
+ * force or not, a table above 8 or an index beyond its table); 28 (out_len below n); then 5 to 10, 12 and 13 of
+ * the effective image, as pamuklid_check would have them. */
+pamuklid_image pamuklid_amend(const uint8_t *image, size_t n, const uint8_t *list, size_t list_len,
+                              uint32_t day, uint8_t *out, size_t out_len);
+
 /* The calls that take or give a station have other symbols in the library since the station has two margins
  * (0.10.0), so that what was compiled with an older header, for a station of 32 bytes, does not link: it is
  * to be compiled again. In a program they have the names that are used below. */
@@ -574,6 +636,43 @@ pamuklid_ceiling pamuklid_ceiling_of(pamuklid_station s, uint8_t direction, pamu
                                      pamuklid_edges floor, const uint8_t *image, size_t n,
                                      const double *rungs, size_t figures, const uint8_t *floors,
                                      size_t floor_count);
+
+/* A walk is the climb of pamuklid_ceiling_of a rung at a time, under one of two images, so that a table can be
+ * loaded while a modem climbs: the walk finishes under the table it began with, the next begins under the new.
+ *
+ *     pamuklid_walk w = pamuklid_walk_first();      once; image 0 is in force
+ *     w = pamuklid_walk_open(w).state;              a walk begins, under the image in force
+ *     pamuklid_step t = pamuklid_walk_step(w, ...); judges one rung; w = t.state; again until t.over
+ *     w = pamuklid_walk_swap(w).state;              at any time: the other image is to be in force
+ *
+ * Look at the refusal of each; the state goes on unchanged after one. */
+
+/* The first state: image 0 in force, no walk open, no swap waiting. */
+pamuklid_walk pamuklid_walk_first(void);
+
+/* Changes to the other image: at once with no walk open, else in the step that ends the walk. Refusals 29 (a
+ * swap waits already), 20 (a state that no call gives). */
+pamuklid_walk_answer pamuklid_walk_swap(pamuklid_walk w);
+
+/* Opens a walk, under the image in force. Refusals 30 (one is open already), 20 (a state that no call gives). */
+pamuklid_walk_answer pamuklid_walk_open(pamuklid_walk w);
+
+/* Judges the rung at the walk's place, with what the rungs before it occupy, and none of these again. The
+ * ceiling is that of the rungs judged so far. The walk is over with its first blocked rung or its last rung;
+ * where no rung is lent at its place it is over too, and nothing is judged. A swap that waits takes force then.
+ * image_0 and image_1 are the two images; the walk's alone is read, the other may be anything. All else as
+ * pamuklid_ceiling_of has it; lend all rungs to every step.
+ * If every step of a walk is lent the same images, rungs, control frames, direction and station, the last one's
+ * ceiling is that of one pamuklid_ceiling_of on the image in force as the walk was opened, whatever swaps came
+ * between. Lent others, a step goes by what it is lent, and by what was judged and occupied before.
+ * On a refusal the state comes back as it came, over is 0, and the ceiling is that of a refusal. A walk whose
+ * image is refused stays open until the image is lent whole again.
+ * Refusals 30 (no walk is open), 20 (a state that no call gives), then those of pamuklid_ceiling_of in their
+ * order, over all that is lent: 20 to 22, 1 to 14 (of the walk's image), 15, 16. */
+pamuklid_step pamuklid_walk_step(pamuklid_walk w, pamuklid_station s, uint8_t direction,
+                                 pamuklid_edges ordinary, pamuklid_edges floor, const uint8_t *image_0,
+                                 size_t n_0, const uint8_t *image_1, size_t n_1, const double *rungs,
+                                 size_t figures, const uint8_t *floors, size_t floor_count);
 
 /* The dials at which a data signal of these edges stays inside the rules, with the margins to spare, as
  * rows in the bytes lent, by their lower dial (rows of equal lower dial as the image has them).
@@ -714,6 +813,22 @@ PAMUKLID_AT(pamuklid_ceiling, limit, 0);
 PAMUKLID_AT(pamuklid_ceiling, rung, 360);
 PAMUKLID_AT(pamuklid_ceiling, limit_known, 364);
 PAMUKLID_AT(pamuklid_ceiling, refusal, 365);
+
+PAMUKLID_SIZE(pamuklid_walk, 40);
+PAMUKLID_AT(pamuklid_walk, occupied, 0);
+PAMUKLID_AT(pamuklid_walk, place, 32);
+PAMUKLID_AT(pamuklid_walk, image, 36);
+PAMUKLID_AT(pamuklid_walk, waiting, 37);
+PAMUKLID_AT(pamuklid_walk, walking, 38);
+
+PAMUKLID_SIZE(pamuklid_walk_answer, 48);
+PAMUKLID_AT(pamuklid_walk_answer, state, 0);
+PAMUKLID_AT(pamuklid_walk_answer, refusal, 40);
+
+PAMUKLID_SIZE(pamuklid_step, 416);
+PAMUKLID_AT(pamuklid_step, ceiling, 0);
+PAMUKLID_AT(pamuklid_step, state, 368);
+PAMUKLID_AT(pamuklid_step, over, 408);
 
 PAMUKLID_SIZE(pamuklid_dials, 8);
 PAMUKLID_AT(pamuklid_dials, count, 0);

@@ -80,13 +80,24 @@ pub fn timed(show: bool, rounds: usize) {
     println!(
         "\ntime on the air, by a plain loop's time; then {MOST} records by {FEW}, library and loop"
     );
+    // the most that each number of records cost, however they start: library and loop
+    let (mut dear, mut dearest) = ((0f64, 0f64), (0f64, 0f64));
     for (name, start) in KINDS {
         let few = totals(name, &log(FEW, start), rounds);
         let most = totals(name, &log(MOST, start), rounds);
         line(show, &format!("  {FEW}, {name}"), few, None);
         line(show, &format!("  {MOST}, {name}"), most, None);
         println!("    {:.0} and {:.0} times", most.0 / few.0, most.1 / few.1);
+        dear = (dear.0.max(few.0), dear.1.max(few.1));
+        dearest = (dearest.0.max(most.0), dearest.1.max(most.1));
     }
+    println!(
+        "  whatever the starts: {FEW} at most {:.2} µs, {MOST} at most {:.0} µs, {:.0} times; the loop {:.0} times",
+        dear.0 / 1e3,
+        dearest.0 / 1e3,
+        dearest.0 / dear.0,
+        dearest.1 / dear.1
+    );
 }
 
 pub fn stacks() {

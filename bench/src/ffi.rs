@@ -1,8 +1,9 @@
 //! The library's boundary: the wrapper crate's structs and calls (`pamuklid::raw`).
 
 pub use pamuklid::raw::{
-    Edges, Fields, MOST_REPORT, MOST_TEXT, REPORT_ROW, Station, Text, airtime, census, check,
-    evaluate, fault_of, lower, raise, report, safe_dials, text_at, text_hertz, text_khz, write,
+    Edges, Fields, MOST_REPORT, MOST_TEXT, REPORT_ROW, Station, Text, airtime, amend, census,
+    check, evaluate, fault_of, lower, raise, report, safe_dials, text_at, text_hertz, text_khz,
+    walk_first, walk_open, walk_step, write,
 };
 
 /// A climb with one control frame for all its rungs.

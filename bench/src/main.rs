@@ -7,6 +7,7 @@
 //! It prints ratios, library by Rust; with --show also the nanoseconds of each side.
 
 mod airtimes;
+mod amends;
 mod censuses;
 mod ffi;
 mod images;
@@ -17,6 +18,7 @@ mod rust {
 mod stack;
 mod table;
 mod texts;
+mod walks;
 
 use std::hint::black_box;
 use std::process::exit;
@@ -516,10 +518,14 @@ fn main() {
     texts::timed(show, rounds);
     airtimes::timed(show, rounds);
     images::timed(show, rounds);
+    amends::timed(show, rounds);
+    walks::timed(show, rounds, &[&hf, &largest]);
     stacks(&hf);
     stacks(&largest);
     reports::stacks();
     texts::stacks();
     airtimes::stacks();
     images::stacks();
+    amends::stacks();
+    walks::stacks(&hf);
 }

@@ -92,7 +92,7 @@ struct spoilt {
 };
 
 /* Where the practice table's records begin, see tools/reference/practice.txt. */
-enum { BAND_60 = 96, SEGMENT_60 = 160, PRIVILEGE_60 = 256, TRAILER = 352 };
+enum { BAND_60 = 96, SEGMENT_20 = 128, SEGMENT_60 = 160, PRIVILEGE_60 = 256, TRAILER = 352 };
 
 static const struct spoilt spoilt[] = {
     {"other letters", TRAILER + 24, 1, {'F'}},
@@ -312,6 +312,59 @@ static void editions(void)
                pamuklid_lower(second, two.length, lowered, sizeof lowered), lowered);
 }
 
+/* Little-endian, in so many bytes. */
+static void put(uint8_t *at, uint64_t number, size_t bytes)
+{
+    for (size_t i = 0; i < bytes; i++)
+        at[i] = number >> 8 * i & 0xff;
+}
+
+/* The first data segment with another upper end, from a day on. */
+static void amendment(uint8_t *at, uint32_t day, double high)
+{
+    uint8_t *record = at + PAMUKLID_AMENDMENT_RECORD;
+    uint64_t bits;
+    put(at + PAMUKLID_AMENDMENT_TABLE, PAMUKLID_TABLE_SEGMENTS, 2);
+    put(at + PAMUKLID_AMENDMENT_INDEX, 0, 2);
+    put(at + PAMUKLID_AMENDMENT_DAY, day, 4);
+    memcpy(record, image + SEGMENT_20, PAMUKLID_IMAGE_RECORD);
+    memcpy(&bits, &high, sizeof bits);
+    put(record + 8, bits, 8); /* where a record has its upper end */
+}
+
+/* The table of a day, and data judged by it that reaches from 14099550 to 14100050. */
+static void amended(const uint8_t *list, size_t n, uint32_t day, size_t room)
+{
+    static uint8_t out[PAMUKLID_IMAGE_MOST];
+    char title[64];
+    pamuklid_image made = pamuklid_amend(image, image_len, list, n, day, out, room);
+    snprintf(title, sizeof title, "%zu bytes of amendments, day %" PRIu32 ",", n, day);
+    print_made(title, room, made, out);
+    if (made.refusal != PAMUKLID_ACCEPTED)
+        return;
+    pamuklid_decision d =
+        pamuklid_evaluate(station_at(14098300, PAMUKLID_CONTROL_LOCAL, POWER_UNKNOWN), PAMUKLID_KIND_DATA,
+                          PAMUKLID_DIRECTION_ORIGINATE, both(1250, 1750), out, made.length);
+    printf("day %" PRIu32 ", data, dial 14098300: ", day);
+    print_decision(&d);
+}
+
+/* Data up to 14100000 Hz from day 20774 on, and up to 14120000 from day 20819 on. */
+static void amendments(void)
+{
+    uint8_t list[2 * PAMUKLID_AMENDMENT];
+    amendment(list, 20774, 14100000);
+    amendment(list + PAMUKLID_AMENDMENT, 20819, 14120000);
+    amended(list, sizeof list, 20773, 380);
+    amended(list, sizeof list, 20774, 380);
+    amended(list, sizeof list, 20819, 380);
+    amended(list, sizeof list, 20819, 379);
+    amended(list, sizeof list - 1, 20819, 380);
+    amendment(list, 20774, 14000000); /* a segment of no length: in force on one day, superseded on the other */
+    amended(list, sizeof list, 20774, 380);
+    amended(list, sizeof list, 20819, 380);
+}
+
 /* The seconds on the air of the ten minutes up to each record of a log. */
 static void times(const char *title, const uint64_t *starts, size_t n, size_t lent)
 {
@@ -427,40 +480,100 @@ static void margins(void)
     }
 }
 
-static void print_ceiling(const double *rungs, size_t rung_count)
+static void print_ceiling(const pamuklid_ceiling *c)
 {
-    static const uint8_t floors[PAMUKLID_MOST_RUNGS] = {0}; /* all with the ordinary control frame */
+    if (c->refusal != PAMUKLID_ACCEPTED) {
+        printf("refusal %d\n", c->refusal);
+        return;
+    }
+    if (c->rung == PAMUKLID_RUNG_NONE)
+        printf("no rung, ");
+    else
+        printf("rung %" PRId32 ", ", c->rung);
+    if (c->limit_known) {
+        printf("limit ");
+        print_decision(&c->limit);
+    } else {
+        printf("no limit\n");
+    }
+}
+
+/* Rungs of 500, 1000 and 2900 Hz, all with the ordinary control frame. */
+static const double rungs[] = {
+    1250, 1750, 1250, 1750,
+    1000, 2000, 1000, 2000,
+    0,    2900, 0,    2900,
+};
+static const uint8_t floors[] = {0, 0, 0};
+enum { RUNGS = sizeof floors };
+
+static void ceilings(size_t rung_count)
+{
     pamuklid_station s = station_at(14100000, LOCAL, POWER_UNKNOWN);
     pamuklid_edges control = both(1250, 1750);
     pamuklid_ceiling c =
         pamuklid_ceiling_of(s, ORIGINATE, control, control, image, image_len, rungs,
                             PAMUKLID_RUNG_FIGURES * rung_count, floors, rung_count);
     printf("ceiling of %zu rungs, dial 14100000: ", rung_count);
-    if (c.refusal != PAMUKLID_ACCEPTED) {
-        printf("refusal %d\n", c.refusal);
-        return;
-    }
-    if (c.rung == PAMUKLID_RUNG_NONE)
-        printf("no rung, ");
+    print_ceiling(&c);
+}
+
+/* A table that is loaded while the modem climbs: the practice table with a general width limit of 600 Hz. */
+static uint8_t loaded[sizeof image];
+
+static pamuklid_step step(pamuklid_walk w)
+{
+    pamuklid_edges control = both(1250, 1750);
+    return pamuklid_walk_step(w, station_at(14100000, LOCAL, POWER_UNKNOWN), ORIGINATE, control, control, image,
+                              image_len, loaded, image_len, rungs, PAMUKLID_RUNG_FIGURES * RUNGS, floors,
+                              RUNGS);
+}
+
+/* To the other table. A refusal leaves the state as it was. */
+static pamuklid_walk swapped(pamuklid_walk w)
+{
+    pamuklid_walk_answer a = pamuklid_walk_swap(w);
+    if (a.refusal != PAMUKLID_ACCEPTED)
+        printf("swap: refusal %d\n", a.refusal);
     else
-        printf("rung %" PRId32 ", ", c.rung);
-    if (c.limit_known) {
-        printf("limit ");
-        print_decision(&c.limit);
-    } else {
-        printf("no limit\n");
+        printf("swap: %simage %d in force\n", a.state.waiting ? "waits, " : "", a.state.image);
+    return a.state;
+}
+
+/* A modem's loop: opens a walk, and steps until it is over. A table comes after so many steps, if not 0. */
+static pamuklid_walk walk(pamuklid_walk w, int comes)
+{
+    pamuklid_walk_answer opened = pamuklid_walk_open(w);
+    if (opened.refusal != PAMUKLID_ACCEPTED) {
+        printf("walk: refusal %d\n", opened.refusal);
+        return w;
+    }
+    w = opened.state;
+    for (int steps = 1;; steps++) {
+        pamuklid_step t = step(w);
+        printf("walk under image %d, step %d%s: ", w.image, steps, t.over ? ", over" : "");
+        print_ceiling(&t.ceiling);
+        w = t.state;
+        if (t.over || t.ceiling.refusal != PAMUKLID_ACCEPTED)
+            return w;
+        if (steps == comes)
+            w = swapped(swapped(w)); /* the second meets one that waits */
     }
 }
 
-static void ceilings(void)
+/* The first walk finishes under the table that it began with, the next begins under the new one. */
+static void walks(void)
 {
-    static const double rungs[] = {
-        1250, 1750, 1250, 1750,
-        1000, 2000, 1000, 2000,
-        0,    2900, 0,    2900,
-    };
-    print_ceiling(rungs, 3);
-    print_ceiling(rungs, 0);
+    static const uint8_t limit[] = {0, 0, 0, 0, 0, 0xc0, 0x82, 0x40}; /* 600 Hz */
+    memcpy(loaded, image, image_len);
+    memcpy(loaded, limit, sizeof limit);
+    pamuklid_walk w = pamuklid_walk_first();
+    pamuklid_step t = step(w);
+    printf("no walk, step: ");
+    print_ceiling(&t.ceiling);
+    w = walk(w, 1);
+    w = walk(w, 0);
+    swapped(w);
 }
 
 static void list(size_t row_count)
@@ -555,9 +668,12 @@ int main(int argc, char **argv)
     images();
     reports();
     editions();
+    amendments();
     verdicts();
     margins();
-    ceilings();
+    ceilings(RUNGS);
+    ceilings(0);
+    walks();
     list(16);
     list(1);
     static const double dials[] = {14097700, 14098000, 14093799, 2e12};

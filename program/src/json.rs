@@ -325,6 +325,11 @@ impl RefusalJson {
         Self { reason, what_to_do, ..Self::of(refusal) }
     }
 
+    /// With a command's own words on what to do.
+    pub fn to_do(self, what_to_do: &'static str) -> Self {
+        Self { what_to_do, ..self }
+    }
+
     pub fn at(refusal: Refusal, image: &[u8], fault: Option<&(Fault, Vec<Field>)>) -> Self {
         let mut out = Self::of(refusal);
         let Some((fault, fields)) = fault else { return out };

@@ -1,6 +1,6 @@
 //! The transmit gate for people: it judges a transmission by a table of 47 CFR Part 97, checks a table, reports its
-//! slips, lists dials, writes a figure as a panel shows it, and adds up time on the air, in words and in JSON. Every
-//! answer comes from the proved library, through the crate `pamuklid`.
+//! slips, puts amendments into it, lists dials, writes a figure as a panel shows it, and adds up time on the air, in
+//! words and in JSON. Every answer comes from the proved library, through the crate `pamuklid`.
 //!
 //! A command is a module of `commands`, with its arguments and a function that answers; `words` has the texts,
 //! `json` the objects.
@@ -8,9 +8,11 @@
 mod answer;
 mod args;
 mod commands;
+mod day;
 mod image;
 mod json;
 mod listing;
+mod output;
 mod table;
 mod text;
 mod words;
@@ -28,8 +30,8 @@ use commands::Command;
 /// Says before a transmission whether it is lawful under 47 CFR Part 97, by a table of the rules
 ///
 /// The table is a trustee's, the station and the edges of the signal are given as options. It also says how fast a
-/// rung may be sent and at which dials data may be, checks a table and reports its slips, and adds up time on the air.
-/// Every answer is the proved library's.
+/// rung may be sent and at which dials data may be, checks a table and reports its slips, puts amendments into it, and
+/// adds up time on the air. Every answer is the proved library's.
 #[derive(Parser, Debug)]
 #[command(name = "pamuklid", bin_name = "pamuklid", max_term_width = 100, after_help = AFTER)]
 pub struct Cli {

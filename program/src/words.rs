@@ -224,6 +224,19 @@ pub fn refusal(
     fault: Option<&(Fault, Vec<Field>)>,
     style: Style,
 ) -> String {
+    let what = what_to_do(refusal, fault.is_some_and(|(_, fields)| !fields.is_empty()));
+    refusal_with(head, refusal, table, fault, ("", what), style)
+}
+
+/// The same with a command's own words: a remark, as lines, and what to do.
+pub fn refusal_with(
+    head: &str,
+    refusal: Refusal,
+    table: &Table,
+    fault: Option<&(Fault, Vec<Field>)>,
+    said: (&str, &str),
+    style: Style,
+) -> String {
     let mut out = refusal_line(head, refusal, refusal_reason(refusal), style);
     if matches!(refusal, Refusal::ImageLength | Refusal::NoImage | Refusal::Letters | Refusal::Counts) {
         out.push_str(&format!("The image has {}.\n", table.length()));
@@ -243,11 +256,7 @@ pub fn refusal(
             ));
         }
     }
-    out.push_str(&format!(
-        "What to do: {}.\n",
-        what_to_do(refusal, fault.is_some_and(|(_, fields)| !fields.is_empty()))
-    ));
-    out
+    out + &format!("{}What to do: {}.\n", said.0, said.1)
 }
 
 fn refusal_line(head: &str, refusal: Refusal, reason: &str, style: Style) -> String {

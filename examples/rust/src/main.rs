@@ -5,9 +5,9 @@ use std::fs;
 use std::process::ExitCode;
 
 use pamuklid::{
-    raw, text_at, text_hertz, text_khz, Code, Control, Decision, Direction, Distance, Edges,
-    Fields, Kind, License, Overshoot, Place, Policy, Record, Refusal, ReportRow, Sideband, Station,
-    Table, Tables, MOST_TEXT, REPORT_ROW, ROW,
+    raw, text_at, text_hertz, text_khz, Amendment, Ceiling, Code, Control, Decision, Direction,
+    Distance, Edges, Fields, Kind, License, Overshoot, Place, Policy, Record, Refusal, ReportRow,
+    Sideband, Station, Step, Table, Tables, Walk, AMENDMENT, MOST_TEXT, REPORT_ROW, ROW,
 };
 
 fn station(dial_hz: f64, control: Control, power_w: Option<f64>) -> Station {
@@ -237,6 +237,41 @@ fn editions(image: &[u8]) {
     print_made("edition 2 of 50 and 9.15 W lowered", MOST, low, image);
 }
 
+/// The first data segment with another upper end, from a day on.
+fn amendment(day: u32, high: f64) -> [u8; AMENDMENT] {
+    let record = Record { band: 20, rule: 13, ..range(14_000_000.0, high) };
+    Amendment { table: Table::Segments, index: 0, day, record }.to_bytes()
+}
+
+/// The table of a day, and data judged by it that reaches from 14,099,550 to 14,100,050.
+fn amended(image: &[u8], list: &[u8], day: u32, room: usize) {
+    let mut lent = vec![0; room];
+    let made = pamuklid::amend(image, list, day, &mut lent);
+    let title = format!("{} bytes of amendments, day {day},", list.len());
+    print_made(&title, room, made, image);
+    if let Ok(table) = made {
+        let s = station(14_098_300.0, Control::Local, None);
+        let edges = Edges::both(1_250.0, 1_750.0);
+        let d = pamuklid::evaluate(&s, Kind::Data, Direction::Originate, &edges, table);
+        println!("day {day}, data, dial 14098300: {}", answer(d));
+    }
+}
+
+/// Data up to 14,100,000 Hz from day 20,774 on, and up to 14,120,000 from day 20,819 on.
+fn amendments(image: &[u8]) {
+    let later = amendment(20_819, 14_120_000.0);
+    let list = [amendment(20_774, 14_100_000.0), later].concat();
+    amended(image, &list, 20_773, 380);
+    amended(image, &list, 20_774, 380);
+    amended(image, &list, 20_819, 380);
+    amended(image, &list, 20_819, 379);
+    amended(image, &list[..list.len() - 1], 20_819, 380);
+    // a segment of no length: in force on one day, superseded on the other
+    let list = [amendment(20_774, 14_000_000.0), later].concat();
+    amended(image, &list, 20_774, 380);
+    amended(image, &list, 20_819, 380);
+}
+
 /// The seconds on the air of the ten minutes up to each record of a log.
 fn times(title: &str, starts: &[u64], lent: usize) {
     let (bands, seconds) = ([20, 20, 40, 20, 20], [60, 30, 45, 15, 100]);
@@ -360,22 +395,81 @@ fn margins(image: &[u8]) {
     }
 }
 
+fn climbed(c: &Ceiling) -> String {
+    let rung = c.rung.map_or("no rung".to_owned(), |k| format!("rung {k}"));
+    let limit = c.limit.map_or("no limit".to_owned(), |d| format!("limit {}", decision(&d)));
+    format!("{rung}, {limit}")
+}
+
+/// Rungs of 500, 1,000 and 2,900 Hz, all with the ordinary control frame.
+const RUNGS: [Edges; 3] =
+    [Edges::both(1_250.0, 1_750.0), Edges::both(1_000.0, 2_000.0), Edges::both(0.0, 2_900.0)];
+const FLOORS: [bool; 3] = [false; 3];
+const CONTROL: Edges = RUNGS[0];
+
 fn ceiling(image: &[u8], rungs: &[Edges]) {
     let s = station(14_100_000.0, Control::Local, None);
-    let control = Edges::both(1_250.0, 1_750.0);
-    // every rung goes with the ordinary control frame
-    let floors = &[false; 256][..rungs.len()];
-    let c = pamuklid::ceiling(&s, Direction::Originate, &control, &control, image, rungs, floors);
-    let text = match c {
-        Err(r) => refusal(r),
-        Ok(c) => {
-            let rung = c.rung.map_or("no rung".to_owned(), |k| format!("rung {k}"));
-            let limit =
-                c.limit.map_or("no limit".to_owned(), |d| format!("limit {}", decision(&d)));
-            format!("{rung}, {limit}")
-        }
-    };
+    let floors = &FLOORS[..rungs.len()];
+    let c = pamuklid::ceiling(&s, Direction::Originate, &CONTROL, &CONTROL, image, rungs, floors);
+    let text = c.map_or_else(refusal, |c| climbed(&c));
     println!("ceiling of {} rungs, dial 14100000: {text}", rungs.len());
+}
+
+fn step(walk: Walk, images: [&[u8]; 2]) -> Result<Step, Refusal> {
+    let s = station(14_100_000.0, Control::Local, None);
+    walk.step(&s, Direction::Originate, &CONTROL, &CONTROL, images, &RUNGS, &FLOORS)
+}
+
+/// To the other table. A refusal leaves the state as it was.
+fn swapped(walk: Walk) -> Walk {
+    match walk.swap() {
+        Err(r) => {
+            println!("swap: {}", refusal(r));
+            walk
+        }
+        Ok(next) => {
+            let waits = if next.is_waiting() { "waits, " } else { "" };
+            println!("swap: {waits}image {} in force", next.image());
+            next
+        }
+    }
+}
+
+/// A modem's loop: opens a walk, and steps until it is over. A table comes after so many steps, if not 0.
+fn walk(walk: Walk, images: [&[u8]; 2], comes: usize) -> Result<Walk, Refusal> {
+    let mut walk = walk.open()?;
+    for steps in 1.. {
+        let next = step(walk, images)?;
+        let over = if next.over { ", over" } else { "" };
+        println!(
+            "walk under image {}, step {steps}{over}: {}",
+            walk.image(),
+            climbed(&next.ceiling)
+        );
+        walk = next.state;
+        if next.over {
+            break;
+        }
+        if steps == comes {
+            // the second meets one that waits
+            walk = swapped(swapped(walk));
+        }
+    }
+    Ok(walk)
+}
+
+/// The first walk finishes under the table that it began with, the next begins under the new one: the practice
+/// table with a general width limit of 600 Hz.
+fn walks(image: &[u8]) -> Result<(), Refusal> {
+    let mut loaded = image.to_vec();
+    loaded[..8].copy_from_slice(&600.0f64.to_bits().to_le_bytes());
+    let images = [image, &loaded[..]];
+    let first = Walk::first();
+    let none = step(first, images).map_or_else(refusal, |step| climbed(&step.ceiling));
+    println!("no walk, step: {none}");
+    let next = walk(first, images, 1)?;
+    swapped(walk(next, images, 0)?);
+    Ok(())
 }
 
 fn list(image: &[u8], row_count: usize) {
@@ -449,12 +543,14 @@ fn main() -> ExitCode {
     images(&image);
     reports(&image);
     editions(&image);
+    amendments(&image);
     verdicts(&image);
     margins(&image);
-    let rungs =
-        [Edges::both(1_250.0, 1_750.0), Edges::both(1_000.0, 2_000.0), Edges::both(0.0, 2_900.0)];
-    ceiling(&image, &rungs);
+    ceiling(&image, &RUNGS);
     ceiling(&image, &[]);
+    if let Err(r) = walks(&image) {
+        println!("walk: {}", refusal(r));
+    }
     list(&image, 16);
     list(&image, 1);
     let dials = [14_097_700.0, 14_098_000.0, 14_093_799.0, 2e12];

@@ -148,9 +148,7 @@ fn number(n: u64) -> String {
 fn table(counts: &Counts) -> String {
     let most = counts.iter().copied().max().unwrap_or(0);
     let rows: Vec<Vec<String>> = met(counts, counts)
-        .map(|(code, i)| {
-            vec![code.number().to_string(), number(counts[i]), code.to_string(), bar(counts[i], most)]
-        })
+        .map(|(code, i)| vec![code.number().to_string(), number(counts[i]), code.to_string(), bar(counts[i], most)])
         .collect();
     words::columns(&["code", "dials", "", ""], &rows, 2)
 }

@@ -1,20 +1,17 @@
 //! `pamuklid raise` and `pamuklid lower`: an image of one edition as one of the other, in a file.
 
-use std::ffi::{OsStr, OsString};
-use std::fs::{self, File, OpenOptions};
-use std::io::{self, IsTerminal, Write};
-use std::path::{Path, PathBuf};
+use std::ffi::OsString;
 
 use pamuklid::raw::IMAGE_MOST;
 use pamuklid::{lower, raise, Refusal};
 use serde::Serialize;
 
-use crate::answer::{write_error, Answer, Failure, Kind, Status, Style};
+use crate::answer::{write_error, Answer, Failure, Status, Style};
 use crate::commands::judge::fault;
 use crate::image::{edition_of, watts};
 use crate::json::{RefusalJson, TableJson};
+use crate::output::Output;
 use crate::table::{grouped, Table};
-use crate::text::shown;
 use crate::words;
 
 #[derive(clap::Args, Debug)]
@@ -23,15 +20,14 @@ pub struct Args {
     #[arg(value_name = "FILE")]
     file: OsString,
 
-    /// The file to write, whole or not at all; - is standard output
-    #[arg(short, long, value_name = "OUT")]
-    output: OsString,
+    #[command(flatten)]
+    output: Output,
 }
 
 impl Args {
     /// Whether the image goes to standard output.
     pub fn to_output(&self) -> bool {
-        self.output == "-"
+        self.output.is_standard()
     }
 }
 
@@ -101,57 +97,6 @@ struct Json {
     refusal: Option<RefusalJson>,
 }
 
-/// A file of its own beside the one that is to be written.
-fn beside(path: &Path) -> Option<PathBuf> {
-    let mut name = OsString::from(".");
-    name.push(path.file_name()?);
-    name.push(format!(".{}.part", std::process::id()));
-    Some(path.with_file_name(name))
-}
-
-fn put(path: &Path, bytes: &[u8]) -> io::Result<()> {
-    let mut file: File = OpenOptions::new().write(true).create_new(true).open(path)?;
-    file.write_all(bytes)?;
-    file.sync_all()
-}
-
-/// Writes a file whole, or leaves what was there: the bytes go to a file beside it, which then takes its name.
-fn write_whole(name: &OsStr, bytes: &[u8]) -> io::Result<()> {
-    let other = |why| io::Error::new(io::ErrorKind::Other, why);
-    // a link stays one: what it leads to is written
-    let path = fs::canonicalize(name).unwrap_or_else(|_| PathBuf::from(name));
-    let before = fs::metadata(&path).ok();
-    match &before {
-        Some(found) if found.is_dir() => return Err(other("it is a folder")),
-        Some(found) if !found.is_file() => return Err(other("it is not a file")),
-        _ => {}
-    }
-    let part = beside(&path).ok_or_else(|| other("it is no file's name"))?;
-    let written = put(&part, bytes)
-        .and_then(|()| before.map_or(Ok(()), |found| fs::set_permissions(&part, found.permissions())))
-        .and_then(|()| fs::rename(&part, &path));
-    if matches!(&written, Err(why) if why.kind() != io::ErrorKind::AlreadyExists) {
-        let _ = fs::remove_file(&part);
-    }
-    written
-}
-
-fn write(args: &Args, bytes: &[u8]) -> Result<(), Failure> {
-    let failed =
-        |message, what_to_do: &str| Failure { kind: Kind::Write, message, what_to_do: Some(what_to_do.to_owned()) };
-    if args.to_output() {
-        let mut out = io::stdout().lock();
-        return out
-            .write_all(bytes)
-            .and_then(|()| out.flush())
-            .map_err(|why| failed(format!("the image could not be written: {why}"), "see where standard output goes"));
-    }
-    write_whole(&args.output, bytes).map_err(|why| {
-        let message = format!("the image could not be written: {}: {why}", shown(&args.output));
-        failed(message, "name a file that can be written with -o")
-    })
-}
-
 fn refused(args: &Args, way: Way, table: &Table, refusal: Refusal, style: Style) -> Result<Answer, Failure> {
     let image = &table.image;
     let fault = fault(refusal, image);
@@ -170,7 +115,7 @@ fn refused(args: &Args, way: Way, table: &Table, refusal: Refusal, style: Style)
         command: way.command(),
         status: Status::NotAnswered as u8,
         table: TableJson::of(table),
-        output: shown(&args.output),
+        output: args.output.name(),
         edition: None,
         bytes: None,
         refusal: Some(json),
@@ -184,24 +129,19 @@ fn refused(args: &Args, way: Way, table: &Table, refusal: Refusal, style: Style)
 }
 
 pub fn answer(args: &Args, way: Way, style: Style) -> Result<Answer, Failure> {
-    if args.to_output() && io::stdout().is_terminal() {
-        return Err(Failure::arguments(
-            "an image is not written to a terminal",
-            "name a file with -o, or send standard output to one",
-        ));
-    }
+    args.output.not_a_terminal()?;
     let table = Table::file(&args.file)?;
     let mut room = vec![0; IMAGE_MOST];
     let bytes = match way.convert(&table.image, &mut room) {
         Ok(bytes) => bytes,
         Err(refusal) => return refused(args, way, &table, refusal, style),
     };
-    write(args, bytes)?;
+    args.output.write(bytes)?;
     let json = Json {
         command: way.command(),
         status: Status::Yes as u8,
         table: TableJson::of(&table),
-        output: shown(&args.output),
+        output: args.output.name(),
         edition: Some(way.edition()),
         bytes: Some(bytes.len()),
         refusal: None,
@@ -210,7 +150,7 @@ pub fn answer(args: &Args, way: Way, style: Style) -> Result<Answer, Failure> {
         return Answer::new(Status::Yes, String::new(), &json);
     }
     let mut text = words::titled(style, "Table", &table.name());
-    text.push_str(&words::titled(style, "Output", &shown(&args.output)));
+    text.push_str(&words::titled(style, "Output", &args.output.name()));
     text.push_str(&format!(
         "\n{}: {} bytes of edition {}. Every answer by it is the same.\n",
         style.good(way.done()),

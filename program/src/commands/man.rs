@@ -62,7 +62,7 @@ fn page(mut command: Command) -> String {
     out.push_str(".SH ENVIRONMENT\n.TP\n\\fBNO_COLOR\\fR\nIf set, \\-\\-color auto does not colour.\n");
     out.push_str(
         ".SH EXAMPLES\n.nf\npamuklid judge \\-\\-dial 14148500 \\-\\-control automatic\npamuklid judge \\-\\-table rules.bin \
-         \\-\\-dial 14100000 \\-\\-edges 100 2900\npamuklid check rules.bin\npamuklid report rules.bin \\-\\-class general\npamuklid dials \\-\\-control automatic\npamuklid text 14097700\n.fi\n",
+         \\-\\-dial 14100000 \\-\\-edges 100 2900\npamuklid check rules.bin\npamuklid report rules.bin \\-\\-class general\npamuklid amend rules.bin list.bin \\-\\-day 2026\\-11\\-17 \\-o now.bin\npamuklid dials \\-\\-control automatic\npamuklid text 14097700\n.fi\n",
     );
     out
 }

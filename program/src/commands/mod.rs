@@ -2,6 +2,7 @@
 //! `Command::answer`.
 
 mod airtime;
+mod amend;
 mod census;
 mod check;
 mod completions;
@@ -37,6 +38,7 @@ pub enum Command {
     ///
     /// Exit status: 0 written, 2 not written.
     Lower(convert::Args),
+    Amend(amend::Args),
     Census(census::Args),
     Dials(dials::Args),
     Distance(distance::Args),
@@ -49,7 +51,11 @@ pub enum Command {
 impl Command {
     /// Whether standard output is for bytes of a table, not for an answer.
     pub fn takes_output(&self) -> bool {
-        matches!(self, Self::Raise(args) | Self::Lower(args) if args.to_output())
+        match self {
+            Self::Raise(args) | Self::Lower(args) => args.to_output(),
+            Self::Amend(args) => args.to_output(),
+            _ => false,
+        }
     }
 
     pub fn answer(&self, style: Style) -> Result<Answer, Failure> {
@@ -59,6 +65,7 @@ impl Command {
             Self::Report(args) => report::answer(args, style),
             Self::Raise(args) => convert::answer(args, convert::Way::Raise, style),
             Self::Lower(args) => convert::answer(args, convert::Way::Lower, style),
+            Self::Amend(args) => amend::answer(args, style),
             Self::Census(args) => census::answer(args, style),
             Self::Dials(args) => dials::answer(args, style),
             Self::Distance(args) => distance::answer(args, style),

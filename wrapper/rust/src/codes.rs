@@ -256,8 +256,9 @@ numbered! {
 }
 
 numbered! {
-    /// Why a call was not answered. The order of looking: 20, 21, 22, 1 to 14, 15, 16, 26,
-    /// 23, 24, 25.
+    /// Why a call was not answered. The order of looking: 29, 30, 20, 21, 22, 1 to 14, 26, 27, 28, 15,
+    /// 33, 34, 16, 23, 24, 25, 31, 32; [`amend`](crate::amend) has 5 to 10, 12 and 13 of the effective image
+    /// after 28.
     Refusal: "refusal" {
         /// The image has under 92 or over 65,552 bytes; or it is to be written, with more records than
         /// 2,045.
@@ -296,7 +297,8 @@ numbered! {
         /// The rungs are more than 256, or their floor marks are not one each.
         Rungs = 16 "rungs",
         /// A code of the station, the direction, the kind or the license of a report is outside its
-        /// values; this crate's enums have no such code.
+        /// values, or no call gives the state of a walk; this crate's enums have no such code, and its
+        /// [`Walk`](crate::Walk) no such state.
         StationCode = 20 "station_code",
         /// A figure of the station, or a dial whose distance is asked, is not finite or above 2^40 in
         /// size; or a figure to be written is not finite or above 2^43 in size.
@@ -313,6 +315,15 @@ numbered! {
         Report = 25 "report",
         /// The image is to be lowered, and has other watts than 100 and 9.15, which edition 1 can't hold.
         Watts = 26 "watts",
+        /// A list of amendments is not in forties, or has a table above 8 or an index beyond its table, in
+        /// force or not.
+        Amendments = 27 "amendments",
+        /// An image that is to be amended is longer than the bytes lent for it.
+        AmendedRoom = 28 "amended_room",
+        /// A swap of a walk's images while one waits.
+        SecondSwap = 29 "second_swap",
+        /// A step with no walk open, or an opening while one is open.
+        Walk = 30 "walk",
         /// A start of a log is below the one before it.
         Starts = 31 "starts",
         /// Starts, bands, seconds and totals of a log are not one for each record, or there are more than

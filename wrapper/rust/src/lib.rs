@@ -13,10 +13,12 @@
 //! | [`report`] | where records of a table overlap, and where a class has no privilege for data |
 //! | [`write()`] | an image from its fields and its records |
 //! | [`raise`], [`lower`] | an image of one edition as one of the other |
+//! | [`amend`] | an image with the amendments of a list that are in force on a day |
 //! | [`Station::fresh`] | a fresh station, in region 2 with margins of 50 Hz: it permits nothing |
 //! | [`evaluate`] | the verdict on a transmission |
 //! | [`unmeasured`] | the answer for a signal whose spectrum is not known |
 //! | [`ceiling`] | the fastest rung that may be sent |
+//! | [`Walk`] | the same, a rung at a time, while another table is loaded |
 //! | [`safe_dials`] | the dials at which a signal stays inside the rules |
 //! | [`DialList::distance`], [`distance`] | how far a dial stands from those of a list |
 //! | [`text_at`], [`text_khz`] | a frequency's text, kilohertz: three decimals, or as many as it needs |
@@ -25,7 +27,8 @@
 //! | [`airtime`] | of each record of a log the seconds on the air of the ten minutes up to it |
 //!
 //! No call keeps what it is lent or has a state of its own: equal arguments give equal answers, and
-//! calls may run at once on several threads. Images, records, edges, rungs and logs are only read.
+//! calls may run at once on several threads. The state of a [`Walk`] is a value that its caller keeps.
+//! Images, records, amendments, edges, rungs and logs are only read.
 //! Frequencies are in hertz, power in watts. Every figure is accepted as an argument, NaN and infinities
 //! too; what is outside its values is answered by a [`Refusal`].
 //!
@@ -82,6 +85,7 @@
 #![deny(missing_docs)]
 #![deny(unsafe_op_in_unsafe_fn)]
 
+mod amend;
 mod answer;
 mod census;
 mod codes;
@@ -92,9 +96,11 @@ mod report;
 mod station;
 mod texts;
 mod version;
+mod walk;
 mod words;
 mod write;
 
+pub use amend::{amend, Amendment, AMENDMENT};
 pub use answer::{Ceiling, Decision, PowerNotes, Range, Segment, SixtyNotes};
 pub use census::Census;
 pub use codes::{
@@ -108,6 +114,7 @@ pub use report::{Report, ReportRow, ReportRows, MOST_REPORT, REPORT_ROW};
 pub use station::Station;
 pub use texts::{text_at, text_hertz, text_khz, MOST_TEXT};
 pub use version::{version, Version, VERSION};
+pub use walk::{Step, Walk};
 pub use words::{Hertz, Kilohertz};
 pub use write::{write, Fields, Record, Tables};
 

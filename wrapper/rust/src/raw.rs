@@ -10,7 +10,7 @@
 use std::mem::size_of;
 
 /// The version of the library that this crate was written for: major * 10000 + minor * 100 + patch.
-pub const VERSION: u32 = 1100;
+pub const VERSION: u32 = 1300;
 /// A control, license or sideband that is not known.
 pub const ABSENT: u8 = 255;
 /// The rung of a ceiling that has none.
@@ -36,6 +36,8 @@ pub const MOST_REPORT: usize = 131_072;
 /// The kind of a report's row: a stretch of a data segment that no privilege of the class covers. The other
 /// kinds are the numbers of their tables.
 pub const REPORT_GAP: u8 = 255;
+/// The bytes of an amendment.
+pub const AMENDMENT: usize = 40;
 /// The bytes of the longest text.
 pub const MOST_TEXT: usize = 15;
 /// The most records of a log.
@@ -311,6 +313,44 @@ pub struct Ceiling {
     pub refusal: u8,
 }
 
+/// The state of a walk, the caller's to keep. What no call gives meets 20.
+#[repr(C)]
+#[derive(Clone, Copy, Debug, PartialEq)]
+pub struct Walk {
+    /// What the rungs judged so far occupy; not looked at where `place` is 0.
+    pub occupied: Edges,
+    /// How many rungs of the walk were judged, 0 to 255; 0 with no walk open.
+    pub place: u32,
+    /// The image in force, 0 or 1; while a walk is open the one that it goes by.
+    pub image: u8,
+    /// 1 where a swap waits for the end of the walk, else 0.
+    pub waiting: u8,
+    /// 1 where a walk is open, else 0.
+    pub walking: u8,
+}
+
+/// The answer of a swap and of an opening.
+#[repr(C)]
+#[derive(Clone, Copy, Debug)]
+pub struct WalkAnswer {
+    /// The next state; on a refusal the one that was given.
+    pub state: Walk,
+    /// 0; or 29 (a swap), 30 (an opening), 20.
+    pub refusal: u8,
+}
+
+/// The answer of a step.
+#[repr(C)]
+#[derive(Clone, Copy)]
+pub struct Step {
+    /// Of the rungs judged so far. Its refusal is the step's: 30, 20, or one of a ceiling.
+    pub ceiling: Ceiling,
+    /// The next state; on a refusal the one that was given.
+    pub state: Walk,
+    /// 1 where the walk is over; else 0, also on a refusal.
+    pub over: u8,
+}
+
 /// A dial list's answer.
 #[repr(C)]
 #[derive(Clone, Copy, Debug)]
@@ -349,7 +389,7 @@ pub struct Report {
 pub struct Image {
     /// The bytes that were written, those of the image; 0 on a refusal.
     pub length: u32,
-    /// 0; or the image's refusal, 1 to 14, or 26, 23.
+    /// 0; or the image's refusal, 1 to 14, or 26, 27, 28, 23.
     pub refusal: u8,
 }
 
@@ -413,6 +453,9 @@ const _: () = {
     assert!(size_of::<Fields>() == 96);
     assert!(size_of::<Decision>() == 360);
     assert!(size_of::<Ceiling>() == 368);
+    assert!(size_of::<Walk>() == 40);
+    assert!(size_of::<WalkAnswer>() == 48);
+    assert!(size_of::<Step>() == 416);
     assert!(size_of::<Dials>() == 8);
     assert!(size_of::<Distance>() == 16);
     assert!(size_of::<Report>() == 8);
@@ -449,6 +492,15 @@ extern "C" {
     ) -> Image;
     fn pamuklid_raise(image: *const u8, n: usize, out: *mut u8, out_len: usize) -> Image;
     fn pamuklid_lower(image: *const u8, n: usize, out: *mut u8, out_len: usize) -> Image;
+    fn pamuklid_amend(
+        image: *const u8,
+        n: usize,
+        list: *const u8,
+        list_len: usize,
+        day: u32,
+        out: *mut u8,
+        out_len: usize,
+    ) -> Image;
     #[link_name = "pamuklid_fresh_2"]
     fn pamuklid_fresh() -> Station;
     #[link_name = "pamuklid_evaluate_2"]
@@ -475,6 +527,24 @@ extern "C" {
         floors: *const u8,
         floor_count: usize,
     ) -> Ceiling;
+    fn pamuklid_walk_first() -> Walk;
+    fn pamuklid_walk_swap(w: Walk) -> WalkAnswer;
+    fn pamuklid_walk_open(w: Walk) -> WalkAnswer;
+    fn pamuklid_walk_step(
+        w: Walk,
+        s: Station,
+        direction: u8,
+        ordinary: Edges,
+        floor: Edges,
+        image_0: *const u8,
+        n_0: usize,
+        image_1: *const u8,
+        n_1: usize,
+        rungs: *const f64,
+        figures: usize,
+        floors: *const u8,
+        floor_count: usize,
+    ) -> Step;
     #[link_name = "pamuklid_safe_dials_2"]
     fn pamuklid_safe_dials(
         s: Station,
@@ -588,6 +658,22 @@ pub fn lower(image: &[u8], out: &mut [u8]) -> Image {
     unsafe { pamuklid_lower(image.as_ptr(), image.len(), at, len) }
 }
 
+/// `pamuklid_amend`: a list of [`AMENDMENT`] bytes for each.
+#[inline]
+pub fn amend(image: &[u8], list: &[u8], day: u32, out: &mut [u8]) -> Image {
+    unsafe {
+        pamuklid_amend(
+            image.as_ptr(),
+            image.len(),
+            list.as_ptr(),
+            list.len(),
+            day,
+            out.as_mut_ptr(),
+            out.len(),
+        )
+    }
+}
+
 /// `pamuklid_fresh`.
 #[inline]
 pub fn fresh() -> Station {
@@ -625,6 +711,57 @@ pub fn ceiling(
             floor,
             image.as_ptr(),
             image.len(),
+            rungs.as_ptr(),
+            rungs.len(),
+            floors.as_ptr(),
+            floors.len(),
+        )
+    }
+}
+
+/// `pamuklid_walk_first`.
+#[inline]
+pub fn walk_first() -> Walk {
+    unsafe { pamuklid_walk_first() }
+}
+
+/// `pamuklid_walk_swap`.
+#[inline]
+pub fn walk_swap(w: Walk) -> WalkAnswer {
+    unsafe { pamuklid_walk_swap(w) }
+}
+
+/// `pamuklid_walk_open`.
+#[inline]
+pub fn walk_open(w: Walk) -> WalkAnswer {
+    unsafe { pamuklid_walk_open(w) }
+}
+
+/// `pamuklid_walk_step`: rungs as figures, [`RUNG_FIGURES`] each, and a floor byte for each rung.
+#[allow(clippy::too_many_arguments)]
+#[inline]
+pub fn walk_step(
+    w: Walk,
+    s: Station,
+    direction: u8,
+    ordinary: Edges,
+    floor: Edges,
+    image_0: &[u8],
+    image_1: &[u8],
+    rungs: &[f64],
+    floors: &[u8],
+) -> Step {
+    unsafe {
+        pamuklid_walk_step(
+            w,
+            s,
+            direction,
+            ordinary,
+            floor,
+            image_0.as_ptr(),
+            image_0.len(),
+            image_1.as_ptr(),
+            image_1.len(),
             rungs.as_ptr(),
             rungs.len(),
             floors.as_ptr(),

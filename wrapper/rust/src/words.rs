@@ -379,7 +379,7 @@ impl Refusal {
             Self::GeneralLimit => "the table's general width limit is not above 0",
             Self::SignalEdge => "an edge of the signal is not finite or above 2^40 in size",
             Self::Rungs => "there are more than 256 rungs, or their floor marks are not one each",
-            Self::StationCode => "a code of the station is outside its values",
+            Self::StationCode => "a code of the station, or a walk's state, is outside its values",
             Self::StationFigure => {
                 "the station's margin, dial or power, or a dial asked, is not finite or above 2^40 \
                  in size, or a figure to be written is not finite or above 2^43 in size"
@@ -391,6 +391,13 @@ impl Refusal {
             Self::Watts => {
                 "the image has other 60 m watts than 100 and 9.15, which edition 1 cannot hold"
             }
+            Self::Amendments => {
+                "the amendments are not 40 bytes each, or one names a table above 8 or a record that \
+                 its table does not have"
+            }
+            Self::AmendedRoom => "the amended image is longer than the bytes lent",
+            Self::SecondSwap => "a change to the other table waits already",
+            Self::Walk => "no walk is open for a step, or one is open already",
             Self::Starts => "a record of the log starts before the one above it",
             Self::Runs => {
                 "the log's starts, bands, seconds and totals are not one for each record, or there \
@@ -422,7 +429,9 @@ impl Refusal {
             Self::GeneralLimit => "have the table's general width limit corrected",
             Self::SignalEdge => "measure the signal again",
             Self::Rungs => "give at most 256 rungs, with a floor mark for each",
-            Self::StationCode => "set the station's record again",
+            Self::StationCode => {
+                "set the station's record again, or begin with a walk's first state"
+            }
             Self::StationFigure => {
                 "set the margin, the dial and the power again, or write another figure"
             }
@@ -431,6 +440,10 @@ impl Refusal {
             Self::Text => "lend more bytes: 15 have room for every text",
             Self::Report => "lend more rows: 131,072 have room for every report",
             Self::Watts => "stay with edition 2, or have its watts set to 100 and 9.15",
+            Self::Amendments => "have the list of amendments made again for this table",
+            Self::AmendedRoom => "lend as many bytes as the image has",
+            Self::SecondSwap => "wait until the walk is over",
+            Self::Walk => "open a walk before its first step, and the next when it is over",
             Self::Starts => "put the log's records in the order of their starts",
             Self::Runs => "give at most 65,536 records, with as many of each",
             Self::Stretch => {

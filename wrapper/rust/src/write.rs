@@ -80,6 +80,35 @@ pub struct Record {
     pub second_rule: u16,
 }
 
+impl Record {
+    /// As it stands in an image, little-endian: low, high and figure (64 bits each), band, class, emissions and
+    /// flags (a byte each), rule and second rule (16 bits each).
+    pub fn to_bytes(&self) -> [u8; raw::IMAGE_RECORD] {
+        let mut out = [0; raw::IMAGE_RECORD];
+        for (at, x) in [(0, self.low), (8, self.high), (16, self.figure)] {
+            out[at..at + 8].copy_from_slice(&x.to_bits().to_le_bytes());
+        }
+        out[24..28].copy_from_slice(&[self.band, self.class, self.emissions, self.flags]);
+        out[28..30].copy_from_slice(&self.rule.to_le_bytes());
+        out[30..].copy_from_slice(&self.second_rule.to_le_bytes());
+        out
+    }
+
+    /// The record that 32 bytes of an image hold, whatever they are.
+    pub fn from_bytes(bytes: &[u8; raw::IMAGE_RECORD]) -> Self {
+        let figure = |at: usize| {
+            let mut word = [0; 8];
+            word.copy_from_slice(&bytes[at..at + 8]);
+            f64::from_bits(u64::from_le_bytes(word))
+        };
+        let [band, class, emissions, flags] = [bytes[24], bytes[25], bytes[26], bytes[27]];
+        let rule = u16::from_le_bytes([bytes[28], bytes[29]]);
+        let second_rule = u16::from_le_bytes([bytes[30], bytes[31]]);
+        let (low, high, figure) = (figure(0), figure(8), figure(16));
+        Self { low, high, figure, band, class, emissions, flags, rule, second_rule }
+    }
+}
+
 /// The records of an image: of each [`Table`](crate::Table) at most 256, of all together at most 2,045. The
 /// default has none.
 #[derive(Clone, Copy, Debug, Default, PartialEq)]

@@ -7,8 +7,8 @@ use std::fs;
 use std::path::Path;
 
 use pamuklid::{
-    raw, Code, Control, DialRow, Direction, Edge, Guidance, Kind, License, Overshoot, Policy,
-    Range, Refusal, ReportRow, Rule, Sideband, Table, Verdict, VERSION,
+    raw, Amendment, Code, Control, DialRow, Direction, Edge, Guidance, Kind, License, Overshoot,
+    Policy, Range, Record, Refusal, ReportRow, Rule, Sideband, Table, Verdict, VERSION,
 };
 
 fn file(name: &str) -> String {
@@ -136,6 +136,7 @@ fn every_number() {
         ("ROW", raw::ROW),
         ("MOST_ROWS", raw::MOST_ROWS),
         ("REPORT_ROW", raw::REPORT_ROW),
+        ("AMENDMENT", raw::AMENDMENT),
         ("MOST_REPORT", raw::MOST_REPORT),
         ("MOST_TEXT", raw::MOST_TEXT),
         ("MOST_LOG", raw::MOST_LOG),
@@ -181,6 +182,9 @@ fn every_number() {
     for (name, at) in REPORT_PARTS {
         numbers.take(&format!("REPORT_ROW_{name}"), at as i64);
     }
+    for (name, at) in AMENDMENT_PARTS {
+        numbers.take(&format!("AMENDMENT_{name}"), at as i64);
+    }
     assert!(numbers.0.is_empty(), "not accounted for: {:?}", numbers.0);
 }
 
@@ -203,6 +207,22 @@ const REPORT_PARTS: [(&str, usize); 7] = [
     ("SECOND", 20),
     ("ZERO", 22),
 ];
+
+const AMENDMENT_PARTS: [(&str, usize); 4] = [("TABLE", 0), ("INDEX", 2), ("DAY", 4), ("RECORD", 8)];
+
+/// The parts of an amendment, each at its offset.
+#[test]
+fn amendment_parts() {
+    let at = |name: &str| AMENDMENT_PARTS.iter().find(|part| part.0 == name).unwrap().1;
+    let record = Record { low: 1.0, band: 2, second_rule: 0x304, ..Record::default() };
+    let a = Amendment { table: Table::Power, index: 0x506, day: 0x708_090a, record };
+    let bytes = a.to_bytes();
+    assert_eq!(bytes[at("TABLE")..][..2], [6, 0]);
+    assert_eq!(bytes[at("INDEX")..][..2], [6, 5]);
+    assert_eq!(bytes[at("DAY")..][..4], [10, 9, 8, 7]);
+    assert_eq!(bytes[at("RECORD")..], record.to_bytes());
+    assert_eq!(raw::AMENDMENT, at("RECORD") + raw::IMAGE_RECORD);
+}
 
 /// The parts of a report's row, each at its offset.
 #[test]
@@ -290,8 +310,11 @@ fn plain(word: &str) -> String {
     if !scalar.is_empty() {
         return scalar.to_owned();
     }
-    match word.strip_prefix("Flat").or_else(|| word.strip_prefix("pamuklid_")) {
-        Some(name) => name[..1].to_uppercase() + &name[1..],
+    if let Some(name) = word.strip_prefix("Flat") {
+        return name.to_owned();
+    }
+    match word.strip_prefix("pamuklid_") {
+        Some(name) => name.split('_').map(|part| part[..1].to_uppercase() + &part[1..]).collect(),
         None => word.to_owned(),
     }
 }
@@ -433,8 +456,8 @@ fn structs_and_calls() {
     let (structs, calls) = of_rust(&file("src/raw.rs"));
     let (their_structs, their_calls) = of_rust(&library());
     let names = |of: &Structs| of.keys().cloned().collect::<BTreeSet<_>>();
-    assert_eq!(c_structs.len(), 14);
-    assert_eq!(c_calls.len(), 19);
+    assert_eq!(c_structs.len(), 17);
+    assert_eq!(c_calls.len(), 24);
     assert_eq!(names(&structs), names(&c_structs));
     assert_eq!(names(&structs), names(&their_structs));
     for (name, fields) in &structs {
@@ -453,7 +476,10 @@ fn every_offset() {
         header.lines().filter_map(|l| l.strip_prefix("PAMUKLID_AT(")).collect();
     let mut offsets = 0;
     for (name, fields) in of_c(&header).0 {
-        let name = format!("pamuklid_{}", name.to_lowercase());
+        let name = name.chars().fold("pamuklid".to_owned(), |out, c| match c.is_uppercase() {
+            true => out + "_" + &c.to_lowercase().to_string(),
+            false => out + &c.to_string(),
+        });
         assert!(header.contains(&format!("\nPAMUKLID_SIZE({name}, ")), "{name}");
         for (field, _) in fields {
             let begins = format!("{name}, {field}, ");

@@ -42,7 +42,7 @@ fn figures() {
     reads(range(5_330_600.0, 5_333_450.0), "5330.6 to 5333.450 kHz");
     let segment = Segment { range: range(14_095_000.0, 14_099_500.0), rule: Rule::Table(13) };
     reads(segment, "14095 to 14099.5 kHz (rule 13 of the table)");
-    reads(Version { major: 0, minor: 11, patch: 0 }, "0.11.0");
+    reads(Version { major: 0, minor: 13, patch: 0 }, "0.13.0");
     reads(Version::from_number(123_456), "12.34.56");
 }
 
@@ -195,7 +195,7 @@ fn refusals() {
         (14, "the table's general width limit is not above 0"),
         (15, "an edge of the signal is not finite or above 2^40 in size"),
         (16, "there are more than 256 rungs, or their floor marks are not one each"),
-        (20, "a code of the station is outside its values"),
+        (20, "a code of the station, or a walk's state, is outside its values"),
         (
             21,
             "the station's margin, dial or power, or a dial asked, is not finite or above 2^40 in \
@@ -206,6 +206,14 @@ fn refusals() {
         (24, "the text of the figure is longer than the bytes lent"),
         (25, "the table's report is longer than the rows lent"),
         (26, "the image has other 60 m watts than 100 and 9.15, which edition 1 cannot hold"),
+        (
+            27,
+            "the amendments are not 40 bytes each, or one names a table above 8 or a record that its \
+             table does not have",
+        ),
+        (28, "the amended image is longer than the bytes lent"),
+        (29, "a change to the other table waits already"),
+        (30, "no walk is open for a step, or one is open already"),
         (31, "a record of the log starts before the one above it"),
         (
             32,
