@@ -33,11 +33,11 @@ pub record Climbing (judge : Edges → Decision) (burst : ℕ → Edges) (n i : 
   pub free : c .limited ≡ false
 
 module _ (judge : Edges → Decision) (burst : ℕ → Edges) where
-  one-more : (i : ℕ) → climbed judge burst (i + 1) ≡ climbStep judge (climbed judge burst i) i (burst i)
+  pub one-more : (i : ℕ) → climbed judge burst (i + 1) ≡ climbStep judge (climbed judge burst i) i (burst i)
   unfolding climbed
   one-more i = let e : i + 1 ≡ suc i = omega arith in rw e
 
-  step-free : (c : Climb) (k : ℕ) (more : Edges) → c .limited ≡ false → climbStep judge c k more ≡ rungJudged judge c k more
+  pub step-free : (c : Climb) (k : ℕ) (more : Edges) → c .limited ≡ false → climbStep judge c k more ≡ rungJudged judge c k more
   unfolding climbStep
   step-free c k more e = cond-not c (rungJudged judge c k more) e
 
@@ -46,7 +46,7 @@ module _ (judge : Edges → Decision) (burst : ℕ → Edges) where
   step-over c k more e = cond-yes c (rungJudged judge c k more) e
 
   -- A climb that is over stays as it is.
-  stays : (d k : ℕ) → climbed judge burst k .limited ≡ true → climbed judge burst (d + k) ≡ climbed judge burst k
+  pub stays : (d k : ℕ) → climbed judge burst k .limited ≡ true → climbed judge burst (d + k) ≡ climbed judge burst k
   stays zero k h = let e : zero + k ≡ k = omega arith in ap (climbed judge burst) e
   stays (suc d) k h =
       let e : suc d + k ≡ d + k + 1 = omega arith in

@@ -119,7 +119,7 @@ fn bad_rungs(rungs: &[f64], floors: &[u8]) -> bool
 }
 
 // The refusals in order: 20 to 22, 1 to 14, 15, 16.
-fn ceiling_refusals(
+pub fn ceiling_refusals(
     r: StationRecord,
     direction: u8,
     ordinary: Edges,
@@ -169,7 +169,7 @@ fn control_edges(ordinary: Edges, floor: Edges, mark: u8) -> Edges
 }
 
 // Rung k with its control frame.
-fn burst(ordinary: Edges, floor: Edges, rungs: &[f64], floors: &[u8], k: usize) -> Edges
+pub fn burst(ordinary: Edges, floor: Edges, rungs: &[f64], floors: &[u8], k: usize) -> Edges
     requires { ⌜ (4 * k + 3 < length (now rungs)) × (k < length (now floors)) ⌝ }
     ensures { λ x. ⌜ x ≡ burstOf ordinary floor (now (rungs .entry)) (now (floors .entry)) k ⌝ }
 {

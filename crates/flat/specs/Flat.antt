@@ -41,6 +41,9 @@ use Rattle.decision.specs.declared.Decision.{Decision}
 use Rattle.numbers.specs.Refusal.{refusalNumber}
 use Rattle.ceiling.specs.Ceiling.{rungNumber}
 use Rattle.ceiling.specs.declared.CeilingAnswer.{CeilingAnswer}
+use Rattle.walk.specs.declared.WalkState.{WalkState}
+use Rattle.walk.specs.declared.WalkAnswer.{WalkAnswer}
+use Rattle.walk.specs.declared.StepAnswer.{StepAnswer}
 use Rattle.dials.specs.List.{listRows, listTests, answerOf, bytesOf}
 use Rattle.dials.specs.declared.DialList.{DialList}
 use Rattle.dials.specs.declared.DialList.the-variants.{Rows, Refused}
@@ -70,6 +73,9 @@ use Rattle.flat.specs.declared.FlatDistance.{FlatDistance}
 use Rattle.flat.specs.declared.FlatStation.{FlatStation}
 use Rattle.flat.specs.declared.FlatEdges.{FlatEdges}
 use Rattle.flat.specs.declared.FlatFields.{FlatFields}
+use Rattle.flat.specs.declared.FlatWalk.{FlatWalk}
+use Rattle.flat.specs.declared.FlatWalkAnswer.{FlatWalkAnswer}
+use Rattle.flat.specs.declared.FlatStep.{FlatStep}
 use Rattle.flat.specs.declared.FlatRange.{FlatRange}
 use Rattle.flat.specs.declared.FlatSegment.{FlatSegment}
 use Rattle.flat.specs.declared.FlatOvershoot.{FlatOvershoot}
@@ -123,6 +129,23 @@ stationOf s =
 -- the edges that arrive
 unfoldable pub edgesOf : FlatEdges → Edges
 edgesOf e = record { power = range (e .«power_low») (e .«power_high»); spectral = range (e .«spectral_low») (e .«spectral_high») }
+
+-- and as they leave
+unfoldable pub edgesFlat : Edges → FlatEdges
+edgesFlat e =
+    record {
+      «power_low» = e .power .«low_hz»;
+      «power_high» = e .power .«high_hz»;
+      «spectral_low» = e .spectral .«low_hz»;
+      «spectral_high» = e .spectral .«high_hz»;
+    }
+
+-- the state of a walk, that arrives and that leaves
+unfoldable pub walkOf : FlatWalk → WalkState
+walkOf w = record { occupied = edgesOf (w .occupied); place = w .place; image = w .image; waiting = w .waiting; walking = w .walking }
+
+unfoldable pub walkFlat : WalkState → FlatWalk
+walkFlat w = record { occupied = edgesFlat (w .occupied); place = w .place; image = w .image; waiting = w .waiting; walking = w .walking }
 
 -- the edition and the general block that arrive
 unfoldable pub fieldsOf : FlatFields → Fields
@@ -291,6 +314,13 @@ pub record FlatReported (l : List ℕ) (class : ℕ) (lent left : List ℕ) (ans
   pub answered : answer ≡ reportFlat (reportAnswer (refusalOf (reportTests l class lent)) (reportRows (tableOf l) class))
   pub bytes : left ≡ reportBytes (refusalOf (reportTests l class lent)) (reportRows (tableOf l) class) lent
 
+-- a swap's and an opening's answer, and a step's: over is 1 where the walk is
+abbrev pub walkAnswerFlat : WalkAnswer → FlatWalkAnswer
+walkAnswerFlat a = record { state = walkFlat (a .state); refusal = refusalNumber (a .refusal) }
+
+unfoldable pub stepFlat : StepAnswer → FlatStep
+stepFlat a = record { ceiling = ceilingFlat (a .ceiling); state = walkFlat (a .state); over = markOf (a .over) }
+
 -- an image that was written: its length, at most 65,552, or a refusal's number and length 0
 abbrev pub imageFlat : ImageAnswer → FlatImage
 imageFlat (ImageOf n) = record { length = n; refusal = 0 }
@@ -348,6 +378,6 @@ pub record FlatTotalled (starts bands seconds lent left : List ℕ) (answer : Fl
   pub answered : answer ≡ airtimeFlat (airtimeAnswer (refusalOf (airtimeTests starts bands seconds lent)) (length starts))
   pub elements : left ≡ airtimeLeft (refusalOf (airtimeTests starts bands seconds lent)) (totalsOf starts bands seconds) lent
 
--- the boundary's version, 0.12.0: 10,000 times the first number, 100 times the second, and the third
+-- the boundary's version, 0.13.0: 10,000 times the first number, 100 times the second, and the third
 abbrev pub versionNumber : ℕ
-versionNumber = 1200
+versionNumber = 1300

@@ -1,6 +1,6 @@
 // The records of the boundary to C: flat structs of numbers, made from the answers and read into the station record and the edges. It
 // uses codes, profile, occupancy, air, station, fault, tidy, decision, numbers, ceiling, dials, report, census, distance, number_texts,
-// airtime, given, writer, convert, amended and amend.
+// airtime, given, writer, convert, amended, amend and walk.
 use air::Margins;
 use airtime::Airtime;
 use ceiling::CeilingAnswer;
@@ -26,16 +26,19 @@ use report::TableReport;
 use station::Figure;
 use station::StationRecord;
 use tidy::Tidiness;
+use walk::StepAnswer;
+use walk::WalkAnswer;
+use walk::WalkState;
 use writer::ImageAnswer;
 ghost use mathlib.Core.Path.{_≡_};
 ghost use mathlib.Core.Bool.{cond};
 ghost use Prim.Native.Nat.{_<_};
 ghost use Rattle.ceiling.specs.Ceiling.{rungNumber};
 ghost use Rattle.flat.specs.Fits.{FaultFits, RungFits, Counted, ReportCounted, Indexed};
-ghost use Rattle.flat.specs.Flat.{stationRecordOf, stationOf, edgesOf, fieldsOf, rangeFlat, segmentFlat, overshootFlat};
+ghost use Rattle.flat.specs.Flat.{stationRecordOf, stationOf, edgesOf, edgesFlat, fieldsOf, rangeFlat, segmentFlat, overshootFlat};
 ghost use Rattle.flat.specs.Flat.{guidanceIndex, guidanceFlat, ruleFlat, bandFlat, widthFlat};
 ghost use Rattle.flat.specs.Flat.{faultFlat, tidinessFlat, flatOf, ceilingFlat, dialsFlat, reportFlat, infinityHz, distanceFlat, textFlat};
-ghost use Rattle.flat.specs.Flat.{airtimeFlat, censusFlat, imageFlat};
+ghost use Rattle.flat.specs.Flat.{airtimeFlat, censusFlat, imageFlat, walkOf, walkFlat, walkAnswerFlat, stepFlat};
 
 // The station record: codes and presence bytes as document 01 numbers them, figures whatever they are.
 #[repr(C)]
@@ -133,6 +136,31 @@ pub struct FlatCeiling {
     pub rung: i32,
     pub limit_known: u8,
     pub refusal: u8,
+}
+
+// The state of a walk: what its rungs have occupied, how many were judged, the image in force, whether a swap waits and a walk is open.
+#[repr(C)]
+pub struct FlatWalk {
+    pub occupied: FlatEdges,
+    pub place: u32,
+    pub image: u8,
+    pub waiting: u8,
+    pub walking: u8,
+}
+
+// The answer of a swap and of an opening.
+#[repr(C)]
+pub struct FlatWalkAnswer {
+    pub state: FlatWalk,
+    pub refusal: u8,
+}
+
+// The answer of a step. Its refusal is the ceiling's.
+#[repr(C)]
+pub struct FlatStep {
+    pub ceiling: FlatCeiling,
+    pub state: FlatWalk,
+    pub over: u8,
 }
 
 // Where a table is wrong: place is 0 nowhere, 1 the general block, 2 a record. Where there is no record, table is 255 and record 65,535.
@@ -288,6 +316,43 @@ pub fn edges_in(e: FlatEdges) -> Edges
         high_hz: e.spectral_high,
     };
     Edges { power, spectral }
+}
+
+// The edges, flat.
+fn edges_out(e: Edges) -> FlatEdges
+    ensures { λ r. ⌜ r ≡ edgesFlat e ⌝ }
+{
+    FlatEdges {
+        power_low: e.power.low_hz,
+        power_high: e.power.high_hz,
+        spectral_low: e.spectral.low_hz,
+        spectral_high: e.spectral.high_hz,
+    }
+}
+
+// A walk's state as it arrives, and as it leaves.
+pub fn walk_in(w: FlatWalk) -> WalkState
+    ensures { λ r. ⌜ r ≡ walkOf w ⌝ }
+{
+    WalkState {
+        occupied: edges_in(w.occupied),
+        place: w.place,
+        image: w.image,
+        waiting: w.waiting,
+        walking: w.walking,
+    }
+}
+
+pub fn walk_out(w: WalkState) -> FlatWalk
+    ensures { λ r. ⌜ r ≡ walkFlat w ⌝ }
+{
+    FlatWalk {
+        occupied: edges_out(w.occupied),
+        place: w.place,
+        image: w.image,
+        waiting: w.waiting,
+        walking: w.walking,
+    }
 }
 
 // The edition and the general block of the fields.
@@ -566,6 +631,30 @@ pub fn ceiling_flat(a: CeilingAnswer) -> FlatCeiling
         rung,
         limit_known: mark(a.limited),
         refusal: numbers::refusal_number(refusal),
+    }
+}
+
+// A swap's or an opening's answer, flat.
+pub fn walk_answer_flat(a: WalkAnswer) -> FlatWalkAnswer
+    ensures { λ r. ⌜ r ≡ walkAnswerFlat a ⌝ }
+{
+    let refusal = a.refusal;
+    FlatWalkAnswer {
+        state: walk_out(a.state),
+        refusal: numbers::refusal_number(refusal),
+    }
+}
+
+// A step's answer, flat.
+pub fn step_flat(a: StepAnswer) -> FlatStep
+    requires { ⌜ (RungFits (a .ceiling .rung)) × (Indexed (a .ceiling .limit)) ⌝ }
+    ensures { λ r. ⌜ r ≡ stepFlat a ⌝ }
+{
+    let ceiling = a.ceiling;
+    FlatStep {
+        ceiling: ceiling_flat(ceiling),
+        state: walk_out(a.state),
+        over: mark(a.over),
     }
 }
 

@@ -129,7 +129,7 @@ below-fits : (j : ℕ) → j ≤ 256 → RungFits (rungBelow j)
 below-fits zero h i e = let z : _≡_ {A = ℕ} 0 1 = cc in omega arith
 below-fits (suc k) h i e = let q : k ≡ i = cc in omega arith
 
-absent-fits : (k : Rung) → k ≡ NoRung → RungFits k
+pub absent-fits : (k : Rung) → k ≡ NoRung → RungFits k
 absent-fits k a i e = let z : _≡_ {A = ℕ} 0 1 = cc in omega arith
 
 module _ (r : StationRecord) (direction : ℕ) (ordinary floor : Edges) (l : List ℕ) (rungs : List Float) (floors : List ℕ) where

@@ -124,7 +124,7 @@ on-sixty : (t : Draft) (b : Bool) (k : Code) (n : ℕ) (marks : SixtyNotes) → 
 unfolding allowedOnSixty finishOf
 on-sixty t b k n marks = record { few = omega arith; judged = refl }
 
-refused : (n : ℕ) → Indexed (refusedOf n)
+pub refused : (n : ℕ) → Indexed (refusedOf n)
 unfolding refusedOf noAdvice
 refused n = omega arith
 
@@ -346,7 +346,7 @@ module _ (r : StationRecord) (direction : ℕ) (ordinary floor : Edges) (l : Lis
   refused-limit n e = ap (λ (x : Checked). ceilingUnlessRefused x (climbed (judging r direction ordinary floor l rungs floors)
       (bursts r direction ordinary floor l rungs floors) (length rungs / 4)) .limit) e
 
-  judging-indexed :
+  pub judging-indexed :
       refusalOf (ceilingTests r direction ordinary floor l rungs floors) ≡ Accepted → (e : Edges)
       → Indexed (judging r direction ordinary floor l rungs floors e)
   unfolding judgeBy

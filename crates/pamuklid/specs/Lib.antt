@@ -1,3 +1,4 @@
 pub mod Guided
 pub mod Fits
 pub mod Safe
+pub mod Stepped

@@ -1,5 +1,5 @@
 // The boundary to C: the public calls, exported, with flat structs of numbers. It uses station, image, fault, tidy, numbers, verdict,
-// ceiling, dials, report, census, distance, number_texts, airtime, writer, convert, amend and flat.
+// ceiling, dials, report, census, distance, number_texts, airtime, writer, convert, amend, walk and flat.
 use flat::FlatAirtime;
 use flat::FlatCeiling;
 use flat::FlatCensus;
@@ -12,8 +12,11 @@ use flat::FlatFields;
 use flat::FlatImage;
 use flat::FlatReport;
 use flat::FlatStation;
+use flat::FlatStep;
 use flat::FlatText;
 use flat::FlatTidiness;
+use flat::FlatWalk;
+use flat::FlatWalkAnswer;
 ghost use mathlib.Core.Path.{_≡_};
 ghost use Rattle.image.specs.Check.{checkOf};
 ghost use Rattle.fault.specs.Fault.{faultOf};
@@ -29,10 +32,11 @@ ghost use Rattle.numbers.specs.Refusal.{refusalNumber};
 ghost use Rattle.flat.specs.Flat.{stationRecordOf, stationOf, edgesOf, faultFlat, tidinessFlat, flatOf};
 ghost use Rattle.flat.specs.Flat.{ceilingFlat, FlatDialed, FlatReported, censusFlat, FlatWritten, FlatRaised, FlatLowered, FlatAmended};
 ghost use Rattle.flat.specs.Flat.{distanceFlat, FlatTexted, FlatTotalled};
-ghost use Rattle.flat.specs.Flat.{versionNumber};
+ghost use Rattle.flat.specs.Flat.{walkOf, walkFlat, walkAnswerFlat, stepFlat, versionNumber};
+ghost use Rattle.walk.specs.Walk.{firstState, swapOf, openOf, stepOf};
 
-// The version of this boundary: 0.12.0.
-pub const VERSION: u32 = 1200;
+// The version of this boundary: 0.13.0.
+pub const VERSION: u32 = 1300;
 
 // The version of this boundary, that of the header: 10,000 times the first number, 100 times the second, and the third.
 #[no_mangle]
@@ -178,6 +182,64 @@ pub extern "C" fn pamuklid_ceiling_of_2(
         floors,
     );
     flat::ceiling_flat(answer)
+}
+
+// The first state of a walk.
+#[no_mangle]
+pub extern "C" fn pamuklid_walk_first() -> FlatWalk
+    ensures { λ r. ⌜ r ≡ walkFlat firstState ⌝ }
+{
+    flat::walk_out(walk::first())
+}
+
+// A change to the other image: at once, or at the end of the walk that is open.
+#[no_mangle]
+pub extern "C" fn pamuklid_walk_swap(w: FlatWalk) -> FlatWalkAnswer
+    ensures { λ r. ⌜ r ≡ walkAnswerFlat (swapOf (walkOf w)) ⌝ }
+{
+    flat::walk_answer_flat(walk::swap(flat::walk_in(w)))
+}
+
+// A walk is opened, under the image in force.
+#[no_mangle]
+pub extern "C" fn pamuklid_walk_open(w: FlatWalk) -> FlatWalkAnswer
+    ensures { λ r. ⌜ r ≡ walkAnswerFlat (openOf (walkOf w)) ⌝ }
+{
+    flat::walk_answer_flat(walk::open_walk(flat::walk_in(w)))
+}
+
+// The rung at the walk's place, judged.
+#[no_mangle]
+pub extern "C" fn pamuklid_walk_step(
+    w: FlatWalk,
+    s: FlatStation,
+    direction: u8,
+    ordinary: FlatEdges,
+    floor: FlatEdges,
+    image_0: &[u8],
+    image_1: &[u8],
+    rungs: &[f64],
+    floors: &[u8],
+) -> FlatStep
+    ensures { λ r. ⌜ r ≡ stepFlat (stepOf (walkOf w) (stationRecordOf s) direction (edgesOf ordinary) (edgesOf floor)
+        (now («image_0» .entry)) (now («image_1» .entry)) (now (rungs .entry)) (now (floors .entry))) ⌝ }
+{
+    let state = flat::walk_in(w);
+    let record = flat::station_in(s);
+    let ordinary_edges = flat::edges_in(ordinary);
+    let floor_edges = flat::edges_in(floor);
+    let answer = walk::step(
+        state,
+        record,
+        direction,
+        ordinary_edges,
+        floor_edges,
+        image_0,
+        image_1,
+        rungs,
+        floors,
+    );
+    flat::step_flat(answer)
 }
 
 // The dials that keep a signal of these edges inside the rules, as rows of 36 bytes.

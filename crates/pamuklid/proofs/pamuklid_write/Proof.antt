@@ -1,5 +1,5 @@
 -- By the calls: the fields that arrive, the answer flat, the bytes as the call leaves them.
-use mathlib.Core.Path.{_∙_, ap, sym}
+use mathlib.Core.Path.{_∙_, ap}
 use Rattle.flat.specs.Flat.{imageFlat}
 use borrow.Author.Needs.{needs}
 use Rattle.pamuklid.proofs.pamuklid_write.Statement.{statement}
