@@ -11,8 +11,7 @@
 //!   own, by the edits of `PARTED` and nothing else. With the feature `watts` it has the 60 m power limits from
 //!   its caller, by those of `AMENDED`.
 //! - `PAMUKLID_STUB_SRC`, `PAMUKLID_STUB_OWN` (feature `stub` only): the Rust, and the folder of the
-//!   `expect.rs`, `adapter.rs`, `distance.rs`, `edition.rs`, `report.rs`, `airtime.rs` and `sixty.rs`, that
-//!   the stub answers from, where they are to differ from the driver's.
+//!   files of `OWN` that the stub answers from, where they are to differ from the driver's.
 
 use std::env;
 use std::fs;
@@ -57,6 +56,10 @@ const AMENDED: [(&str, usize, &str); 3] = [
     ("c.s.power_w.filter(|&p| p > 100.0)", 1, "c.s.power_w.filter(|&p| p > c.s.channel_w)"),
     ("c.s.power_w.filter(|&p| p > 9.15)", 1, "c.s.power_w.filter(|&p| p > c.s.segment_w)"),
 ];
+
+/// The driver's files that the stub has a copy of.
+const OWN: [&str; 9] =
+    ["expect", "adapter", "amendment", "distance", "edition", "report", "airtime", "sixty", "walk"];
 
 fn copy(from: &Path, to: &Path) {
     println!("cargo::rerun-if-changed={}", from.display());
@@ -114,7 +117,7 @@ fn main() {
     if stub {
         place(&folder("PAMUKLID_STUB_SRC", rust), &out, "original");
         let own = folder("PAMUKLID_STUB_OWN", here.join("src"));
-        for name in ["expect", "adapter", "distance", "edition", "report", "airtime", "sixty"] {
+        for name in OWN {
             let file = out.join(format!("stub_{name}.rs"));
             copy(&own.join(format!("{name}.rs")), &file);
             include(&file, name, &out.join(format!("include_{name}.rs")));

@@ -2,11 +2,11 @@
 file), new text. `same` says why a mistake changes no answer inside document 01's limits: such a one
 must survive, every other must be noticed.
 
-Files: profile.rs, occupancy.rs and mod.rs are the Rust; expect.rs, adapter.rs, distance.rs, edition.rs,
-sixty.rs and report.rs are the driver's own part, written from documents 01 and 02 (refusals 1 to 6, 15, 16,
-20 to 26 and their order, where a table is wrong, tidy, the distance of a dial, writer and converters, channel
-against segment, the report of a table, and what the Rust says only in words); stub.rs, with --stub, stands for
-a wrong library; build.rs has the edits that give the Rust its second margin, with --unequal, and the 60 m
+Files: profile.rs, occupancy.rs and mod.rs are the Rust; expect.rs, adapter.rs, amendment.rs, distance.rs,
+edition.rs, sixty.rs, report.rs and walk.rs are the driver's own part, written from documents 01 and 02 (refusals
+1 to 6, 15, 16, 20 to 30 and their order, where a table is wrong, tidy, the distance of a dial, writer and
+converters, channel against segment, the report of a table, amendments, walks, and what the Rust says only in
+words); stub.rs, with --stub, stands for a wrong library; build.rs has the edits that give the Rust its second margin, with --unequal, and the 60 m
 power limits of the table, with --watts.
 """
 
@@ -1237,6 +1237,71 @@ at("stub.rs", "            lent[..image.len()].copy_from_slice(&image);\n",
    "            lent[..image.len()].copy_from_slice(&image);\n            lent[image.len()..].fill(0);\n")
 at("stub.rs", "        Err(refusal) => Image { length: 0, refusal },\n",
    "        Err(refusal) => {\n            if room > 0 { unsafe { *out = 0 } }\n            Image { length: 0, refusal }\n        }\n")
+
+# ------------------------------------------------------------------------------ amendments
+A = "amendment.rs"
+# which amendment counts
+at(A, "filter(|a| a.day <= day)", "filter(|a| a.day < day)")
+at(A, "filter(|a| a.day <= day)", "filter(|a| a.day <= day.saturating_add(1))")
+at(A, "    in_force.sort_by_key(|a| a.day);\n", "")
+at(A, "    in_force.sort_by_key(|a| a.day);\n", "    in_force.reverse();\n    in_force.sort_by_key(|a| a.day);\n")
+at(A, "    in_force.sort_by_key(|a| a.day);\n", "    in_force.sort_by_key(|a| u32::MAX - a.day);\n")
+at(A, "    in_force.sort_by_key(|a| a.day);\n", "    in_force.sort_by_key(|a| a.day as i32);\n")
+at(A, "front_of(base) + 32 * (before", "64 + 32 * (before")
+# 27: not in forties, above 8, beyond, those in force alone; the order
+at(A, "    if !list.len().is_multiple_of(BYTES) || amendments", "    if amendments")
+at(A, "    if !list.len().is_multiple_of(BYTES) || ", "    if !list.len().is_multiple_of(8) || ")
+at(A, "a.index < count)", "a.index <= count)")
+at(A, "a.index < count)", "a.index.is_multiple_of(256) || a.index < count)")
+at(A, "any(|a| !named(&counts, a))", "any(|a| a.day <= day && !named(&counts, a))")
+at(A, "any(|a| !named(&counts, a))", "skip(1).any(|a| !named(&counts, a))")
+at(A, "    if checked != 0 {", "    if checked != 0 && list.len().is_multiple_of(BYTES) {")
+at(A, "    if lent < base.len() {", "    if lent <= base.len() {")
+at(A, "    if lent < base.len() {", "    if lent + 1 < base.len() {")
+at(A, "        refusal => Ok(Err(refusal)),", "        12 => Ok(Ok(image)),\n        refusal => Ok(Err(refusal)),")
+at(A, "        refusal => Ok(Err(refusal)),", "        refusal => Ok(Err(refusal.min(12))),")
+
+# ----------------------------------------------------------------------------------- walks
+W = "walk.rs"
+# a state that no call gives
+at(W, "        w.image > 1,\n", "        false,\n")
+at(W, "        w.waiting > 1,\n", "        false,\n")
+at(W, "        w.walking > 1,\n", "        false,\n")
+at(W, "        w.place > 255,\n", "        w.place > 256,\n")
+at(W, "        w.place > 255,\n", "        w.place > 254,\n")
+at(W, "        idle && w.waiting == 1,\n", "        false,\n")
+at(W, "        idle && w.place > 0,\n", "        false,\n")
+at(W, "w.place > 0 && expect::out_of_size(x)", "expect::out_of_size(x)")
+at(W, "w.place > 0 && expect::out_of_size(x)", "w.place > 0 && x.is_nan()")
+at(W, "        0 => NOUGHTS,\n        _ =>", "        0 => w.occupied,\n        _ =>")
+at(W, "Edges::of(w.occupied.figures().map(expect::read)),", "w.occupied,")
+# swap and opening
+at(W, "    if w.waiting == 1 {\n        return Err(29);", "    if w.waiting >= 1 {\n        return Err(29);")
+at(W, "    if w.waiting == 1 {\n        return Err(29);", "    if w.waiting == 1 && w.walking == 1 {\n        return Err(29);")
+at(W, "        _ => Walk { waiting: 1, ..read(w) },", "        _ => Walk { image: 1 - w.image, ..read(w) },")
+at(W, "        0 => Walk { image: 1 - w.image, ..read(w) },", "        0 => Walk { image: 1, ..read(w) },")
+at(W, "    if w.walking == 1 {\n        return Err(30);", "    if w.walking >= 1 {\n        return Err(30);")
+at(W, "    if w.walking == 1 {\n        return Err(30);", "    if w.walking == 1 && faults(w).is_empty() {\n        return Err(30);")
+# a step
+at(W, "    if w.walking == 0 {\n        return Ok(refused(30));", "    if w.walking == 0 && faults(w).is_empty() {\n        return Ok(refused(30));")
+at(W, "    if w.walking == 0 {\n        return Ok(refused(30));", "    if w.walking != 1 {\n        return Ok(refused(30));")
+at(W, "image: w.image ^ w.waiting, ..FIRST", "image: w.image, ..FIRST")
+at(W, "state: ended(w), end: Some(End::Blocked), change }", "state: Walk { image: w.image, ..FIRST }, end: Some(End::Blocked), change }")
+at(W, "state: ended(w), end: Some(End::NoRung), change: None }", "state: Walk { image: w.image, ..FIRST }, end: Some(End::NoRung), change: None }")
+at(W, "        state: *w,\n", "        state: read(w),\n")
+at(W, "let last = place + 1 == lent.rungs.len() / 4;", "let last = false;")
+at(W, "let ceiling = Ceiling { refusal: 0, rung: before, limit: None };", "let ceiling = Ceiling { refusal: 0, rung: None, limit: None };")
+at(W, "let ceiling = Ceiling { refusal: 0, rung: before, limit: Some(verdict) };", "let ceiling = Ceiling { refusal: 0, rung: None, limit: Some(verdict) };")
+at(W, "    if place > 0 {\n        edges", "    if place > 1 {\n        edges")
+at(W, "    if place > 0 {\n        edges", "    {\n        edges")
+at(W, "if lent.floors[place] == 1 {", "if lent.floors[place] == 0 {")
+at(W, "union(own, control.figures().map(expect::read))", "own")
+at(W, "Walk { occupied: edges, place: w.place + 1, ..*w }", "Walk { occupied: Edges::of(own), place: w.place + 1, ..*w }")
+at(W, "Walk { occupied: edges, place: w.place + 1, ..*w }", "Walk { occupied: edges, place: w.place + 1, waiting: 0, ..*w }")
+at(W, "let refusal = lent.refusal(w.image);", "let refusal = lent.refusal(w.image ^ w.waiting);")
+at(W, "let refusal = lent.refusal(w.image);", "let refusal = lent.refusal(0).max(lent.refusal(1));")
+at(W, "let p = lent.images[usize::from(w.image)];\n    let (verdict", "let p = lent.images[usize::from(w.image ^ w.waiting)];\n    let (verdict")
+at(W, "let (verdict, change) = sixty::evaluate(p, &lent.s, 0, lent.direction, &edges)?;", "let (verdict, change) = (adapter::evaluate(p, &lent.s, 0, lent.direction, &edges)?, None);")
 
 # ------------------------------------------------------------------------------ other watts
 amended(B, '"c.s.power_w.filter(|&p| p > c.s.channel_w)"', '"c.s.power_w.filter(|&p| p > c.s.segment_w)"')

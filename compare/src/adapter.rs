@@ -595,6 +595,24 @@ impl Ceiling {
     }
 }
 
+/// What a ceiling refuses, 0 if nothing.
+pub fn ceiling_refusal(
+    p: &Prepared,
+    s: &Station,
+    direction: u8,
+    ordinary: &Edges,
+    floor: &Edges,
+    rungs: &[f64],
+    floors: &[u8],
+) -> u8 {
+    first(&[
+        expect::station_refusal(s, direction, 0),
+        expect::image_refusal(s, p.length, p.refusal),
+        if expect::ladder_refused(ordinary, floor, rungs) { 15 } else { 0 },
+        if expect::rungs_refused(rungs, floors) { 16 } else { 0 },
+    ])
+}
+
 /// `ceiling`, refusals included.
 pub fn ceiling(
     p: &Prepared,
@@ -605,12 +623,7 @@ pub fn ceiling(
     rungs: &[f64],
     floors: &[u8],
 ) -> Result<Ceiling, String> {
-    let refusal = first(&[
-        expect::station_refusal(s, direction, 0),
-        expect::image_refusal(s, p.length, p.refusal),
-        if expect::ladder_refused(ordinary, floor, rungs) { 15 } else { 0 },
-        if expect::rungs_refused(rungs, floors) { 16 } else { 0 },
-    ]);
+    let refusal = ceiling_refusal(p, s, direction, ordinary, floor, rungs, floors);
     if refusal != 0 {
         return Ok(Ceiling { refusal, rung: None, limit: None });
     }

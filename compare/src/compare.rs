@@ -33,7 +33,7 @@ fn odd(x: f64) -> bool {
     x.is_nan() || x.to_bits() == 1 << 63
 }
 
-fn agreed(want: Told<Decision>, got: &Decision) -> Told<Decision> {
+pub fn agreed(want: Told<Decision>, got: &Decision) -> Told<Decision> {
     let want = want?;
     // "With that, no answer and no row ever holds a negative zero."
     if let Some((name, _)) = want.floats().into_iter().find(|f| odd(f.1)) {

@@ -71,7 +71,7 @@ const LOWER: Converter = Converter {
 const WRITE: [&str; 3] = ["write refused", "write refused, met too", "write bytes lent"];
 
 /// One call that gives an image, in so many lent bytes.
-fn compare(
+pub fn compare(
     want: &Given,
     lent: usize,
     fill: u64,
@@ -105,7 +105,7 @@ fn length(parts: &Parts) -> usize {
 }
 
 /// How many bytes are lent where so many are needed.
-fn room(rng: &mut Rng, needed: usize) -> usize {
+pub fn room(rng: &mut Rng, needed: usize) -> usize {
     match rng.below(10) {
         0..=3 => needed,
         4 => needed + 1,
@@ -118,7 +118,7 @@ fn room(rng: &mut Rng, needed: usize) -> usize {
 }
 
 /// None, one too few, fewer, just enough, one more, more.
-fn how_lent(lent: usize, needed: usize) -> u16 {
+pub fn how_lent(lent: usize, needed: usize) -> u16 {
     match lent as isize - needed as isize {
         _ if lent == 0 => 0,
         -1 => 1,
@@ -462,7 +462,7 @@ fn crowded(rng: &mut Rng, t: &mut Table) {
 }
 
 /// A table of so many records in all, none of them far from the others.
-fn long(n: usize) -> Table {
+pub fn long(n: usize) -> Table {
     let mut t = small();
     t.tables[AUTOMATIC] = vec![span(20.0, 80.0); 256];
     t.tables[EXCLUDED] = vec![Record { band: 9, ..Record::default() }; 256];
@@ -569,7 +569,7 @@ fn wrote(run: &mut Run, rng: &mut Rng, parts: &Parts) {
 }
 
 /// A world to start from, most of them small.
-fn world(rng: &mut Rng) -> World {
+pub fn world(rng: &mut Rng) -> World {
     match rng.below(40) {
         0 => tables::settle(practice(), Scale::Hf, None, 2),
         1 | 2 => tables::settle(sixty(), Scale::Eighths, None, 4),

@@ -4,11 +4,12 @@
 #[cfg(fault)]
 pub use pamuklid::raw::fault_of;
 #[cfg(feature = "stub")]
-pub use pamuklid::raw::{Airtime, Ceiling, Census, Dials, Report, Tidiness};
+pub use pamuklid::raw::{Airtime, Census, Dials, Report, Step, Tidiness};
 pub use pamuklid::raw::{
-    Decision, Distance, Edges, Fault, Fields, Image, Station, Text, VERSION, airtime, ceiling,
-    census, check, distance, evaluate, fresh, lower, raise, report, safe_dials, text_at,
-    text_hertz, text_khz, tidy, unmeasured, version, write,
+    Ceiling, Decision, Distance, Edges, Fault, Fields, Image, Station, Text, VERSION, Walk,
+    WalkAnswer, airtime, amend, ceiling, census, check, distance, evaluate, fresh, lower, raise,
+    report, safe_dials, text_at, text_hertz, text_khz, tidy, unmeasured, version, walk_first,
+    walk_open, walk_step, walk_swap, write,
 };
 
 /// Every part absent, and blocked.

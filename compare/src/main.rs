@@ -1,8 +1,8 @@
 //! Runs the Rust, unchanged, beside the proved library, and compares every part of every answer.
 //!
 //!     pamuklid-compare [--verdicts N] [--ceilings N] [--dials N] [--texts N] [--reports N]
-//!                      [--airtimes N] [--censuses N] [--editions N] [--direction D] [--seed S] [--few]
-//!                      [--brief]
+//!                      [--airtimes N] [--censuses N] [--editions N] [--amendments N] [--walks N]
+//!                      [--direction D] [--seed S] [--few] [--brief]
 //!     pamuklid-compare --replay FILE [--seed S]
 //!     pamuklid-compare --replay-check FILE | --replay-more FILE [--seed S]
 //!
@@ -15,6 +15,7 @@
 
 mod airtime;
 mod airtimes;
+mod amendments;
 mod cases;
 mod censuses;
 mod compare;
@@ -38,6 +39,7 @@ mod reports;
 mod stub;
 mod tables;
 mod texts;
+mod walks;
 
 use std::process::exit;
 
@@ -112,6 +114,8 @@ pub struct Run {
     pub airtimes: airtimes::Met,
     pub censuses: censuses::Met,
     pub editions: editions::Met,
+    pub amendments: amendments::Met,
+    pub walks: walks::Met,
     directions: Directions,
     brief: bool,
 }
@@ -140,6 +144,8 @@ impl Run {
             airtimes: airtimes::Met::default(),
             censuses: censuses::Met::default(),
             editions: editions::Met::default(),
+            amendments: amendments::Met::default(),
+            walks: walks::Met::default(),
             directions: Directions::new(only),
             brief,
         }
@@ -597,6 +603,8 @@ struct Wanted {
     airtimes: u64,
     censuses: u64,
     editions: u64,
+    amendments: u64,
+    walks: u64,
 }
 
 fn run_all(run: &mut Run, wanted: &Wanted) {
@@ -717,6 +725,10 @@ fn run_all(run: &mut Run, wanted: &Wanted) {
         censuses::run(run, wanted.censuses);
         editions::fixed(run);
         editions::run(run, wanted.editions);
+        amendments::fixed(run);
+        amendments::run(run, wanted.amendments);
+        walks::fixed(run);
+        walks::run(run, wanted.walks);
     }
 }
 
@@ -737,8 +749,8 @@ fn every_bit(run: &mut Run) {
 fn usage() -> ! {
     eprintln!(
         "usage: pamuklid-compare [--verdicts N] [--ceilings N] [--dials N] [--texts N] \
-         [--reports N] [--airtimes N] [--censuses N] [--editions N] [--direction D] [--seed S] [--few] \
-         [--brief]\n\
+         [--reports N] [--airtimes N] [--censuses N] [--editions N] [--amendments N] [--walks N] \
+         [--direction D] [--seed S] [--few] [--brief]\n\
          \x20      pamuklid-compare --replay FILE [--seed S]\n\
          \x20      pamuklid-compare --replay-check FILE | --replay-more FILE [--seed S]"
     );
@@ -755,6 +767,8 @@ fn main() {
         airtimes: 1_000_000,
         censuses: 1_000,
         editions: 1_000_000,
+        amendments: 200_000,
+        walks: 100_000,
     };
     let (mut seed, mut only, mut few, mut brief, mut replay) = (1, None, false, false, None);
     let mut args = std::env::args().skip(1);
@@ -769,6 +783,8 @@ fn main() {
             "--airtimes" => wanted.airtimes = number(),
             "--censuses" => wanted.censuses = number(),
             "--editions" => wanted.editions = number(),
+            "--amendments" => wanted.amendments = number(),
+            "--walks" => wanted.walks = number(),
             "--direction" => match number() {
                 direction @ 0..=3 => only = Some(direction as u8),
                 _ => usage(),
@@ -865,6 +881,20 @@ fn main() {
         println!(
             "writer and converters: {} images written, {} raised, {} lowered; {} of these calls refused",
             run.editions.written, run.editions.raised, run.editions.lowered, run.editions.refused
+        );
+        println!(
+            "amendments: {} lists compared, with {} amendments; {} of these calls refused",
+            run.amendments.lists, run.amendments.amendments, run.amendments.refused
+        );
+        println!(
+            "walks: {} sequences of {} calls compared, {} of them steps that were answered, {} refused; {} walks \
+             and {} steps before their end equal to one call of the ceiling",
+            run.walks.sequences,
+            run.walks.calls,
+            run.walks.steps,
+            run.walks.refused,
+            run.walks.equal,
+            run.walks.so_far
         );
     }
     run.texts.count(&mut run.reach);

@@ -4,7 +4,11 @@ use crate::expect;
 include!(concat!(env!("OUT_DIR"), "/oracle.rs"));
 #[path = "adapter.rs"]
 pub mod adapter;
+#[path = "amendment.rs"]
+pub mod amendment;
 #[path = "edition.rs"]
 pub mod edition;
 #[path = "sixty.rs"]
 pub mod sixty;
+#[path = "walk.rs"]
+pub mod walk;

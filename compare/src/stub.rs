@@ -6,10 +6,10 @@ use std::rc::Rc;
 
 use crate::ffi::{
     Airtime, Ceiling, Census, Decision, Dials, Distance, Edges, Fault, Fields, Image, Report,
-    Station, Text, Tidiness, VERSION,
+    Station, Step, Text, Tidiness, VERSION, Walk, WalkAnswer,
 };
 use crate::original::adapter::{self, Prepared};
-use crate::original::{airtime, distance, edition, expect, report, sixty};
+use crate::original::{airtime, amendment, distance, edition, expect, report, sixty, walk};
 use crate::texts::Line;
 
 thread_local! {
@@ -118,6 +118,10 @@ extern "C" fn pamuklid_ceiling_of_2(
     let (rungs, floors) = unsafe { (slice(rungs, figures), slice(floors, floor_count)) };
     let (c, _) = sixty::ceiling(&p, &s, direction, &ordinary, &floor, rungs, floors)
         .expect("the Rust's words");
+    flat(&c)
+}
+
+fn flat(c: &adapter::Ceiling) -> Ceiling {
     Ceiling {
         limit: c.limit_or_none(),
         rung: c.rung_number(),
@@ -294,4 +298,65 @@ extern "C" fn pamuklid_write(
         rules: unsafe { slice(rules, rule_count) }.to_vec(),
     };
     given(edition::written(&parts, room).expect("the Rust's check"), out, room)
+}
+
+#[unsafe(no_mangle)]
+extern "C" fn pamuklid_amend(
+    image: *const u8,
+    n: usize,
+    list: *const u8,
+    list_len: usize,
+    day: u32,
+    out: *mut u8,
+    room: usize,
+) -> Image {
+    let (base, list) = unsafe { (slice(image, n), slice(list, list_len)) };
+    let want = amendment::amended(base, prepared(base).refusal, list, day, room);
+    given(want.expect("the Rust's check"), out, room)
+}
+
+#[unsafe(no_mangle)]
+extern "C" fn pamuklid_walk_first() -> Walk {
+    walk::FIRST
+}
+
+fn walked(w: Walk, next: Result<Walk, u8>) -> WalkAnswer {
+    match next {
+        Ok(state) => WalkAnswer { state, refusal: 0 },
+        Err(refusal) => WalkAnswer { state: w, refusal },
+    }
+}
+
+#[unsafe(no_mangle)]
+extern "C" fn pamuklid_walk_swap(w: Walk) -> WalkAnswer {
+    walked(w, walk::swapped(&w))
+}
+
+#[unsafe(no_mangle)]
+extern "C" fn pamuklid_walk_open(w: Walk) -> WalkAnswer {
+    walked(w, walk::opened(&w))
+}
+
+#[unsafe(no_mangle)]
+extern "C" fn pamuklid_walk_step(
+    w: Walk,
+    s: Station,
+    direction: u8,
+    ordinary: Edges,
+    floor: Edges,
+    image_0: *const u8,
+    n_0: usize,
+    image_1: *const u8,
+    n_1: usize,
+    rungs: *const f64,
+    figures: usize,
+    floors: *const u8,
+    floor_count: usize,
+) -> Step {
+    let images = unsafe { [prepared(slice(image_0, n_0)), prepared(slice(image_1, n_1))] };
+    let (rungs, floors) = unsafe { (slice(rungs, figures), slice(floors, floor_count)) };
+    let images = images.each_ref().map(|p| &**p);
+    let lent = walk::Lent { images, s, direction, ordinary, floor, rungs, floors };
+    let t = walk::stepped(&w, &lent).expect("the Rust's words");
+    Step { ceiling: flat(&t.ceiling), state: t.state, over: t.end.is_some().into() }
 }
