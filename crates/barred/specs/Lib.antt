@@ -1,2 +1,3 @@
 -- Whether a finding blocks.
 pub mod Barred
+pub mod Barring

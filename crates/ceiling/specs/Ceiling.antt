@@ -3,6 +3,7 @@
 use Prim.Native.Nat.{ℕ, zero, suc, _+_, _*_, _/_, _%_}
 use mathlib.Core.Bool.{Bool, true, false, not, cond, _||_}
 use mathlib.Core.List.{List, [], _∷_, _++_}
+use mathlib.Core.Path.{_≡_}
 use lib.Dec.{eqb, ltb}
 use lib.IntN.{ℤ, pos, negsuc}
 use lib.ListN.{length, getD}
@@ -26,12 +27,15 @@ use Rattle.table.specs.Table.{Table, tableOf}
 use Rattle.entry.specs.Entry.{entryTests, edgesValid, edgesRead}
 use Rattle.decision.specs.Decision.{isBlocked, refusedOf}
 use Rattle.decision.specs.declared.Decision.{Decision}
+use Rattle.part97.specs.declared.Finding.{Finding}
 use Rattle.verdict.specs.Verdict.{decideOf}
+use Rattle.barred.specs.Barring.{ledTo}
 use Rattle.ceiling.specs.declared.Rung.{Rung}
 use Rattle.ceiling.specs.declared.Rung.the-variants.{Fastest, NoRung}
 use Rattle.ceiling.specs.declared.Envelope.{Envelope}
 use Rattle.ceiling.specs.declared.Envelope.the-variants.{Reached, Unreached}
 use Rattle.ceiling.specs.declared.Step.{Step}
+use Rattle.ceiling.specs.declared.Step.the-variants.{Passed, Stopped}
 use Rattle.ceiling.specs.declared.Climb.{Climb}
 use Rattle.ceiling.specs.declared.CeilingAnswer.{CeilingAnswer}
 
@@ -84,10 +88,24 @@ climbAfter c k e d = cond (isBlocked (d .verdict)) (endedOf (c .rung) e d) (went
 unfoldable pub judgeBy : Table → Situation → Direction → Edges → Decision
 judgeBy table s direction e = decideOf table s (s .policy) (s .dial) Data direction e
 
--- one rung's step: the envelope with what the rung adds, and whether that is blocked
-unfoldable pub rungStep : (Edges → Decision) → Envelope → Edges → Step
-rungStep judge envelope more =
-    record { envelope = joinedOf envelope more; blocked = isBlocked (judge (joinedOf envelope more) .verdict) }
+-- the decision that what was found on an envelope leads to
+unfoldable pub leadBy : Table → Situation → Direction → Edges → Finding → Decision
+leadBy table s direction e f = ledTo table s (s .policy) (s .dial) Data direction e f
+
+-- what a step reached, and whether it stopped there
+abbrev pub stepEnvelope : Step → Edges
+stepEnvelope (Passed e) = e
+stepEnvelope (Stopped e f) = e
+
+abbrev pub stops : Step → Bool
+stops (Passed e) = false
+stops (Stopped e f) = true
+
+-- one rung's step: the envelope with what the rung adds, whether that is blocked, and a finding that leads to the decision on it
+pub record Stepped (judge : Edges → Decision) (lead : Edges → Finding → Decision) (envelope : Envelope) (more : Edges) (t : Step) : Type 0 where
+  pub reached : stepEnvelope t ≡ joinedOf envelope more
+  pub blocks : stops t ≡ isBlocked (judge (stepEnvelope t) .verdict)
+  pub leads : (e : Edges) (f : Finding) → t ≡ Stopped e f → lead e f ≡ judge e
 
 -- rung k judged, with what it adds to the envelope
 unfoldable pub rungJudged : (Edges → Decision) → Climb → ℕ → Edges → Climb

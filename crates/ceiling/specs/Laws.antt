@@ -2,7 +2,7 @@
 use Prim.Native.Nat.{ℕ, zero, suc, _+_, _/_, _%_, _<_, _≤_, _-_}
 use mathlib.Core.Bool.{Bool, true, false, not, cond, _||_, true≢false}
 use mathlib.Core.List.{List}
-use mathlib.Core.Path.{_≡_, refl, sym, ap, _∙_}
+use mathlib.Core.Path.{_≡_, refl, sym, ap, subst, _∙_}
 use native.Mathlib.Omega.{arith}
 use borrow.Author.Tests.{eqb-true}
 use lib.Dec.{eqb, ltb}
@@ -16,11 +16,17 @@ use Rattle.station.specs.declared.StationRecord.{StationRecord}
 use Rattle.entry.specs.Entry.{entryTests}
 use Rattle.occupancy.specs.declared.Edges.{Edges}
 use Rattle.scan.specs.Laws.{cond-yes, cond-not}
+use Rattle.decision.specs.Decision.{isBlocked}
 use Rattle.decision.specs.declared.Decision.{Decision}
-use Rattle.ceiling.specs.Ceiling.{noDecision, climbStart, endedOf, wentOn, climbAfter, rungStep, rungJudged, climbStep, climbed}
+use Rattle.part97.specs.declared.Finding.{Finding}
+use Rattle.barred.specs.Barring.{bars, Barred}
+use Rattle.barred.specs.declared.Bar.{Bar}
+use Rattle.barred.specs.declared.Bar.the-variants.{By, Free as NothingBars}
+use Rattle.ceiling.specs.Ceiling.{noDecision, climbStart, joinedOf, endedOf, wentOn, climbAfter, stepEnvelope, stops, Stepped, rungJudged, climbStep, climbed}
 use Rattle.ceiling.specs.Ceiling.{anyUnmarked, badRungs, rungTests, ceilingTests}
 use Rattle.ceiling.specs.declared.Climb.{Climb}
 use Rattle.ceiling.specs.declared.Step.{Step}
+use Rattle.ceiling.specs.declared.Step.the-variants.{Passed, Stopped}
 use Rattle.ceiling.specs.declared.Envelope.{Envelope}
 use Rattle.ceiling.specs.declared.Envelope.the-variants.{Reached, Unreached}
 use Rattle.ceiling.specs.declared.Rung.{Rung}
@@ -85,31 +91,64 @@ freeClimb envelope rung = record { envelope = envelope; rung = rung; limited = f
 abbrev pub Free : (Edges → Decision) → (ℕ → Edges) → ℕ → ℕ → Envelope → Rung → Type 0
 Free judge burst n i envelope rung = Climbing judge burst n i (freeClimb envelope rung)
 
+-- a step by the envelope before it, what the rung adds, and how it ended
+pub step-of :
+    {judge : Edges → Decision} {lead : Edges → Finding → Decision} {envelope before : Envelope} {more x : Edges} {t u : Step}
+    → envelope ≡ before → more ≡ x → t ≡ u → Stepped judge lead envelope more t → Stepped judge lead before x u
+step-of {judge} {lead} {envelope} {before} {more} {x} {t} {u} p q r e =
+    subst (Stepped judge lead before x) r
+    (subst (λ (y : Envelope). Stepped judge lead y x t) p (subst (λ (y : Edges). Stepped judge lead envelope y t) q e))
+
+-- a step from what bars its envelope
+abbrev foundOf : Finding → Step → Finding
+foundOf other (Passed e) = other
+foundOf other (Stopped e f) = f
+
+module _
+    {judge : Edges → Decision} {lead : Edges → Finding → Decision} {envelope : Envelope} {more x : Edges} {b : Bar} (e : x ≡ joinedOf envelope more)
+    (q : Barred (lead x) (judge x) b) where
+  pub stopped-by : (f : Finding) → b ≡ By f → Stepped judge lead envelope more (Stopped x f)
+  stopped-by f r =
+      record {
+        reached = e;
+        blocks = sym (ap bars r) ∙ q .blocks;
+        leads = λ y g t.
+            subst (λ (z : Edges). lead z g ≡ judge z) (ap stepEnvelope t) (ap (lead x) (sym (ap (foundOf f) t)) ∙ q .leads f r);
+      }
+
+  pub passed-by : b ≡ NothingBars → Stepped judge lead envelope more (Passed x)
+  passed-by r =
+      record { reached = e; blocks = sym (ap bars r) ∙ q .blocks; leads = λ y g t. absurd (true≢false (sym (ap stops t))) }
+
 module _ (judge : Edges → Decision) (burst : ℕ → Edges) (n : ℕ) where
   pub free-start : Free judge burst n 0 Unreached NoRung
   unfolding climbStart
   free-start = climbing-start judge burst n (freeClimb Unreached NoRung) refl
 
   -- the climb after a step
-  abbrev after : Rung → ℕ → Step → Bool → Climb
-  after rung i t b = cond b (endedOf rung (t .envelope) (judge (t .envelope))) (wentOn i (t .envelope))
+  abbrev after : Rung → ℕ → Edges → Bool → Climb
+  after rung i x b = cond b (endedOf rung x (judge x)) (wentOn i x)
 
-  module _
-      (i : ℕ) (envelope : Envelope) (rung : Rung) (t : Step) (p : Free judge burst n i envelope rung) (h : i < n)
-      (e : t ≡ rungStep judge envelope (burst i)) where
-    by-step : (b : Bool) → t .blocked ≡ b → after rung i t b ≡ rungJudged judge (freeClimb envelope rung) i (burst i)
-    unfolding rungStep rungJudged climbAfter
-    by-step b q = ap (after rung i t) (sym q) ∙ ap (λ (x : Step). after rung i x (x .blocked)) e
+  module _ (lead : Edges → Finding → Decision) (i : ℕ) (envelope : Envelope) (rung : Rung) (p : Free judge burst n i envelope rung) (h : i < n) where
+    by-step :
+        (x : Edges) (b : Bool) → x ≡ joinedOf envelope (burst i) → b ≡ isBlocked (judge x .verdict)
+        → after rung i x b ≡ rungJudged judge (freeClimb envelope rung) i (burst i)
+    unfolding rungJudged climbAfter
+    by-step x b e q = ap (after rung i x) q ∙ ap (λ (y : Edges). after rung i y (isBlocked (judge y .verdict))) e
 
     -- rung i is allowed
-    pub free-again : t .blocked ≡ false → Free judge burst n (i + 1) (Reached (t .envelope)) (Fastest i)
+    pub free-again : (x : Edges) → Stepped judge lead envelope (burst i) (Passed x) → Free judge burst n (i + 1) (Reached x) (Fastest i)
     unfolding wentOn
-    free-again q = climbing-again judge burst n i (freeClimb envelope rung) (after rung i t false) p h (by-step false q) refl
+    free-again x e =
+        climbing-again judge burst n i (freeClimb envelope rung) (after rung i x false) p h (by-step x false (e .reached) (e .blocks)) refl
 
     -- rung i is blocked
-    pub free-over : t .blocked ≡ true → endedOf rung (t .envelope) (judge (t .envelope)) ≡ climbed judge burst n
+    pub free-over :
+        (x : Edges) (f : Finding) → Stepped judge lead envelope (burst i) (Stopped x f) → endedOf rung x (lead x f) ≡ climbed judge burst n
     unfolding endedOf
-    free-over q = climb-over judge burst n i (freeClimb envelope rung) (after rung i t true) p h (by-step true q) refl
+    free-over x f e =
+        ap (endedOf rung x) (e .leads x f refl)
+        ∙ climb-over judge burst n i (freeClimb envelope rung) (after rung i x true) p h (by-step x true (e .reached) (e .blocks)) refl
 
 -- Accepted, a call has one floor byte for each rung.
 one-each : (rungs : List Float) (floors : List ℕ) → badRungs rungs floors ≡ false → length floors ≡ length rungs / 4

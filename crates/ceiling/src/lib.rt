@@ -1,10 +1,12 @@
 // The ceiling: the fastest rung that may be sent, and the verdict on the first that may not. A public call. It uses figures,
-// codes, occupancy, profile, station, layout, entry, decision, verdict and barred; its definitions use scan too.
+// codes, occupancy, profile, station, layout, entry, decision, part97 and barred; its definitions use scan and verdict too.
+use barred::Bar;
 use codes::Checked;
 use codes::Direction;
 use codes::EmissionKind;
 use decision::Decision;
 use occupancy::Edges;
+use part97::Finding;
 use profile::Range;
 use station::Situation;
 use station::StationRecord;
@@ -15,7 +17,7 @@ ghost use Rattle.codes.specs.Refusal.{refusalOf};
 ghost use Rattle.codes.specs.declared.Policy.the-variants.{Rules};
 ghost use Rattle.layout.specs.Form.{Whole};
 ghost use Rattle.table.specs.Table.{tableOf};
-ghost use Rattle.ceiling.specs.Ceiling.{figureAt, rungOf, controlEdges, burstOf, joinedOf, judgeBy, rungStep, climbed};
+ghost use Rattle.ceiling.specs.Ceiling.{figureAt, rungOf, controlEdges, burstOf, joinedOf, judgeBy, leadBy, Stepped, climbed};
 ghost use Rattle.ceiling.specs.Ceiling.{anyUnsized, anyUnmarked, badEdges, badRungs, ceilingTests, ceilingOf};
 
 // The fastest rung allowed.
@@ -30,10 +32,10 @@ pub enum Envelope {
     Unreached,
 }
 
-// A rung's step: what it occupies with its control frame and every slower rung, and whether that is blocked.
-pub struct Step {
-    pub envelope: Edges,
-    pub blocked: bool,
+// A rung's step: what it occupies with its control frame and every slower rung, and where that is blocked, by what.
+pub enum Step {
+    Passed(Edges),
+    Stopped(Edges, Finding),
 }
 
 // A climb: the rungs judged so far, and the decision on the first that is blocked. Where there is none, `limit` is absent: Blocked,
@@ -197,12 +199,13 @@ pub fn rung_step(
     more: Edges,
 ) -> Step
     requires { ⌜ (s .policy ≡ Rules → Whole (now image)) ⌝ }
-    ensures { λ x. ⌜ x ≡ rungStep (judgeBy (tableOf (now (image .entry))) s direction) envelope more ⌝ }
+    ensures { λ x. ⌜ Stepped (judgeBy (tableOf (now (image .entry))) s direction) (leadBy (tableOf (now (image .entry))) s direction)
+        envelope more x ⌝ }
 {
     let policy = s.policy;
     let dial = s.dial;
     let reached = joined(envelope, more);
-    let blocked = barred::barred(
+    match barred::barring(
         image,
         s,
         policy,
@@ -210,21 +213,26 @@ pub fn rung_step(
         EmissionKind::Data,
         direction,
         reached,
-    );
-    Step {
-        envelope: reached,
-        blocked,
+    ) {
+        Bar::By(f) => Step::Stopped(reached, f),
+        Bar::Free => Step::Passed(reached),
     }
 }
 
-// The decision on an envelope.
-pub fn rung_decision(image: &[u8], s: Situation, direction: Direction, envelope: Edges) -> Decision
+// The decision on an envelope that a step stopped at. Nothing is judged again.
+pub fn rung_decision(
+    image: &[u8],
+    s: Situation,
+    direction: Direction,
+    envelope: Edges,
+    f: Finding,
+) -> Decision
     requires { ⌜ (s .policy ≡ Rules → Whole (now image)) ⌝ }
-    ensures { λ x. ⌜ x ≡ judgeBy (tableOf (now (image .entry))) s direction envelope ⌝ }
+    ensures { λ x. ⌜ x ≡ leadBy (tableOf (now (image .entry))) s direction envelope f ⌝ }
 {
     let policy = s.policy;
     let dial = s.dial;
-    verdict::decide(
+    barred::answer(
         image,
         s,
         policy,
@@ -232,6 +240,7 @@ pub fn rung_decision(image: &[u8], s: Situation, direction: Direction, envelope:
         EmissionKind::Data,
         direction,
         envelope,
+        f,
     )
 }
 
@@ -255,20 +264,22 @@ fn climb_all(
     let mut i: usize = 0;
     while i < count {
         let more = burst(ordinary, floor, rungs, floors, i);
-        let step = rung_step(image, s, direction, envelope, more);
-        let reached = step.envelope;
-        if step.blocked {
-            let limit = rung_decision(image, s, direction, reached);
-            return Climb {
-                envelope: Envelope::Reached(reached),
-                rung,
-                limited: true,
-                limit,
-            };
+        match rung_step(image, s, direction, envelope, more) {
+            Step::Stopped(reached, f) => {
+                let limit = rung_decision(image, s, direction, reached, f);
+                return Climb {
+                    envelope: Envelope::Reached(reached),
+                    rung,
+                    limited: true,
+                    limit,
+                };
+            }
+            Step::Passed(reached) => {
+                envelope = Envelope::Reached(reached);
+                rung = Rung::Fastest(i);
+                i += 1;
+            }
         }
-        envelope = Envelope::Reached(reached);
-        rung = Rung::Fastest(i);
-        i += 1;
     }
     Climb {
         envelope,

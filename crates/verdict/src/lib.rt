@@ -53,7 +53,7 @@ fn air_of(dial: Figure, sideband: SidebandSet, audio: Range) -> MaybeRange
 }
 
 // The signal, before any test.
-fn signal_of(dial: Figure, sideband: SidebandSet, audio: Range) -> Draft
+pub fn signal_of(dial: Figure, sideband: SidebandSet, audio: Range) -> Draft
     ensures { λ x. ⌜ x ≡ signalOf dial sideband audio ⌝ }
 {
     Draft {
@@ -159,7 +159,7 @@ fn under_rules(
 }
 
 // Without a table, by the wider reading: the policy alone decides.
-fn unruled(s: Situation, dial: Figure, e: Edges, verdict: Verdict, code: Code) -> Decision
+pub fn unruled(s: Situation, dial: Figure, e: Edges, verdict: Verdict, code: Code) -> Decision
     ensures { λ x. ⌜ x ≡ unruledOf s dial e verdict code ⌝ }
 {
     let sideband = s.sideband;

@@ -10,10 +10,12 @@ use Rattle.occupancy.specs.declared.Edges.{Edges}
 use Rattle.scan.specs.Laws.{and-true}
 use Rattle.decision.specs.Decision.{isBlocked}
 use Rattle.decision.specs.declared.Decision.{Decision}
-use Rattle.ceiling.specs.Ceiling.{noDecision, joinedOf, climbAfter, wentOn, rungStep, rungJudged, endedOf as climbEnded}
+use Rattle.part97.specs.declared.Finding.{Finding}
+use Rattle.ceiling.specs.Ceiling.{noDecision, joinedOf, climbAfter, wentOn, Stepped, rungJudged, endedOf as climbEnded}
 use Rattle.ceiling.specs.declared.Rung.{Rung}
 use Rattle.ceiling.specs.declared.Rung.the-variants.{Fastest}
 use Rattle.ceiling.specs.declared.Step.{Step}
+use Rattle.ceiling.specs.declared.Step.the-variants.{Passed, Stopped}
 use Rattle.walk.specs.Walk.{stateValid, envelopeSoFar, rungSoFar, climbSoFar, endedOf, goesOn, stepNone, stepJudged, stepBy}
 use Rattle.walk.specs.declared.WalkState.{WalkState}
 use Rattle.walk.specs.declared.StepAnswer.{StepAnswer}
@@ -32,52 +34,52 @@ module _ (judge : Edges → Decision) (burst : ℕ → Edges) (n : ℕ) (w : Wal
   unfolding stepBy
   there h = rw (lt-ltb _ _ h)
 
-  module _ (t : Step) (h : w .place < n) (e : t ≡ rungStep judge (envelopeSoFar w) (burst (w .place))) where
-    blocked-is : isBlocked (judge (joinedOf (envelopeSoFar w) (burst (w .place))) .verdict) ≡ t .blocked
-    unfolding rungStep
-    blocked-is = sym (ap (λ (x : Step). x .blocked) e)
+  abbrev pub StepHere : (Edges → Finding → Decision) → Step → Type 0
+  StepHere lead t = Stepped judge lead (envelopeSoFar w) (burst (w .place)) t
 
-    envelope-is : joinedOf (envelopeSoFar w) (burst (w .place)) ≡ t .envelope
-    unfolding rungStep
-    envelope-is = sym (ap (λ (x : Step). x .envelope) e)
-
+  module _ (lead : Edges → Finding → Decision) (h : w .place < n) where
     -- the climb after the rung
     after-blocked :
-        t .blocked ≡ true
-        → rungJudged judge (climbSoFar w) (w .place) (burst (w .place)) ≡ climbEnded (rungSoFar (w .place)) (t .envelope) (judge (t .envelope))
+        (x : Edges) (f : Finding) → StepHere lead (Stopped x f)
+        → rungJudged judge (climbSoFar w) (w .place) (burst (w .place)) ≡ climbEnded (rungSoFar (w .place)) x (lead x f)
     unfolding rungJudged climbAfter
-    after-blocked q =
-        rw (blocked-is ∙ q) (ap (λ (x : Edges). climbEnded (rungSoFar (w .place)) x (judge x)) envelope-is)
+    after-blocked x f e =
+        rw (← e .reached) (rw (← e .blocks) (ap (climbEnded (rungSoFar (w .place)) x) (sym (e .leads x f refl))))
 
-    after-free : t .blocked ≡ false → rungJudged judge (climbSoFar w) (w .place) (burst (w .place)) ≡ wentOn (w .place) (t .envelope)
+    after-free : (x : Edges) → StepHere lead (Passed x) → rungJudged judge (climbSoFar w) (w .place) (burst (w .place)) ≡ wentOn (w .place) x
     unfolding rungJudged climbAfter
-    after-free q = rw (blocked-is ∙ q) (ap (wentOn (w .place)) envelope-is)
+    after-free x e = rw (← e .reached) (rw (← e .blocks))
 
     -- "A walk ends with its first blocked rung …"
-    pub step-blocked : t .blocked ≡ true → stepBy judge burst n w ≡ gives (endedOf w) true (rungSoFar (w .place)) true (judge (t .envelope))
+    pub step-blocked :
+        (x : Edges) (f : Finding) → StepHere lead (Stopped x f)
+        → stepBy judge burst n w ≡ gives (endedOf w) true (rungSoFar (w .place)) true (lead x f)
     unfolding stepJudged climbEnded
-    step-blocked q = there h ∙ ap (stepJudged w n) (after-blocked q)
+    step-blocked x f e = there h ∙ ap (stepJudged w n) (after-blocked x f e)
 
     -- "… or its last rung"
-    pub step-last : t .blocked ≡ false → n ≤ w .place + 1 → stepBy judge burst n w ≡ gives (endedOf w) true (Fastest (w .place)) false noDecision
+    pub step-last :
+        (x : Edges) → StepHere lead (Passed x) → n ≤ w .place + 1
+        → stepBy judge burst n w ≡ gives (endedOf w) true (Fastest (w .place)) false noDecision
     unfolding stepJudged wentOn
-    step-last q last = there h ∙ ap (stepJudged w n) (after-free q) ∙ go (ltb (w .place + 1) n) (le-ltb _ _ last)
+    step-last x e last = there h ∙ ap (stepJudged w n) (after-free x e) ∙ go (ltb (w .place + 1) n) (le-ltb _ _ last)
       where
         go :
             (b : Bool) → b ≡ false
-            → gives (cond (false || not b) (endedOf w) (goesOn w (t .envelope))) (false || not b) (Fastest (w .place)) false noDecision
+            → gives (cond (false || not b) (endedOf w) (goesOn w x)) (false || not b) (Fastest (w .place)) false noDecision
             ≡ gives (endedOf w) true (Fastest (w .place)) false noDecision
         go true p = absurd (true≢false p)
         go false p = refl
 
-    pub step-on : t .blocked ≡ false → w .place + 1 < n → stepBy judge burst n w ≡ gives (goesOn w (t .envelope)) false (Fastest (w .place)) false noDecision
+    pub step-on :
+        (x : Edges) → StepHere lead (Passed x) → w .place + 1 < n → stepBy judge burst n w ≡ gives (goesOn w x) false (Fastest (w .place)) false noDecision
     unfolding stepJudged wentOn
-    step-on q more = there h ∙ ap (stepJudged w n) (after-free q) ∙ go (ltb (w .place + 1) n) (lt-ltb _ _ more)
+    step-on x e more = there h ∙ ap (stepJudged w n) (after-free x e) ∙ go (ltb (w .place + 1) n) (lt-ltb _ _ more)
       where
         go :
             (b : Bool) → b ≡ true
-            → gives (cond (false || not b) (endedOf w) (goesOn w (t .envelope))) (false || not b) (Fastest (w .place)) false noDecision
-            ≡ gives (goesOn w (t .envelope)) false (Fastest (w .place)) false noDecision
+            → gives (cond (false || not b) (endedOf w) (goesOn w x)) (false || not b) (Fastest (w .place)) false noDecision
+            ≡ gives (goesOn w x) false (Fastest (w .place)) false noDecision
         go true p = refl
         go false p = absurd (true≢false (sym p))
 

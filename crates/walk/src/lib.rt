@@ -4,6 +4,7 @@
 use ceiling::CeilingAnswer;
 use ceiling::Envelope;
 use ceiling::Rung;
+use ceiling::Step;
 use codes::Checked;
 use codes::Direction;
 use occupancy::Edges;
@@ -279,37 +280,37 @@ fn step_by(
         return step_none(w);
     }
     let more = ceiling::burst(ordinary, floor, rungs, floors, place);
-    let step = ceiling::rung_step(image, s, direction, envelope_so_far(w), more);
-    let reached = step.envelope;
-    if step.blocked {
-        return StepAnswer {
+    match ceiling::rung_step(image, s, direction, envelope_so_far(w), more) {
+        Step::Stopped(reached, f) => StepAnswer {
             state: ended(w),
             over: true,
             ceiling: CeilingAnswer {
                 refusal: Checked::Accepted,
                 rung: rung_so_far(w.place),
                 limited: true,
-                limit: ceiling::rung_decision(image, s, direction, reached),
+                limit: ceiling::rung_decision(image, s, direction, reached, f),
             },
-        };
-    }
-    let ceiling = CeilingAnswer {
-        refusal: Checked::Accepted,
-        rung: Rung::Fastest(place),
-        limited: false,
-        limit: decision::refused(0),
-    };
-    if count <= place + 1 {
-        return StepAnswer {
-            state: ended(w),
-            over: true,
-            ceiling,
-        };
-    }
-    StepAnswer {
-        state: goes_on(w, reached),
-        over: false,
-        ceiling,
+        },
+        Step::Passed(reached) => {
+            let ceiling = CeilingAnswer {
+                refusal: Checked::Accepted,
+                rung: Rung::Fastest(place),
+                limited: false,
+                limit: decision::refused(0),
+            };
+            if count <= place + 1 {
+                return StepAnswer {
+                    state: ended(w),
+                    over: true,
+                    ceiling,
+                };
+            }
+            StepAnswer {
+                state: goes_on(w, reached),
+                over: false,
+                ceiling,
+            }
+        }
     }
 }
 

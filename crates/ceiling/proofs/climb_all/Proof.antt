@@ -1,11 +1,11 @@
 -- Before rung i the loop holds the climb over the first i rungs, and it goes on. At the first blocked rung it is over.
 use Prim.Native.Nat.{_-_}
-use mathlib.Core.Path.{ap, _∙_}
+use mathlib.Core.Path.{refl}
 use native.Mathlib.Omega.{arith}
 use borrow.Author.Needs.{needs}
 use Rattle.table.specs.Table.{tableOf}
-use Rattle.ceiling.specs.Ceiling.{endedOf, judgeBy, burstOf, rungStep}
-use Rattle.ceiling.specs.Laws.{Free, free-start, free-again, free-over, climb-done}
+use Rattle.ceiling.specs.Ceiling.{endedOf, judgeBy, burstOf}
+use Rattle.ceiling.specs.Laws.{Free, free-start, step-of, free-again, free-over, climb-done}
 use Rattle.ceiling.proofs.climb_all.Statement.{statement}
 use Rattle.ceiling.proofs.climb_all.Tie as tie
 
@@ -25,21 +25,27 @@ burst-requires c κs = (omega arith, omega (arith, c .before .before .before .be
 rung-step-requires : tie.Need-rung-step-requires Inv-loop μ-loop
 rung-step-requires c κs = c .before .before .before .before .before .before .pre .0
 
+enum-known-reached : tie.Need-enum-known-reached Inv-loop μ-loop
+enum-known-reached c = search needs
+
 rung-decision-requires : tie.Need-rung-decision-requires Inv-loop μ-loop
-rung-decision-requires c κs = c .before .before .before .before .before .before .before .before .before .pre .0
+rung-decision-requires c κs = c .before .before .before .before .before .before .before .before .before .before .pre .0
 
 returns : tie.Need-returns Inv-loop μ-loop
 unfolding endedOf
 returns c =
     rw (c .rung-decision .ensures)
-    (free-over _ _ _ _ _ _ _ (c .before .before .before .before .before .before .loop .inv) (c .before .before .before .before .before .loop-test .taken)
-    (c .before .before .before .rung-step .ensures ∙ ap (rungStep _ _) (c .before .before .before .before .burst .ensures)) (c .before .if1 .taken))
+    (free-over _ _ _ _ _ _ _ (c .before .before .before .before .before .before .before .loop .inv) (c .before .before .before .before .before .before .loop-test .taken) _ _
+    (step-of refl (c .before .before .before .before .before .burst .ensures) (c .before .before .reached .given .1) (c .before .before .before .before .rung-step .ensures)))
+
+enum-known-reached-2 : tie.Need-enum-known-reached-2 Inv-loop μ-loop
+enum-known-reached-2 c = search needs
 
 add-i : tie.Need-add-i Inv-loop μ-loop
 add-i c = omega (
   arith,
-  c .before .before .before .before .loop-test .taken,
-  c .before .before .before .before .before .before .before .before .before .good .1 .1 .1 .1 .1 .0,
+  c .before .before .before .before .before .loop-test .taken,
+  c .before .before .before .before .before .before .before .before .before .before .good .1 .1 .1 .1 .1 .0,
 )
 
 loop-less : tie.Need-loop-less Inv-loop μ-loop
@@ -47,8 +53,8 @@ loop-less c = omega arith
 
 loop-again : tie.Need-loop-again Inv-loop μ-loop
 loop-again c =
-    free-again _ _ _ _ _ _ _ (c .before .before .before .before .before .loop .inv) (c .before .before .before .before .loop-test .taken)
-    (c .before .before .rung-step .ensures ∙ ap (rungStep _ _) (c .before .before .before .burst .ensures)) (c .if1 .left)
+    free-again _ _ _ _ _ _ _ (c .before .before .before .before .before .before .loop .inv) (c .before .before .before .before .before .loop-test .taken) _
+    (step-of refl (c .before .before .before .before .burst .ensures) (c .before .reached2 .given .1) (c .before .before .before .rung-step .ensures))
 
 refused-requires : tie.Need-refused-requires Inv-loop μ-loop
 refused-requires c κs = search needs
@@ -65,8 +71,10 @@ climb-all-spec =
     loop-holds
     burst-requires
     rung-step-requires
+    enum-known-reached
     rung-decision-requires
     returns
+    enum-known-reached-2
     add-i
     loop-less
     loop-again

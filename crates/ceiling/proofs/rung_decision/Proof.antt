@@ -1,14 +1,15 @@
--- The verdict's own decision, on data.
-use Rattle.ceiling.specs.Ceiling.{judgeBy}
+-- The answer from what stopped the step.
+use Rattle.ceiling.specs.Ceiling.{leadBy}
+use borrow.Author.Needs.{needs}
 use Rattle.ceiling.proofs.rung_decision.Statement.{statement}
 use Rattle.ceiling.proofs.rung_decision.Tie as tie
 
-decide-requires : tie.Need-decide-requires
-decide-requires c κs = c .before .pre
+answer-requires : tie.Need-answer-requires
+answer-requires c κs = search needs
 
 returns : tie.Need-returns
-unfolding judgeBy
-returns c = c .decide .ensures
+unfolding leadBy
+returns c = c .answer .ensures
 
 pub rung-decision-spec : {M : Type 1} → statement M
-rung-decision-spec = tie.close (tie.spec decide-requires returns)
+rung-decision-spec = tie.close (tie.spec answer-requires returns)
