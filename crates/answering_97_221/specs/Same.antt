@@ -75,7 +75,8 @@ use Rattle.verdict.specs.Verdict.{signalOf, caseOf, withControl, withLicense, w
 use Rattle.verdict.specs.Verdict.{evaluateTests, unlessRefused, evaluateOf}
 use Rattle.verdict.specs.declared.Ready.{Ready}
 use Rattle.verdict.specs.declared.Ready.the-variants.{Met, Missing}
-use Rattle.ceiling.specs.Ceiling.{burstOf, judgeBy, climbed, ceilingTests, ceilingUnlessRefused, ceilingOf}
+use Rattle.ceiling.specs.Ceiling.{judgeBy, climbed, ceilingUnlessRefused, ceilingOf}
+use Rattle.rungs.specs.Rungs.{burstOf, ceilingTests}
 use Rattle.ceiling.specs.declared.CeilingAnswer.{CeilingAnswer}
 use Rattle.dial_rows.specs.Dials.{requestOf, rowsOf}
 use Rattle.rows.specs.declared.SafeDial.{SafeDial}

@@ -1,35 +1,31 @@
 -- The ceiling: rungs are climbed from the slowest on, each judged as data with its control frame and every slower one, up to the
 -- first that is blocked. A climb is a fold of a one-rung step on a record by value.
-use Prim.Native.Nat.{ℕ, zero, suc, _+_, _*_, _/_, _%_}
-use mathlib.Core.Bool.{Bool, true, false, not, cond, _||_}
-use mathlib.Core.List.{List, [], _∷_, _++_}
+use Prim.Native.Nat.{ℕ, zero, suc, _/_}
+use mathlib.Core.Bool.{Bool, true, false, cond}
+use mathlib.Core.List.{List}
 use mathlib.Core.Path.{_≡_}
-use lib.Dec.{eqb, ltb}
 use lib.IntN.{ℤ, pos, negsuc}
-use lib.ListN.{length, getD}
-use lib.Ieee.{Float, nan}
-use Rattle.figures.specs.Figure.{limit40, inSize}
-use Rattle.codes.specs.Read.{directionValid, directionOf}
-use Rattle.codes.specs.Refusal.{Test, test, refusalOf}
+use lib.ListN.{length}
+use lib.Ieee.{Float}
+use Rattle.codes.specs.Read.{directionOf}
+use Rattle.codes.specs.Refusal.{refusalOf}
 use Rattle.codes.specs.declared.Checked.{Checked}
 use Rattle.codes.specs.declared.Checked.the-variants.{Accepted, Refused}
 use Rattle.codes.specs.declared.EmissionKind.the-variants.{Data}
 use Rattle.codes.specs.declared.Direction.{Direction}
-use Rattle.profile.specs.Range.{range}
 use Rattle.occupancy.specs.Edges.{unionOf}
 use Rattle.occupancy.specs.declared.Edges.{Edges}
-use Rattle.scan.specs.First.{some}
 use Rattle.station.specs.Station.{situationOf}
 use Rattle.station.specs.declared.StationRecord.{StationRecord}
 use Rattle.station.specs.declared.Situation.{Situation}
-use Rattle.layout.specs.Bytes.{byteAt}
 use Rattle.table.specs.Table.{Table, tableOf}
-use Rattle.entry.specs.Entry.{entryTests, edgesValid, edgesRead}
+use Rattle.entry.specs.Entry.{edgesRead}
 use Rattle.decision.specs.Decision.{isBlocked, refusedOf}
 use Rattle.decision.specs.declared.Decision.{Decision}
 use Rattle.part97.specs.declared.Finding.{Finding}
 use Rattle.verdict.specs.Verdict.{decideOf}
 use Rattle.barred.specs.Barring.{ledTo}
+use Rattle.rungs.specs.Rungs.{burstOf, ceilingTests}
 use Rattle.ceiling.specs.declared.Rung.{Rung}
 use Rattle.ceiling.specs.declared.Rung.the-variants.{Fastest, NoRung}
 use Rattle.ceiling.specs.declared.Envelope.{Envelope}
@@ -38,27 +34,6 @@ use Rattle.ceiling.specs.declared.Step.{Step}
 use Rattle.ceiling.specs.declared.Step.the-variants.{Passed, Stopped}
 use Rattle.ceiling.specs.declared.Climb.{Climb}
 use Rattle.ceiling.specs.declared.CeilingAnswer.{CeilingAnswer}
-
--- a figure of the rungs
-abbrev pub figureAt : List Float → ℕ → Float
-figureAt l i = getD l i nan
-
--- "Rungs are a lent run of f64, four figures a rung (power, spectral)": the edges of rung k, as they are read
-unfoldable pub rungOf : List Float → ℕ → Edges
-rungOf l k =
-    edgesRead
-    (record {
-      power = range (figureAt l (4 * k)) (figureAt l (4 * k + 1));
-      spectral = range (figureAt l (4 * k + 2)) (figureAt l (4 * k + 3));
-    })
-
--- "with a floor byte each (1 joins the floor control edges, 0 the ordinary ones)"
-abbrev pub controlEdges : Edges → Edges → ℕ → Edges
-controlEdges ordinary floor mark = cond (eqb mark 1) floor ordinary
-
--- rung k with its control frame
-unfoldable pub burstOf : Edges → Edges → List Float → List ℕ → ℕ → Edges
-burstOf ordinary floor rungs floors k = unionOf (rungOf rungs k) (controlEdges ordinary floor (byteAt floors k))
 
 -- "The envelope gathers rung and control edges."
 abbrev pub joinedOf : Envelope → Edges → Edges
@@ -119,34 +94,6 @@ climbStep judge c k more = cond (c .limited) c (rungJudged judge c k more)
 unfoldable pub climbed : (Edges → Decision) → (ℕ → Edges) → ℕ → Climb
 climbed judge burst zero = climbStart
 climbed judge burst (suc n) = climbStep judge (climbed judge burst n) n (burst n)
-
--- "15 an edge not finite or above 2^40 in size": every figure of the rungs, also past the last whole four, and both control frames
-abbrev pub unsizedAt : List Float → ℕ → Bool
-unsizedAt rungs i = not (inSize limit40 (figureAt rungs i))
-
-abbrev pub anyUnsized : List Float → Bool
-anyUnsized rungs = some (unsizedAt rungs) (length rungs)
-
-unfoldable pub badEdges : Edges → Edges → List Float → Bool
-badEdges ordinary floor rungs = anyUnsized rungs || (not (edgesValid ordinary) || not (edgesValid floor))
-
--- "16 rungs not in fours, over 256, or floor bytes not one each of 0 or 1"
-abbrev pub unmarkedAt : List ℕ → ℕ → Bool
-unmarkedAt floors i = ltb 1 (byteAt floors i)
-
-abbrev pub anyUnmarked : List ℕ → Bool
-anyUnmarked floors = some (unmarkedAt floors) (length floors)
-
-unfoldable pub badRungs : List Float → List ℕ → Bool
-badRungs rungs floors =
-    not (eqb (length rungs % 4) 0) || (ltb 256 (length rungs / 4) || (not (eqb (length floors) (length rungs / 4)) || anyUnmarked floors))
-
--- "Order: 20, 21, 22, 1 to 14, 15, 16 …"
-abbrev pub rungTests : Edges → Edges → List Float → List ℕ → List Test
-rungTests ordinary floor rungs floors = test 15 (badEdges ordinary floor rungs) ∷ test 16 (badRungs rungs floors) ∷ []
-
-abbrev pub ceilingTests : StationRecord → ℕ → Edges → Edges → List ℕ → List Float → List ℕ → List Test
-ceilingTests r direction ordinary floor l rungs floors = entryTests r (directionValid direction) l ++ rungTests ordinary floor rungs floors
 
 -- the answer of a climb, or the refusal: its number, no rung, and a limit that says the same: the number, Blocked, all else absent
 abbrev pub ceilingUnlessRefused : Checked → Climb → CeilingAnswer

@@ -1,19 +1,8 @@
 -- The climb by its laws, for the loop that makes it.
-use Prim.Native.Nat.{ℕ, zero, suc, _+_, _/_, _%_, _<_, _≤_, _-_}
-use mathlib.Core.Bool.{Bool, true, false, not, cond, _||_, true≢false}
-use mathlib.Core.List.{List}
+use Prim.Native.Nat.{ℕ, zero, suc, _+_, _<_, _≤_, _-_}
+use mathlib.Core.Bool.{Bool, true, false, cond, true≢false}
 use mathlib.Core.Path.{_≡_, refl, sym, ap, subst, _∙_}
 use native.Mathlib.Omega.{arith}
-use borrow.Author.Tests.{eqb-true}
-use lib.Dec.{eqb, ltb}
-use lib.ListN.{length}
-use lib.Ieee.{Float}
-use Rattle.codes.specs.Read.{directionValid}
-use Rattle.codes.specs.Refusal.{refusalOf}
-use Rattle.codes.specs.Laws.{refusal-both, none-fails}
-use Rattle.codes.specs.declared.Checked.the-variants.{Accepted}
-use Rattle.station.specs.declared.StationRecord.{StationRecord}
-use Rattle.entry.specs.Entry.{entryTests}
 use Rattle.occupancy.specs.declared.Edges.{Edges}
 use Rattle.scan.specs.Laws.{cond-yes, cond-not}
 use Rattle.decision.specs.Decision.{isBlocked}
@@ -23,7 +12,6 @@ use Rattle.barred.specs.Barring.{bars, Barred}
 use Rattle.barred.specs.declared.Bar.{Bar}
 use Rattle.barred.specs.declared.Bar.the-variants.{By, Free as NothingBars}
 use Rattle.ceiling.specs.Ceiling.{noDecision, climbStart, joinedOf, endedOf, wentOn, climbAfter, stepEnvelope, stops, Stepped, rungJudged, climbStep, climbed}
-use Rattle.ceiling.specs.Ceiling.{anyUnmarked, badRungs, rungTests, ceilingTests}
 use Rattle.ceiling.specs.declared.Climb.{Climb}
 use Rattle.ceiling.specs.declared.Step.{Step}
 use Rattle.ceiling.specs.declared.Step.the-variants.{Passed, Stopped}
@@ -149,23 +137,3 @@ module _ (judge : Edges → Decision) (burst : ℕ → Edges) (n : ℕ) where
     free-over x f e =
         ap (endedOf rung x) (e .leads x f refl)
         ∙ climb-over judge burst n i (freeClimb envelope rung) (after rung i x true) p h (by-step x true (e .reached) (e .blocks)) refl
-
--- Accepted, a call has one floor byte for each rung.
-one-each : (rungs : List Float) (floors : List ℕ) → badRungs rungs floors ≡ false → length floors ≡ length rungs / 4
-unfolding badRungs
-one-each rungs floors e =
-    eqb-true _ _ (go (eqb (length rungs % 4) 0) (ltb 256 (length rungs / 4)) (eqb (length floors) (length rungs / 4)) (anyUnmarked floors) e)
-  where
-    go : (a b c d : Bool) → not a || (b || (not c || d)) ≡ false → c ≡ true
-    go false b c d q = absurd (true≢false q)
-    go true true c d q = absurd (true≢false q)
-    go true false false d q = absurd (true≢false q)
-    go true false true d q = refl
-
-pub rungs-marked :
-    (r : StationRecord) (direction : ℕ) (ordinary floor : Edges) (l : List ℕ) (rungs : List Float) (floors : List ℕ)
-    → refusalOf (ceilingTests r direction ordinary floor l rungs floors) ≡ Accepted → length floors ≡ length rungs / 4
-rungs-marked r direction ordinary floor l rungs floors e =
-    let n = none-fails (rungTests ordinary floor rungs floors)
-    (refusal-both (entryTests r (directionValid direction) l) (rungTests ordinary floor rungs floors) e .1) in
-    one-each rungs floors (n .1 .0)

@@ -24,7 +24,8 @@ use Rattle.entry.specs.Entry.{edgesRead}
 use Rattle.decision.specs.Decision.{isBlocked, refusedOf}
 use Rattle.decision.specs.declared.Decision.{Decision}
 use Rattle.ceiling.specs.Ceiling.{joinedOf, noDecision, climbStart, endedOf, wentOn, climbAfter, judgeBy, rungJudged}
-use Rattle.ceiling.specs.Ceiling.{climbStep, climbed, burstOf, ceilingTests, ceilingUnlessRefused, ceilingOf}
+use Rattle.ceiling.specs.Ceiling.{climbStep, climbed, ceilingUnlessRefused, ceilingOf}
+use Rattle.rungs.specs.Rungs.{burstOf, ceilingTests}
 use Rattle.ceiling.specs.declared.Rung.{Rung}
 use Rattle.ceiling.specs.declared.Rung.the-variants.{Fastest, NoRung}
 use Rattle.ceiling.specs.declared.Envelope.{Envelope}

@@ -1,5 +1,5 @@
-// The ceiling: the fastest rung that may be sent, and the verdict on the first that may not. A public call. It uses figures,
-// codes, occupancy, profile, station, layout, entry, decision, part97 and barred; its definitions use scan and verdict too.
+// The ceiling: the fastest rung that may be sent, and the verdict on the first that may not. A public call. It uses codes,
+// occupancy, station, entry, decision, part97, barred and rungs; its definitions use layout, table and verdict, its laws scan.
 use barred::Bar;
 use codes::Checked;
 use codes::Direction;
@@ -7,18 +7,16 @@ use codes::EmissionKind;
 use decision::Decision;
 use occupancy::Edges;
 use part97::Finding;
-use profile::Range;
 use station::Situation;
 use station::StationRecord;
-ghost use Prim.Native.Nat.{_+_, _*_, _<_, _/_};
+ghost use Prim.Native.Nat.{_/_};
 ghost use mathlib.Core.Path.{_≡_};
 ghost use lib.ListN.{length};
-ghost use Rattle.codes.specs.Refusal.{refusalOf};
 ghost use Rattle.codes.specs.declared.Policy.the-variants.{Rules};
 ghost use Rattle.layout.specs.Form.{Whole};
 ghost use Rattle.table.specs.Table.{tableOf};
-ghost use Rattle.ceiling.specs.Ceiling.{figureAt, rungOf, controlEdges, burstOf, joinedOf, judgeBy, leadBy, Stepped, climbed};
-ghost use Rattle.ceiling.specs.Ceiling.{anyUnsized, anyUnmarked, badEdges, badRungs, ceilingTests, ceilingOf};
+ghost use Rattle.rungs.specs.Rungs.{burstOf};
+ghost use Rattle.ceiling.specs.Ceiling.{joinedOf, judgeBy, leadBy, Stepped, climbed, ceilingOf};
 
 // The fastest rung allowed.
 pub enum Rung {
@@ -54,130 +52,6 @@ pub struct CeilingAnswer {
     // refusal it has the refusal's number. Its verdict is Blocked in every answer.
     pub limited: bool,
     pub limit: Decision,
-}
-
-fn figure_at(s: &[f64], at: usize) -> f64
-    requires { ⌜ at < length (now s) ⌝ }
-    ensures { λ x. ⌜ x ≡ figureAt (now (s .entry)) at ⌝ }
-{
-    s[at]
-}
-
-// Whether some figure is not finite or above 2^40 in size.
-fn any_unsized(rungs: &[f64]) -> bool
-    ensures { λ x. ⌜ x ≡ anyUnsized (now (rungs .entry)) ⌝ }
-{
-    let mut i: usize = 0;
-    while i < rungs.len() {
-        if !figures::in_size(figures::LIMIT, figure_at(rungs, i)) {
-            return true;
-        }
-        i += 1;
-    }
-    false
-}
-
-// Whether some floor byte is neither 0 nor 1.
-fn any_unmarked(floors: &[u8]) -> bool
-    ensures { λ x. ⌜ x ≡ anyUnmarked (now (floors .entry)) ⌝ }
-{
-    let mut i: usize = 0;
-    while i < floors.len() {
-        if layout::byte_at(floors, i) > 1 {
-            return true;
-        }
-        i += 1;
-    }
-    false
-}
-
-// Refusal 15: an edge.
-fn bad_edges(ordinary: Edges, floor: Edges, rungs: &[f64]) -> bool
-    ensures { λ x. ⌜ x ≡ badEdges ordinary floor (now (rungs .entry)) ⌝ }
-{
-    if any_unsized(rungs) {
-        return true;
-    }
-    if !entry::edges_valid(ordinary) {
-        return true;
-    }
-    !entry::edges_valid(floor)
-}
-
-// Refusal 16: the rungs and their floor bytes.
-fn bad_rungs(rungs: &[f64], floors: &[u8]) -> bool
-    ensures { λ x. ⌜ x ≡ badRungs (now (rungs .entry)) (now (floors .entry)) ⌝ }
-{
-    if rungs.len() % 4 != 0 {
-        return true;
-    }
-    if rungs.len() / 4 > 256 {
-        return true;
-    }
-    if floors.len() != rungs.len() / 4 {
-        return true;
-    }
-    any_unmarked(floors)
-}
-
-// The refusals in order: 20 to 22, 1 to 14, 15, 16.
-pub fn ceiling_refusals(
-    r: StationRecord,
-    direction: u8,
-    ordinary: Edges,
-    floor: Edges,
-    image: &[u8],
-    rungs: &[f64],
-    floors: &[u8],
-) -> Checked
-    ensures { λ x. ⌜ x ≡ refusalOf (ceilingTests r direction ordinary floor (now (image .entry)) (now (rungs .entry)) (now (floors .entry))) ⌝ }
-{
-    match entry::admit(r, codes::direction_valid(direction), image) {
-        Checked::Refused(n) => Checked::Refused(n),
-        Checked::Accepted => {
-            if bad_edges(ordinary, floor, rungs) {
-                return Checked::Refused(15);
-            }
-            if bad_rungs(rungs, floors) {
-                return Checked::Refused(16);
-            }
-            Checked::Accepted
-        }
-    }
-}
-
-// The edges of rung k.
-fn rung_edges(rungs: &[f64], k: usize) -> Edges
-    requires { ⌜ 4 * k + 3 < length (now rungs) ⌝ }
-    ensures { λ x. ⌜ x ≡ rungOf (now (rungs .entry)) k ⌝ }
-{
-    let at = 4 * k;
-    let power = Range {
-        low_hz: figure_at(rungs, at),
-        high_hz: figure_at(rungs, at + 1),
-    };
-    let spectral = Range {
-        low_hz: figure_at(rungs, at + 2),
-        high_hz: figure_at(rungs, at + 3),
-    };
-    entry::edges_read(Edges { power, spectral })
-}
-
-// The control frame that goes with a rung, by its floor byte.
-fn control_edges(ordinary: Edges, floor: Edges, mark: u8) -> Edges
-    ensures { λ x. ⌜ x ≡ controlEdges ordinary floor mark ⌝ }
-{
-    if mark == 1 { floor } else { ordinary }
-}
-
-// Rung k with its control frame.
-pub fn burst(ordinary: Edges, floor: Edges, rungs: &[f64], floors: &[u8], k: usize) -> Edges
-    requires { ⌜ (4 * k + 3 < length (now rungs)) × (k < length (now floors)) ⌝ }
-    ensures { λ x. ⌜ x ≡ burstOf ordinary floor (now (rungs .entry)) (now (floors .entry)) k ⌝ }
-{
-    let rung = rung_edges(rungs, k);
-    let control = control_edges(ordinary, floor, layout::byte_at(floors, k));
-    rung.union(control)
 }
 
 // An envelope, with one burst more.
@@ -263,7 +137,7 @@ fn climb_all(
     let mut rung = Rung::NoRung;
     let mut i: usize = 0;
     while i < count {
-        let more = burst(ordinary, floor, rungs, floors, i);
+        let more = rungs::burst(ordinary, floor, rungs, floors, i);
         match rung_step(image, s, direction, envelope, more) {
             Step::Stopped(reached, f) => {
                 let limit = rung_decision(image, s, direction, reached, f);
@@ -301,7 +175,7 @@ pub fn ceiling(
 ) -> CeilingAnswer
     ensures { λ x. ⌜ x ≡ ceilingOf r direction ordinary floor (now (image .entry)) (now (rungs .entry)) (now (floors .entry)) ⌝ }
 {
-    match ceiling_refusals(r, direction, ordinary, floor, image, rungs, floors) {
+    match rungs::ceiling_refusals(r, direction, ordinary, floor, image, rungs, floors) {
         Checked::Refused(n) => CeilingAnswer {
             refusal: Checked::Refused(n),
             rung: Rung::NoRung,

@@ -27,13 +27,14 @@ use Rattle.demand_3.specs.Words.{tableInEighths, dialInEighths, tuned, audioOf,
 use Rattle.demand_3.specs.Words.{signalMet, verdictAt, sent, allows, distanceAt, nought, answers, NoneOutside}
 use Rattle.demand_3.specs.Grounds.{tidy-met}
 use Rattle.demand_3.specs.Theorem.{demand-3}
-use Rattle.flat.specs.Flat.{stationRecordOf, edgesOf, flatOf, tidinessFlat, FlatDialed, distanceFlat}
+use Rattle.flat.specs.Flat.{stationRecordOf, edgesOf, flatOf}
+use Rattle.flat_answers.specs.Answers.{tidinessFlat, FlatDialed, distanceFlat}
 use Rattle.pamuklid.specs.Safe.{verdict-not-refused, list-not-refused}
 use Rattle.flat.specs.declared.FlatStation.{FlatStation}
 use Rattle.flat.specs.declared.FlatEdges.{FlatEdges}
 use Rattle.flat.specs.declared.FlatDecision.{FlatDecision}
-use Rattle.flat.specs.declared.FlatDials.{FlatDials}
-use Rattle.flat.specs.declared.FlatDistance.{FlatDistance}
+use Rattle.flat_answers.specs.declared.FlatDials.{FlatDials}
+use Rattle.flat_answers.specs.declared.FlatDistance.{FlatDistance}
 
 -- the station at the dial asked
 unfoldable pub tunedFlat : FlatStation → Float → FlatStation

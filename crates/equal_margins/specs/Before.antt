@@ -47,7 +47,8 @@ use Rattle.part97.specs.declared.Case.{Case}
 use Rattle.verdict.specs.Verdict.{signalOf, withControl, withLicense, withSideband, withDial, judgedOf, unruledOf, besideValid, edgeTests, unlessRefused}
 use Rattle.verdict.specs.declared.Ready.{Ready}
 use Rattle.verdict.specs.declared.Ready.the-variants.{Met, Missing}
-use Rattle.ceiling.specs.Ceiling.{burstOf, climbed, rungTests, ceilingUnlessRefused}
+use Rattle.ceiling.specs.Ceiling.{climbed, ceilingUnlessRefused}
+use Rattle.rungs.specs.Rungs.{burstOf, rungTests}
 use Rattle.ceiling.specs.declared.CeilingAnswer.{CeilingAnswer}
 use Rattle.lists.specs.Each.{each}
 use Rattle.rows.specs.declared.SafeDial.{SafeDial}

@@ -42,7 +42,8 @@ use Rattle.decision.specs.Number.{noRule}
 use Rattle.decision.specs.declared.Code.the-variants.{Unmeasured}
 use Rattle.decision.specs.declared.Verdict.the-variants.{Blocked}
 use Rattle.verdict.specs.Verdict.{signalOf, caseOf, readyOf, underRulesOf, unruledOf, decideOf, unlessRefused, besideValid, edgeTests, evaluateOf, unmeasuredOf}
-use Rattle.ceiling.specs.Ceiling.{burstOf, judgeBy, climbed, rungTests, ceilingUnlessRefused, ceilingOf}
+use Rattle.ceiling.specs.Ceiling.{judgeBy, climbed, ceilingUnlessRefused, ceilingOf}
+use Rattle.rungs.specs.Rungs.{burstOf, rungTests}
 use Rattle.rows.specs.declared.SafeDial.{SafeDial}
 use Rattle.dial_rows.specs.Dials.{requestOf, dialRows, pieceRows, automaticRows, cutRows, privilegeRows, privilegesRows, segmentRows, dataRows}
 use Rattle.dial_rows.specs.Dials.{channelFound, channelHolds, channelRow, channelRows, openRows, bandRows, rowsOf}

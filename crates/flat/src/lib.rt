@@ -1,44 +1,32 @@
-// The records of the boundary to C: flat structs of numbers, made from the answers and read into the station record and the edges. It
-// uses codes, profile, occupancy, air, station, fault, tidy, decision, numbers, ceiling, dials, report, census, distance, number_texts,
-// airtime, given, writer, convert, amended, amend and walk.
+// The records of the boundary to C: flat structs of numbers, read into the station record, the edges and a walk's state, and made from decisions
+// and the answers that hold one (flat_answers has the others). It uses codes, profile, occupancy, air, station, decision, numbers, ceiling, walk
+// and walk_step.
 use air::Margins;
-use airtime::Airtime;
 use ceiling::CeilingAnswer;
 use ceiling::Rung;
-use census::Census;
-use codes::Checked;
 use decision::BandNumber;
 use decision::Decision;
 use decision::Guidance;
 use decision::JudgedSegment;
 use decision::MaybeRange;
 use decision::Overshoot;
-use dials::DialList;
-use distance::Distance;
-use fault::Fault;
-use fault::FaultAnswer;
-use given::Fields;
-use number_texts::TextAnswer;
 use occupancy::Edges;
 use profile::Range;
 use profile::RuleName;
-use report::TableReport;
 use station::Figure;
 use station::StationRecord;
-use tidy::Tidiness;
-use walk::StepAnswer;
+use walk_step::StepAnswer;
 use walk::WalkAnswer;
 use walk::WalkState;
-use writer::ImageAnswer;
 ghost use mathlib.Core.Path.{_≡_};
 ghost use mathlib.Core.Bool.{cond};
 ghost use Prim.Native.Nat.{_<_};
 ghost use Rattle.ceiling.specs.Ceiling.{rungNumber};
-ghost use Rattle.flat.specs.Fits.{FaultFits, RungFits, Counted, ReportCounted, Indexed};
-ghost use Rattle.flat.specs.Flat.{stationRecordOf, stationOf, edgesOf, edgesFlat, fieldsOf, rangeFlat, segmentFlat, overshootFlat};
+ghost use Rattle.flat.specs.Fits.{RungFits, Indexed};
+ghost use Rattle.flat.specs.Flat.{stationRecordOf, stationOf, edgesOf, edgesFlat, rangeFlat, segmentFlat, overshootFlat};
 ghost use Rattle.flat.specs.Flat.{guidanceIndex, guidanceFlat, ruleFlat, bandFlat, widthFlat};
-ghost use Rattle.flat.specs.Flat.{faultFlat, tidinessFlat, flatOf, ceilingFlat, dialsFlat, reportFlat, infinityHz, distanceFlat, textFlat};
-ghost use Rattle.flat.specs.Flat.{airtimeFlat, censusFlat, imageFlat, walkOf, walkFlat, walkAnswerFlat, stepFlat};
+ghost use Rattle.flat.specs.Flat.{flatOf, ceilingFlat};
+ghost use Rattle.flat.specs.Flat.{walkOf, walkFlat, walkAnswerFlat, stepFlat};
 
 // The station record: codes and presence bytes as document 01 numbers them, figures whatever they are.
 #[repr(C)]
@@ -64,33 +52,6 @@ pub struct FlatEdges {
     pub power_high: f64,
     pub spectral_low: f64,
     pub spectral_high: f64,
-}
-
-// What an image is written from, beside its records: edition, general block, and the number of records of each table. The watts of
-// edition 1 are not looked at.
-#[repr(C)]
-pub struct FlatFields {
-    pub data_limit: f64,
-    pub elsewhere_limit: f64,
-    pub channel_width: f64,
-    pub carrier_offset: f64,
-    pub carrier_tolerance: f64,
-    pub channel_watts: f64,
-    pub segment_watts: f64,
-    pub edition: u16,
-    pub data_rule: u16,
-    pub elsewhere_rule: u16,
-    pub automatic_rule: u16,
-    pub channels_rule: u16,
-    pub emissions_rule: u16,
-    pub privileges_rule: u16,
-    pub counts: [u16; 9],
-    pub region: u8,
-    pub reading: u8,
-    pub flags: u8,
-    pub channel_band: u8,
-    pub sideband: u8,
-    pub emissions: u8,
 }
 
 // An answer. Absent parts are zero; a refusal has its number, verdict 2 and all else zero.
@@ -161,72 +122,6 @@ pub struct FlatStep {
     pub ceiling: FlatCeiling,
     pub state: FlatWalk,
     pub over: u8,
-}
-
-// Where a table is wrong: place is 0 nowhere, 1 the general block, 2 a record. Where there is no record, table is 255 and record 65,535.
-#[repr(C)]
-pub struct FlatFault {
-    pub record: u16,
-    pub table: u8,
-    pub place: u8,
-    pub refusal: u8,
-}
-
-// The tidy question's answer: tidy is 1 only of an accepted image.
-#[repr(C)]
-pub struct FlatTidiness {
-    pub tidy: u8,
-    pub refusal: u8,
-}
-
-// A dial list: the count of its rows, or the refusal's number and count 0.
-#[repr(C)]
-pub struct FlatDials {
-    pub count: u32,
-    pub refusal: u8,
-}
-
-// A table report: the count of its rows, or the refusal's number and count 0.
-#[repr(C)]
-pub struct FlatReport {
-    pub count: u32,
-    pub refusal: u8,
-}
-
-// An image that was written: its length, or the refusal's number and length 0.
-#[repr(C)]
-pub struct FlatImage {
-    pub length: u32,
-    pub refusal: u8,
-}
-
-// A census: how many dials get each code, code 1 first, or the refusal's number and noughts.
-#[repr(C)]
-pub struct FlatCensus {
-    pub counts: [u32; 25],
-    pub refusal: u8,
-}
-
-// The distance of a dial; where no row counts and on a refusal listed is 0 and the distance infinite.
-#[repr(C)]
-pub struct FlatDistance {
-    pub distance_hz: f64,
-    pub listed: u8,
-    pub refusal: u8,
-}
-
-// A text's answer: the bytes written, or the refusal's number and length 0.
-#[repr(C)]
-pub struct FlatText {
-    pub length: u32,
-    pub refusal: u8,
-}
-
-// Totals of time on the air: how many were written, or the refusal's number and count 0.
-#[repr(C)]
-pub struct FlatAirtime {
-    pub count: u32,
-    pub refusal: u8,
 }
 
 // The parts of an answer, each flat.
@@ -355,34 +250,6 @@ pub fn walk_out(w: WalkState) -> FlatWalk
     }
 }
 
-// The edition and the general block of the fields.
-pub fn fields_in(f: FlatFields) -> Fields
-    ensures { λ r. ⌜ r ≡ fieldsOf f ⌝ }
-{
-    Fields {
-        edition: f.edition,
-        data_limit: f.data_limit,
-        elsewhere_limit: f.elsewhere_limit,
-        channel_width: f.channel_width,
-        carrier_offset: f.carrier_offset,
-        carrier_tolerance: f.carrier_tolerance,
-        channel_watts: f.channel_watts,
-        segment_watts: f.segment_watts,
-        region: f.region,
-        reading: f.reading,
-        flags: f.flags,
-        channel_band: f.channel_band,
-        sideband: f.sideband,
-        emissions: f.emissions,
-        data_rule: f.data_rule,
-        elsewhere_rule: f.elsewhere_rule,
-        automatic_rule: f.automatic_rule,
-        channels_rule: f.channels_rule,
-        emissions_rule: f.emissions_rule,
-        privileges_rule: f.privileges_rule,
-    }
-}
-
 fn range_flat(m: MaybeRange) -> FlatRange
     ensures { λ r. ⌜ r ≡ rangeFlat m ⌝ }
 {
@@ -492,57 +359,6 @@ fn mark(b: bool) -> u8
     ensures { λ r. ⌜ r ≡ cond b 1 0 ⌝ }
 {
     if b { 1 } else { 0 }
-}
-
-// The place of a refusal, flat.
-pub fn fault_flat(a: FaultAnswer) -> FlatFault
-    requires { ⌜ FaultFits (a .fault) ⌝ }
-    ensures { λ r. ⌜ r ≡ faultFlat a ⌝ }
-{
-    let checked = a.refusal;
-    let f = a.fault;
-    let refusal = numbers::refusal_number(checked);
-    let place = fault::fault_number(f);
-    match f {
-        Fault::InRecord(t, i) => FlatFault {
-            record: i as u16,
-            table: t as u8,
-            place,
-            refusal,
-        },
-        Fault::InGeneral => FlatFault {
-            record: 65535,
-            table: 255,
-            place,
-            refusal,
-        },
-        Fault::Nowhere => FlatFault {
-            record: 65535,
-            table: 255,
-            place,
-            refusal,
-        },
-    }
-}
-
-// The tidy question's answer, flat.
-pub fn tidiness_flat(t: Tidiness) -> FlatTidiness
-    ensures { λ r. ⌜ r ≡ tidinessFlat t ⌝ }
-{
-    match t {
-        Tidiness::Untidy => FlatTidiness {
-            tidy: 0,
-            refusal: 0,
-        },
-        Tidiness::Tidy => FlatTidiness {
-            tidy: 1,
-            refusal: 0,
-        },
-        Tidiness::NotJudged(n) => FlatTidiness {
-            tidy: 0,
-            refusal: n,
-        },
-    }
 }
 
 // An answer, flat.
@@ -655,130 +471,5 @@ pub fn step_flat(a: StepAnswer) -> FlatStep
         ceiling: ceiling_flat(ceiling),
         state: walk_out(a.state),
         over: mark(a.over),
-    }
-}
-
-// A dial list's answer, flat.
-pub fn dials_flat(a: DialList) -> FlatDials
-    requires { ⌜ Counted a ⌝ }
-    ensures { λ r. ⌜ r ≡ dialsFlat a ⌝ }
-{
-    match a {
-        DialList::Rows(n) => FlatDials {
-            count: n as u32,
-            refusal: 0,
-        },
-        DialList::Refused(n) => FlatDials {
-            count: 0,
-            refusal: n,
-        },
-    }
-}
-
-// A table report's answer, flat.
-pub fn report_flat(a: TableReport) -> FlatReport
-    requires { ⌜ ReportCounted a ⌝ }
-    ensures { λ r. ⌜ r ≡ reportFlat a ⌝ }
-{
-    match a {
-        TableReport::Rows(n) => FlatReport {
-            count: n as u32,
-            refusal: 0,
-        },
-        TableReport::Refused(n) => FlatReport {
-            count: 0,
-            refusal: n,
-        },
-    }
-}
-
-// The answer of a call that writes an image, flat.
-pub fn image_flat(a: ImageAnswer) -> FlatImage
-    ensures { λ r. ⌜ r ≡ imageFlat a ⌝ }
-{
-    match a {
-        ImageAnswer::Length(n) => FlatImage {
-            length: n,
-            refusal: 0,
-        },
-        ImageAnswer::Refused(n) => FlatImage {
-            length: 0,
-            refusal: n,
-        },
-    }
-}
-
-// A census, flat.
-pub fn census_flat(c: Census) -> FlatCensus
-    ensures { λ r. ⌜ r ≡ censusFlat c ⌝ }
-{
-    let refusal = c.refusal;
-    let counts = c.counts;
-    FlatCensus {
-        counts,
-        refusal: numbers::refusal_number(refusal),
-    }
-}
-
-// No distance: nothing to be near to.
-fn infinity() -> f64
-    ensures { λ r. ⌜ r ≡ infinityHz ⌝ }
-{
-    f64::from_bits(0x7ff0_0000_0000_0000)
-}
-
-// A distance, flat.
-pub fn distance_flat(d: Distance) -> FlatDistance
-    ensures { λ r. ⌜ r ≡ distanceFlat d ⌝ }
-{
-    let none = infinity();
-    match d {
-        Distance::Hertz(x) => FlatDistance {
-            distance_hz: x,
-            listed: 1,
-            refusal: 0,
-        },
-        Distance::NoneListed => FlatDistance {
-            distance_hz: none,
-            listed: 0,
-            refusal: 0,
-        },
-        Distance::Refused(n) => FlatDistance {
-            distance_hz: none,
-            listed: 0,
-            refusal: n,
-        },
-    }
-}
-
-// A text's answer, flat.
-pub fn text_flat(a: TextAnswer) -> FlatText
-    ensures { λ r. ⌜ r ≡ textFlat a ⌝ }
-{
-    match a {
-        TextAnswer::Length(n) => FlatText {
-            length: n,
-            refusal: 0,
-        },
-        TextAnswer::Refused(n) => FlatText {
-            length: 0,
-            refusal: n,
-        },
-    }
-}
-
-// An answer on time on the air, flat.
-pub fn airtime_flat(a: Airtime) -> FlatAirtime
-    ensures { λ r. ⌜ r ≡ airtimeFlat a ⌝ }
-{
-    match a {
-        Airtime::Totals(n) => FlatAirtime {
-            count: n,
-            refusal: 0,
-        },
-        Airtime::Refused(n) => FlatAirtime {
-            count: 0,
-            refusal: n,
-        },
     }
 }

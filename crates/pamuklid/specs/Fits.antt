@@ -50,11 +50,13 @@ use Rattle.dial_rows.specs.declared.Request.{Request}
 use Rattle.dials.specs.List.{rowsWithSideband, rowsWithLicense, rowsWithControl, knownRows, situationRows, listRows, lentTests, listTests, answerOf}
 use Rattle.dials.specs.declared.DialList.{DialList}
 use Rattle.dials.specs.declared.DialList.the-variants.{Rows}
-use Rattle.ceiling.specs.Ceiling.{rungNumber, judgeBy, burstOf, climbed, anyUnmarked, badRungs, rungTests, ceilingTests, ceilingUnlessRefused, ceilingOf}
+use Rattle.ceiling.specs.Ceiling.{rungNumber, judgeBy, climbed, ceilingUnlessRefused, ceilingOf}
+use Rattle.rungs.specs.Rungs.{burstOf, anyUnmarked, badRungs, rungTests, ceilingTests}
 use Rattle.ceiling.specs.Run.{rungBelow, ceiling-run}
 use Rattle.ceiling.specs.declared.Rung.{Rung}
 use Rattle.ceiling.specs.declared.Rung.the-variants.{Fastest, NoRung}
-use Rattle.flat.specs.Fits.{mostRows, Counted, RungFits, FaultFits}
+use Rattle.flat.specs.Fits.{RungFits}
+use Rattle.flat_answers.specs.Fits.{mostRows, Counted, FaultFits}
 
 -- ---- the rows of a list
 

@@ -82,7 +82,8 @@ use Rattle.verdict.specs.Verdict.{unruledOf, decideOf, besideValid, edgeTests, 
 use Rattle.verdict.specs.Laws.{rules-whole}
 use Rattle.verdict.specs.declared.Ready.{Ready}
 use Rattle.verdict.specs.declared.Ready.the-variants.{Met, Missing}
-use Rattle.ceiling.specs.Ceiling.{judgeBy, climbed, rungTests, ceilingTests, ceilingUnlessRefused, ceilingOf}
+use Rattle.ceiling.specs.Ceiling.{judgeBy, climbed, ceilingUnlessRefused, ceilingOf}
+use Rattle.rungs.specs.Rungs.{rungTests, ceilingTests}
 use Rattle.ceiling.specs.Run.{Run, judging, bursts, ceiling-run}
 use Rattle.ceiling.specs.declared.CeilingAnswer.{CeilingAnswer}
 use Rattle.flat.specs.Flat.{guidanceIndex}

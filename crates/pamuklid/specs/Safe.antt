@@ -33,8 +33,9 @@ use Rattle.dials.specs.declared.DialList.the-variants.{Rows}
 use Rattle.distance.specs.declared.Distance.{Distance}
 use Rattle.distance.specs.declared.Distance.the-variants.{Hertz, NoneListed, Refused as NoAnswer}
 use Rattle.numbers.specs.Refusal.{refusalNumber}
-use Rattle.flat.specs.declared.FlatDials.{FlatDials}
-use Rattle.flat.specs.Flat.{flatOf, ceilingFlat, dialsFlat, FlatDialed, infinityHz, distanceFlat}
+use Rattle.flat_answers.specs.declared.FlatDials.{FlatDials}
+use Rattle.flat.specs.Flat.{flatOf, ceilingFlat}
+use Rattle.flat_answers.specs.Answers.{dialsFlat, FlatDialed, infinityHz, distanceFlat}
 use Rattle.pamuklid.specs.Guided.{decision, evaluate-refusal}
 
 -- ---- a refusal's number is at least 1

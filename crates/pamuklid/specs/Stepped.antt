@@ -16,14 +16,15 @@ use Rattle.occupancy.specs.declared.Edges.{Edges}
 use Rattle.station.specs.declared.StationRecord.{StationRecord}
 use Rattle.decision.specs.Decision.{isBlocked}
 use Rattle.decision.specs.declared.Decision.{Decision}
-use Rattle.ceiling.specs.Ceiling.{joinedOf, endedOf as climbEnded, wentOn, climbAfter, rungJudged, ceilingTests}
+use Rattle.ceiling.specs.Ceiling.{joinedOf, endedOf as climbEnded, wentOn, climbAfter, rungJudged}
+use Rattle.rungs.specs.Rungs.{ceilingTests}
 use Rattle.ceiling.specs.Run.{judging, bursts}
 use Rattle.ceiling.specs.declared.CeilingAnswer.{CeilingAnswer}
 use Rattle.ceiling.specs.declared.Climb.{Climb}
 use Rattle.ceiling.specs.declared.Rung.the-variants.{Fastest, NoRung}
-use Rattle.walk.specs.Walk.{rungSoFar, envelopeSoFar, climbSoFar, stepNone, stepJudged, stepBy, refusedStep, stepUnlessRefused, stepUnder, walkImage}
-use Rattle.walk.specs.Walk.{stepTests, stepOf}
-use Rattle.walk.specs.Laws.{valid-place}
+use Rattle.walk_step.specs.Step.{rungSoFar, envelopeSoFar, climbSoFar, stepNone, stepJudged, stepBy, refusedStep, stepUnlessRefused, stepUnder, walkImage}
+use Rattle.walk_step.specs.Step.{stepTests, stepOf}
+use Rattle.walk_step.specs.Laws.{valid-place}
 use Rattle.walk.specs.declared.WalkState.{WalkState}
 use Rattle.flat.specs.Fits.{RungFits, Indexed}
 use Rattle.pamuklid.specs.Fits.{absent-fits}

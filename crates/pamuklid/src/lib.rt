@@ -1,20 +1,20 @@
 // The boundary to C: the public calls, exported, with flat structs of numbers. It uses station, image, fault, tidy, numbers, verdict,
 // ceiling, dials, report, census, distance, number_texts, airtime, writer, convert, amend, walk and flat.
-use flat::FlatAirtime;
+use flat_answers::FlatAirtime;
 use flat::FlatCeiling;
-use flat::FlatCensus;
+use flat_answers::FlatCensus;
 use flat::FlatDecision;
-use flat::FlatDials;
-use flat::FlatDistance;
+use flat_answers::FlatDials;
+use flat_answers::FlatDistance;
 use flat::FlatEdges;
-use flat::FlatFault;
-use flat::FlatFields;
-use flat::FlatImage;
-use flat::FlatReport;
+use flat_answers::FlatFault;
+use flat_answers::FlatFields;
+use flat_answers::FlatImage;
+use flat_answers::FlatReport;
 use flat::FlatStation;
 use flat::FlatStep;
-use flat::FlatText;
-use flat::FlatTidiness;
+use flat_answers::FlatText;
+use flat_answers::FlatTidiness;
 use flat::FlatWalk;
 use flat::FlatWalkAnswer;
 ghost use mathlib.Core.Path.{_≡_};
@@ -29,11 +29,14 @@ ghost use Rattle.given.specs.Given.{runs};
 ghost use Rattle.distance.specs.Distance.{distanceOf};
 ghost use Rattle.number_texts.specs.Text.{atText, khzText, hertzText};
 ghost use Rattle.numbers.specs.Refusal.{refusalNumber};
-ghost use Rattle.flat.specs.Flat.{stationRecordOf, stationOf, edgesOf, faultFlat, tidinessFlat, flatOf};
-ghost use Rattle.flat.specs.Flat.{ceilingFlat, FlatDialed, FlatReported, censusFlat, FlatWritten, FlatRaised, FlatLowered, FlatAmended};
-ghost use Rattle.flat.specs.Flat.{distanceFlat, FlatTexted, FlatTotalled};
+ghost use Rattle.flat.specs.Flat.{stationRecordOf, stationOf, edgesOf, flatOf};
+ghost use Rattle.flat_answers.specs.Answers.{faultFlat, tidinessFlat};
+ghost use Rattle.flat.specs.Flat.{ceilingFlat};
+ghost use Rattle.flat_answers.specs.Answers.{FlatDialed, FlatReported, censusFlat, FlatWritten, FlatRaised, FlatLowered, FlatAmended};
+ghost use Rattle.flat_answers.specs.Answers.{distanceFlat, FlatTexted, FlatTotalled};
 ghost use Rattle.flat.specs.Flat.{walkOf, walkFlat, walkAnswerFlat, stepFlat, versionNumber};
-ghost use Rattle.walk.specs.Walk.{firstState, swapOf, openOf, stepOf};
+ghost use Rattle.walk.specs.Walk.{firstState, swapOf, openOf};
+ghost use Rattle.walk_step.specs.Step.{stepOf};
 
 // The version of this boundary: 0.13.0.
 pub const VERSION: u32 = 1300;
@@ -59,7 +62,7 @@ pub extern "C" fn pamuklid_check(image: &[u8]) -> u8
 pub extern "C" fn pamuklid_fault_of(image: &[u8]) -> FlatFault
     ensures { λ r. ⌜ r ≡ faultFlat (faultOf (now (image .entry))) ⌝ }
 {
-    flat::fault_flat(fault::fault_of(image))
+    flat_answers::fault_flat(fault::fault_of(image))
 }
 
 // Whether an image's table is tidy, or the image's refusal.
@@ -67,7 +70,7 @@ pub extern "C" fn pamuklid_fault_of(image: &[u8]) -> FlatFault
 pub extern "C" fn pamuklid_tidy(image: &[u8]) -> FlatTidiness
     ensures { λ r. ⌜ r ≡ tidinessFlat (tidyOf (now (image .entry))) ⌝ }
 {
-    flat::tidiness_flat(tidy::is_tidy(image))
+    flat_answers::tidiness_flat(tidy::is_tidy(image))
 }
 
 // What an image's table has of overlaps, and of gaps for a licence class, as rows of 24 bytes.
@@ -75,7 +78,7 @@ pub extern "C" fn pamuklid_tidy(image: &[u8]) -> FlatTidiness
 pub extern "C" fn pamuklid_report_of(image: &[u8], license: u8, rows: &mut [u8]) -> FlatReport
     ensures { λ r. ⌜ FlatReported (now (image .entry)) license (now (rows .entry)) (now (rows .exit)) r ⌝ }
 {
-    flat::report_flat(report::report_of(image, license, rows))
+    flat_answers::report_flat(report::report_of(image, license, rows))
 }
 
 // The image of these fields and records, into the bytes lent: three figures, four codes and two rules for each record, the nine tables one
@@ -91,8 +94,8 @@ pub extern "C" fn pamuklid_write(
     ensures { λ r. ⌜ FlatWritten f (runs (now (figures .entry)) (now (codes .entry)) (now (rules .entry))) (now (out .entry)) (now (out .exit)) r ⌝ }
 {
     let counts = f.counts;
-    let fields = flat::fields_in(f);
-    flat::image_flat(writer::write(fields, &counts, figures, codes, rules, out))
+    let fields = flat_answers::fields_in(f);
+    flat_answers::image_flat(writer::write(fields, &counts, figures, codes, rules, out))
 }
 
 // Edition 2 of an image of edition 1, into the bytes lent.
@@ -100,7 +103,7 @@ pub extern "C" fn pamuklid_write(
 pub extern "C" fn pamuklid_raise(image: &[u8], out: &mut [u8]) -> FlatImage
     ensures { λ r. ⌜ FlatRaised (now (image .entry)) (now (out .entry)) (now (out .exit)) r ⌝ }
 {
-    flat::image_flat(convert::raise(image, out))
+    flat_answers::image_flat(convert::raise(image, out))
 }
 
 // Edition 1 of an image of edition 2 whose watts are those of edition 1, into the bytes lent.
@@ -108,7 +111,7 @@ pub extern "C" fn pamuklid_raise(image: &[u8], out: &mut [u8]) -> FlatImage
 pub extern "C" fn pamuklid_lower(image: &[u8], out: &mut [u8]) -> FlatImage
     ensures { λ r. ⌜ FlatLowered (now (image .entry)) (now (out .entry)) (now (out .exit)) r ⌝ }
 {
-    flat::image_flat(convert::lower(image, out))
+    flat_answers::image_flat(convert::lower(image, out))
 }
 
 // The effective image of a day: the base image with the amendments of the list that are in force, into the bytes lent.
@@ -116,7 +119,7 @@ pub extern "C" fn pamuklid_lower(image: &[u8], out: &mut [u8]) -> FlatImage
 pub extern "C" fn pamuklid_amend(image: &[u8], list: &[u8], day: u32, out: &mut [u8]) -> FlatImage
     ensures { λ r. ⌜ FlatAmended (now (image .entry)) (now (list .entry)) day (now (out .entry)) (now (out .exit)) r ⌝ }
 {
-    flat::image_flat(amend::amend(image, list, day, out))
+    flat_answers::image_flat(amend::amend(image, list, day, out))
 }
 
 // The calls that take or give a station record. `_2` is the second layout of FlatStation, with two margins: a program that was compiled
@@ -228,7 +231,7 @@ pub extern "C" fn pamuklid_walk_step(
     let record = flat::station_in(s);
     let ordinary_edges = flat::edges_in(ordinary);
     let floor_edges = flat::edges_in(floor);
-    let answer = walk::step(
+    let answer = walk_step::step(
         state,
         record,
         direction,
@@ -256,7 +259,7 @@ pub extern "C" fn pamuklid_safe_dials_2(
     let record = flat::station_in(s);
     let edges = flat::edges_in(e);
     let answer = dials::safe_dials(record, direction, edges, image, rows);
-    flat::dials_flat(answer)
+    flat_answers::dials_flat(answer)
 }
 
 // How many whole-hertz dials from a first to a last get each code, each taken as the record's dial.
@@ -274,7 +277,7 @@ pub extern "C" fn pamuklid_census_of(
 {
     let record = flat::station_in(s);
     let edges = flat::edges_in(e);
-    flat::census_flat(census::census_of(record, kind, direction, edges, image, first, last))
+    flat_answers::census_flat(census::census_of(record, kind, direction, edges, image, first, last))
 }
 
 // How far a dial stands from the nearest of the first count rows of a list, those of the channel band left out. flags and channel_band
@@ -289,7 +292,7 @@ pub extern "C" fn pamuklid_distance_of(
 ) -> FlatDistance
     ensures { λ r. ⌜ r ≡ distanceFlat (distanceOf «dial_hz» flags «channel_band» count (now (rows .entry))) ⌝ }
 {
-    flat::distance_flat(distance::distance_of(dial_hz, flags, channel_band, count as usize, rows))
+    flat_answers::distance_flat(distance::distance_of(dial_hz, flags, channel_band, count as usize, rows))
 }
 
 // The text of a frequency in kilohertz, with three decimals.
@@ -297,7 +300,7 @@ pub extern "C" fn pamuklid_distance_of(
 pub extern "C" fn pamuklid_text_at(hz: f64, text: &mut [u8]) -> FlatText
     ensures { λ r. ⌜ FlatTexted hz (atText hz) (now (text .entry)) (now (text .exit)) r ⌝ }
 {
-    flat::text_flat(number_texts::at(hz, text))
+    flat_answers::text_flat(number_texts::at(hz, text))
 }
 
 // The text of a frequency in kilohertz, with as many decimals as it needs.
@@ -305,7 +308,7 @@ pub extern "C" fn pamuklid_text_at(hz: f64, text: &mut [u8]) -> FlatText
 pub extern "C" fn pamuklid_text_khz(hz: f64, text: &mut [u8]) -> FlatText
     ensures { λ r. ⌜ FlatTexted hz (khzText hz) (now (text .entry)) (now (text .exit)) r ⌝ }
 {
-    flat::text_flat(number_texts::khz(hz, text))
+    flat_answers::text_flat(number_texts::khz(hz, text))
 }
 
 // The text of a figure in whole hertz.
@@ -313,7 +316,7 @@ pub extern "C" fn pamuklid_text_khz(hz: f64, text: &mut [u8]) -> FlatText
 pub extern "C" fn pamuklid_text_hertz(hz: f64, text: &mut [u8]) -> FlatText
     ensures { λ r. ⌜ FlatTexted hz (hertzText hz) (now (text .entry)) (now (text .exit)) r ⌝ }
 {
-    flat::text_flat(number_texts::hertz(hz, text))
+    flat_answers::text_flat(number_texts::hertz(hz, text))
 }
 
 // Of each record of a log the seconds of its band over itself and the earlier records that start at most 599 seconds before it.
@@ -326,5 +329,5 @@ pub extern "C" fn pamuklid_airtime_of(
 ) -> FlatAirtime
     ensures { λ r. ⌜ FlatTotalled (now (starts .entry)) (now (bands .entry)) (now (seconds .entry)) (now (totals .entry)) (now (totals .exit)) r ⌝ }
 {
-    flat::airtime_flat(airtime::totals(starts, bands, seconds, totals))
+    flat_answers::airtime_flat(airtime::totals(starts, bands, seconds, totals))
 }

@@ -6,10 +6,10 @@
 // flat and pamuklid.
 use flat::FlatCeiling;
 use flat::FlatDecision;
-use flat::FlatDistance;
+use flat_answers::FlatDistance;
 use flat::FlatEdges;
 use flat::FlatStation;
-use flat::FlatText;
+use flat_answers::FlatText;
 
 // The largest image with its cases.
 const LARGEST: usize = 163840;

@@ -1,7 +1,7 @@
 // A program of the gate: it asks for the number texts that its input describes, and writes what each call answers and every byte that
 // was lent. Input and output come from tools/reference/texts.py, which says what the bytes mean. It stops at input that is malformed.
 // It uses figures, layout, flat and pamuklid.
-use flat::FlatText;
+use flat_answers::FlatText;
 
 // The size of a case.
 const CASE_SIZE: usize = 10;

@@ -6,7 +6,7 @@ use ceiling::Rung;
 use occupancy::Edges;
 use profile::Range;
 use station::StationRecord;
-use walk::StepAnswer;
+use walk_step::StepAnswer;
 use walk::WalkAnswer;
 use walk::WalkState;
 ghost use Prim.Native.Nat.{_≤_};
@@ -232,7 +232,7 @@ fn step_shown(a: StepAnswer) -> WalkState {
 // A step with these rungs, and with what else the input lends it.
 fn step_on(w: WalkState, s: &[u8], call: &[u8], lent: &[u8], rungs: &[f64]) -> WalkState {
     let own = part(s, place(call, 4), 41);
-    step_shown(walk::step(
+    step_shown(walk_step::step(
         w,
         station(own),
         byte(own, 8),

@@ -35,7 +35,8 @@ use Rattle.decision.specs.Decision.{simpleOf}
 use Rattle.decision.specs.declared.Verdict.the-variants.{Blocked}
 use Rattle.decision.specs.declared.Code.the-variants.{Unmeasured}
 use Rattle.verdict.specs.Verdict.{signalOf, besideValid, edgeTests, decideOf, unlessRefused, evaluateOf, unmeasuredOf}
-use Rattle.ceiling.specs.Ceiling.{judgeBy, burstOf, climbed, rungTests, ceilingUnlessRefused, ceilingOf}
+use Rattle.ceiling.specs.Ceiling.{judgeBy, climbed, ceilingUnlessRefused, ceilingOf}
+use Rattle.rungs.specs.Rungs.{burstOf, rungTests}
 use Rattle.rows.specs.declared.SafeDial.{SafeDial}
 use Rattle.dials.specs.List.{situationRows, listRows, lentTests, listTests, answerOf, bytesOf, SafeDials}
 use Rattle.dials.specs.declared.DialList.{DialList}

@@ -36,8 +36,10 @@ use Rattle.part97.specs.Part97.{nearestUpTo, overshootOf, outsideSegments, insi
 use Rattle.part97.specs.Part97.{sixtySegment, sixtyOverlap, sixtyPlace, sixtyEmission, sixtyKind, sixty, judgeOnBand, judgeInBand, touching, judge}
 use Rattle.verdict.specs.Verdict.{airOf, signalOf, caseOf, readyOf, underRulesOf, unruledOf, decideOf, besideValid, evaluateOf}
 use Rattle.verdict.specs.Laws.{evaluate-accepted}
-use Rattle.ceiling.specs.Ceiling.{rungOf, burstOf, climbStart, endedOf, wentOn, climbAfter, judgeBy}
-use Rattle.ceiling.specs.Ceiling.{rungJudged, climbStep, climbed, badEdges, badRungs, ceilingOf}
+use Rattle.ceiling.specs.Ceiling.{climbStart, endedOf, wentOn, climbAfter, judgeBy}
+use Rattle.rungs.specs.Rungs.{rungOf, burstOf}
+use Rattle.ceiling.specs.Ceiling.{rungJudged, climbStep, climbed, ceilingOf}
+use Rattle.rungs.specs.Rungs.{badEdges, badRungs}
 use Rattle.ceiling.specs.declared.CeilingAnswer.{CeilingAnswer}
 use Rattle.ceiling.specs.declared.Rung.the-variants.{Fastest}
 use Rattle.dials.specs.List.{situationRows, listRows, listTests, answerOf, bytesOf}

@@ -19,8 +19,10 @@ use Rattle.station.specs.declared.StationRecord.{StationRecord}
 use Rattle.entry.specs.Entry.{entryTests, edgesValid}
 use Rattle.layout.specs.Bytes.{byteAt}
 use Rattle.decision.specs.declared.Decision.{Decision}
-use Rattle.ceiling.specs.Ceiling.{figureAt, rungOf, burstOf, climbed, climbStep, unsizedAt, anyUnsized, badEdges, unmarkedAt, anyUnmarked}
-use Rattle.ceiling.specs.Ceiling.{badRungs, rungTests, ceilingTests, ceilingUnlessRefused, ceilingOf}
+use Rattle.ceiling.specs.Ceiling.{climbed, climbStep}
+use Rattle.rungs.specs.Rungs.{figureAt, rungOf, burstOf, unsizedAt, anyUnsized, badEdges, unmarkedAt, anyUnmarked}
+use Rattle.ceiling.specs.Ceiling.{ceilingUnlessRefused, ceilingOf}
+use Rattle.rungs.specs.Rungs.{badRungs, rungTests, ceilingTests}
 use Rattle.ceiling.specs.Run.{judging, bursts}
 use Rattle.ceiling.specs.declared.Climb.{Climb}
 

@@ -16,7 +16,7 @@ use Rattle.occupancy.specs.declared.Edges.{Edges}
 use Rattle.scan.specs.Laws.{and-true, some-false}
 use Rattle.entry.specs.Entry.{pairValid, edgesValid, pairRead, edgesRead}
 use Rattle.layout.specs.Bytes.{byteAt}
-use Rattle.ceiling.specs.Ceiling.{figureAt, rungOf, controlEdges, burstOf, unsizedAt, anyUnsized, badEdges}
+use Rattle.rungs.specs.Rungs.{figureAt, rungOf, controlEdges, burstOf, unsizedAt, anyUnsized, badEdges}
 use Rattle.ceiling.specs.Run.{envelopeOf}
 use borrow.Author.Tests.{not-false}
 

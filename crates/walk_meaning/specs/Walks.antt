@@ -23,18 +23,21 @@ use Rattle.scan.specs.declared.Found.the-variants.{At, Nothing}
 use Rattle.station.specs.declared.StationRecord.{StationRecord}
 use Rattle.entry.specs.Entry.{entryTests, edgesValid, edgesRead}
 use Rattle.decision.specs.declared.Decision.{Decision}
-use Rattle.ceiling.specs.Ceiling.{noDecision, endedOf as climbEnded, climbStart, climbed, rungJudged, badEdges, badRungs, rungTests, ceilingTests}
-use Rattle.ceiling.specs.Ceiling.{anyUnmarked, ceilingUnlessRefused, ceilingOf}
+use Rattle.ceiling.specs.Ceiling.{noDecision, endedOf as climbEnded, climbStart, climbed, rungJudged}
+use Rattle.rungs.specs.Rungs.{badEdges, badRungs, rungTests, ceilingTests}
+use Rattle.ceiling.specs.Ceiling.{ceilingUnlessRefused, ceilingOf}
+use Rattle.rungs.specs.Rungs.{anyUnmarked}
 use Rattle.ceiling.specs.Laws.{one-more, step-free, stays}
 use Rattle.ceiling.specs.Run.{rungBelow, envelopeOf, blockedAt, stoppedAt, freeAt, climb-first, judging, bursts}
 use Rattle.ceiling.specs.declared.Envelope.the-variants.{Reached}
 use Rattle.ceiling.specs.declared.Climb.{Climb}
 use Rattle.ceiling.specs.declared.CeilingAnswer.{CeilingAnswer}
 use Rattle.walk.specs.Walk.{noEdges, resting, otherImage, stateValid, occupiedRead, swapped, swapOf, openTests, openedAt, openOf}
-use Rattle.walk.specs.Walk.{climbSoFar, endedOf, goesOn, stepGives, stepNone, stepJudged, stepBy, stepUnder}
-use Rattle.walk.specs.Walk.{refusedStep, walkImage, stepOf, stateUnlessRefused}
+use Rattle.walk_step.specs.Step.{climbSoFar, endedOf, goesOn, stepGives, stepNone, stepJudged, stepBy, stepUnder}
+use Rattle.walk.specs.Walk.{stateUnlessRefused}
+use Rattle.walk_step.specs.Step.{refusedStep, walkImage, stepOf}
 use Rattle.walk.specs.declared.WalkState.{WalkState}
-use Rattle.walk.specs.declared.StepAnswer.{StepAnswer}
+use Rattle.walk_step.specs.declared.StepAnswer.{StepAnswer}
 use Rattle.walk_meaning.specs.Prefix.{ceiling-of-first}
 use Rattle.walk_meaning.specs.Sound.{SoundEdges, sound-valid, sound-same, envelope-sound}
 

@@ -3,8 +3,9 @@ use mathlib.Core.Path.{sym, ap, _∙_}
 use Rattle.codes.specs.Read.{directionValid}
 use Rattle.station.specs.declared.Situation.{Situation}
 use Rattle.verdict.specs.Laws.{rules-whole}
-use Rattle.ceiling.specs.Ceiling.{rungTests, ceilingOf}
-use Rattle.ceiling.specs.Laws.{rungs-marked}
+use Rattle.ceiling.specs.Ceiling.{ceilingOf}
+use Rattle.rungs.specs.Rungs.{rungTests}
+use Rattle.rungs.specs.Laws.{rungs-marked}
 use borrow.Author.Needs.{needs}
 use Rattle.ceiling.proofs.ceiling.Statement.{statement}
 use Rattle.ceiling.proofs.ceiling.Tie as tie

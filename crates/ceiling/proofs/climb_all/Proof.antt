@@ -4,7 +4,8 @@ use mathlib.Core.Path.{refl}
 use native.Mathlib.Omega.{arith}
 use borrow.Author.Needs.{needs}
 use Rattle.table.specs.Table.{tableOf}
-use Rattle.ceiling.specs.Ceiling.{endedOf, judgeBy, burstOf}
+use Rattle.ceiling.specs.Ceiling.{endedOf, judgeBy}
+use Rattle.rungs.specs.Rungs.{burstOf}
 use Rattle.ceiling.specs.Laws.{Free, free-start, step-of, free-again, free-over, climb-done}
 use Rattle.ceiling.proofs.climb_all.Statement.{statement}
 use Rattle.ceiling.proofs.climb_all.Tie as tie

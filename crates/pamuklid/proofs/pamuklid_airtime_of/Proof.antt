@@ -1,6 +1,6 @@
 -- By the calls: the answer flat, the elements as the call leaves them.
 use mathlib.Core.Path.{_∙_, ap}
-use Rattle.flat.specs.Flat.{airtimeFlat}
+use Rattle.flat_answers.specs.Answers.{airtimeFlat}
 use borrow.Author.Needs.{needs}
 use Rattle.pamuklid.proofs.pamuklid_airtime_of.Statement.{statement}
 use Rattle.pamuklid.proofs.pamuklid_airtime_of.Tie as tie

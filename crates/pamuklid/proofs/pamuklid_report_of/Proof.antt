@@ -2,7 +2,7 @@
 use mathlib.Core.Path.{ap, sym, _∙_}
 use native.Mathlib.Omega.{arith}
 use Rattle.report.specs.Answer.{answer-few}
-use Rattle.flat.specs.Flat.{reportFlat}
+use Rattle.flat_answers.specs.Answers.{reportFlat}
 use borrow.Author.Needs.{needs}
 use Rattle.pamuklid.proofs.pamuklid_report_of.Statement.{statement}
 use Rattle.pamuklid.proofs.pamuklid_report_of.Tie as tie

@@ -1,6 +1,6 @@
 -- By the calls: the answer flat, the bytes as the list call leaves them.
 use mathlib.Core.Path.{ap}
-use Rattle.flat.specs.Flat.{dialsFlat}
+use Rattle.flat_answers.specs.Answers.{dialsFlat}
 use Rattle.pamuklid.specs.Fits.{list-counted}
 use borrow.Author.Needs.{needs}
 use Rattle.pamuklid.proofs.pamuklid_safe_dials_2.Statement.{statement}

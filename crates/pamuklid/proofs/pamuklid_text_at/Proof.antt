@@ -1,6 +1,6 @@
 -- By the calls: the answer flat, the bytes as the call leaves them.
 use mathlib.Core.Path.{_∙_, ap}
-use Rattle.flat.specs.Flat.{textFlat}
+use Rattle.flat_answers.specs.Answers.{textFlat}
 use borrow.Author.Needs.{needs}
 use Rattle.pamuklid.proofs.pamuklid_text_at.Statement.{statement}
 use Rattle.pamuklid.proofs.pamuklid_text_at.Tie as tie
