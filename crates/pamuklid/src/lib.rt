@@ -1,22 +1,22 @@
 // The boundary to C: the public calls, exported, with flat structs of numbers. It uses station, image, fault, tidy, numbers, verdict,
 // ceiling, dials, report, census, distance, number_texts, airtime, writer, convert, amend, walk and flat.
-use flat_answers::FlatAirtime;
 use flat::FlatCeiling;
-use flat_answers::FlatCensus;
 use flat::FlatDecision;
+use flat::FlatEdges;
+use flat::FlatStation;
+use flat::FlatStep;
+use flat::FlatWalk;
+use flat::FlatWalkAnswer;
+use flat_answers::FlatAirtime;
+use flat_answers::FlatCensus;
 use flat_answers::FlatDials;
 use flat_answers::FlatDistance;
-use flat::FlatEdges;
 use flat_answers::FlatFault;
 use flat_answers::FlatFields;
 use flat_answers::FlatImage;
 use flat_answers::FlatReport;
-use flat::FlatStation;
-use flat::FlatStep;
 use flat_answers::FlatText;
 use flat_answers::FlatTidiness;
-use flat::FlatWalk;
-use flat::FlatWalkAnswer;
 ghost use mathlib.Core.Path.{_≡_};
 ghost use Rattle.image.specs.Check.{checkOf};
 ghost use Rattle.fault.specs.Fault.{faultOf};
@@ -292,7 +292,13 @@ pub extern "C" fn pamuklid_distance_of(
 ) -> FlatDistance
     ensures { λ r. ⌜ r ≡ distanceFlat (distanceOf «dial_hz» flags «channel_band» count (now (rows .entry))) ⌝ }
 {
-    flat_answers::distance_flat(distance::distance_of(dial_hz, flags, channel_band, count as usize, rows))
+    flat_answers::distance_flat(distance::distance_of(
+        dial_hz,
+        flags,
+        channel_band,
+        count as usize,
+        rows,
+    ))
 }
 
 // The text of a frequency in kilohertz, with three decimals.

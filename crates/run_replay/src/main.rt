@@ -6,9 +6,9 @@
 // flat and pamuklid.
 use flat::FlatCeiling;
 use flat::FlatDecision;
-use flat_answers::FlatDistance;
 use flat::FlatEdges;
 use flat::FlatStation;
+use flat_answers::FlatDistance;
 use flat_answers::FlatText;
 
 // The largest image with its cases.

@@ -6,9 +6,9 @@ use ceiling::Rung;
 use occupancy::Edges;
 use profile::Range;
 use station::StationRecord;
-use walk_step::StepAnswer;
 use walk::WalkAnswer;
 use walk::WalkState;
+use walk_step::StepAnswer;
 ghost use Prim.Native.Nat.{_≤_};
 
 // The size of a call.
