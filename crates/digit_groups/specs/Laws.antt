@@ -3,10 +3,7 @@ use Prim.Native.Nat.{ℕ, _+_, _*_, _/_, _%_, _<_}
 use mathlib.Core.Path.{_≡_, _∙_}
 use native.Mathlib.Omega.{arith}
 use lib.Arith.{mod-mul}
-use lib.ListN.{getD}
-use mathlib.Core.List.{List}
 use Rattle.digit_groups.specs.Group.{entryOf, groupOf}
-use Rattle.digit_groups.specs.Table.{Ruled, entry-at}
 use Rattle.digit_groups.specs.declared.Group.{Group}
 
 last-of : (n m c : ℕ) → 0 < m → 0 < c → n % (m * c) ≡ n / c % m * c + n % c
@@ -41,25 +38,10 @@ digit n = omega arith
 abbrev digitsOf : ℕ → Group
 digitsOf e = record { first = 48 + e / 256; second = 48 + e / 16 % 16; third = 48 + e % 16 }
 
-entry-group : (n e : ℕ) → e ≡ entryOf (n % 1000) → digitsOf e ≡ groupOf n
+pub entry-group : (n e : ℕ) → e ≡ entryOf (n % 1000) → digitsOf e ≡ groupOf n
 entry-group n e p = go (n / 100 % 10) (n / 10 % 10) (n % 10) (digit (n / 10)) (digit n) (three n)
   where
     go : (a b c : ℕ) → b < 10 → c < 10 → n % 1000 ≡ a * 100 + b * 10 + c → digitsOf e ≡ record { first = 48 + a; second = 48 + b; third = 48 + c }
     go a b c h k q =
         let d : e ≡ a * 256 + b * 16 + c = p ∙ entry-digits (n % 1000) a b c h k q in
         rw (first e a b c h k d) (rw (second e a b c h k d) (rw (third e a b c h k d)))
-
--- ---- the entry that is read
-
-module _ (table : List ℕ) (ruled : Ruled entryOf table) (n : ℕ) where
-  read : getD table (n % 1000) 0 ≡ entryOf (n % 1000)
-  read = let h : n % 1000 < 1000 = omega arith in entry-at entryOf table ruled (n % 1000) h
-
-  pub read-small : getD table (n % 1000) 0 < 10 * 256
-  read-small = rw read (go (n % 1000) (omega arith))
-    where
-      go : (m : ℕ) → m < 1000 → entryOf m < 10 * 256
-      go m h = omega arith
-
-  pub read-group : digitsOf (getD table (n % 1000) 0) ≡ groupOf n
-  read-group = entry-group n (getD table (n % 1000) 0) read

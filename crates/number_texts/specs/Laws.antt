@@ -106,6 +106,10 @@ pub record Room (l : List ℕ) (at : ℕ) : Type 0 where
 abbrev pub groupSet : List ℕ → ℕ → Group → List ℕ
 groupSet l at g = set (set (set l (at + 2) (g .third)) (at + 1) (g .second)) at (g .first)
 
+-- its last digit or its last two
+abbrev pub firstSet : List ℕ → ℕ → ℕ → Group → List ℕ
+firstSet l at count g = cond (eqb count 1) (set l at (g .third)) (set (set l (at + 1) (g .third)) at (g .second))
+
 pub length-digits : (count n : ℕ) → length (digits count n) ≡ count
 unfolding digits
 length-digits zero n = refl
@@ -118,6 +122,22 @@ sets-behind [] l at i x h = refl
 sets-behind (y ∷ a) l at i x h =
     let k : suc at + length a ≤ i = omega arith in
     sets-behind a (set l at y) (suc at) i x k ∙ ap (λ (m : List ℕ). sets m (suc at) a) (set-comm l at i y x (λ e. omega (arith, e, h)))
+
+-- fewer than three digits
+module _ (l : List ℕ) (at n : ℕ) where
+  first-one : set l at (48 + n % 10) ≡ sets l at (digits 1 n)
+  unfolding digits
+  first-one = refl
+
+  first-two : set (set l (at + 1) (48 + n % 10)) at (48 + n / 10 % 10) ≡ sets l at (digits 2 n)
+  unfolding digits
+  first-two = rw (add-one at) (sym (set-comm l at (suc at) (48 + n / 10 % 10) (48 + n % 10) (λ e. omega (arith, e))))
+
+  first-some : (count : ℕ) → 0 < count → count < 3 → firstSet l at count (groupOf n) ≡ sets l at (digits count n)
+  first-some zero h k = absurd (omega (arith, h))
+  first-some (suc zero) h k = first-one
+  first-some (suc (suc zero)) h k = first-two
+  first-some (suc (suc (suc count))) h k = absurd (omega (arith, k))
 
 pub record Digiting (l₀ : List ℕ) (at count n : ℕ) (l : List ℕ) (rest left : ℕ) : Type 0 where
   pub within : left ≤ count
@@ -161,19 +181,17 @@ module _ (l₀ : List ℕ) (at count n : ℕ) where
       let k : at + (left - 1) ≡ at + (left - 3) + 2 = omega arith in
       rw (e, f, i, j, k) at c
 
--- fewer than three digits
-module _ (l : List ℕ) (at n : ℕ) where
-  pub first-none : l ≡ sets l at (digits 0 n)
-  unfolding digits
-  first-none = refl
+  -- the one or two that are left
+  pub digit-first :
+      (l : List ℕ) (rest left : ℕ) → Digiting l₀ at count n l rest left → 0 < left → left < 3
+      → firstSet l at left (groupOf rest) ≡ sets l₀ at (digits count n)
+  digit-first l rest left d h k = first-some l at rest left h k ∙ d .held
 
-  pub first-one : set l at (48 + n % 10) ≡ sets l at (digits 1 n)
+  pub digit-end : (l : List ℕ) (rest left : ℕ) → Digiting l₀ at count n l rest left → left ≤ 0 → l ≡ sets l₀ at (digits count n)
   unfolding digits
-  first-one = refl
-
-  pub first-two : set (set l (at + 1) (48 + n % 10)) at (48 + n / 10 % 10) ≡ sets l at (digits 2 n)
-  unfolding digits
-  first-two = rw (add-one at) (sym (set-comm l at (suc at) (48 + n / 10 % 10) (48 + n % 10) (λ e. omega (arith, e))))
+  digit-end l rest left d h =
+      let e : left ≡ 0 = omega arith in
+      ap (λ (k : ℕ). sets l at (digits k rest)) (sym e) ∙ d .held
 
 -- ---- the parts of a text
 

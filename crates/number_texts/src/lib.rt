@@ -5,11 +5,9 @@ ghost use Prim.Native.Nat.{_+_, _≤_, _<_, _^_};
 ghost use lib.ListN.{length};
 ghost use lib.Seq.{sets};
 ghost use Rattle.decimal.specs.Within.{Within};
-ghost use Rattle.digit_groups.specs.Group.{entryOf};
-ghost use Rattle.digit_groups.specs.Table.{Ruled};
 ghost use Rattle.number_texts.specs.Text.{digits, digitCount, signText, pointText, written, textOf, nearWhole, khzPlaces};
 ghost use Rattle.number_texts.specs.Text.{atText, khzText, hertzText, Texted};
-ghost use Rattle.number_texts.specs.Laws.{Room, groupSet, pointLength, Shown};
+ghost use Rattle.number_texts.specs.Laws.{Room, groupSet, firstSet, pointLength, Shown};
 use digit_groups::Group;
 
 // The limit on a figure that is written, 2^43.
@@ -53,15 +51,11 @@ fn put_group(out: &mut [u8], at: usize, g: Group)
     out[at] = g.first;
 }
 
-// The first digits of a number, where they are fewer than three.
-fn put_first(out: &mut [u8], groups: &[u16; 1000], at: usize, count: usize, n: u64)
-    requires { ⌜ Ruled entryOf (now groups) × ((count < 3) × (at + count ≤ length (now out))) ⌝ }
-    ensures { λ r. ⌜ now (out .exit) ≡ sets (now (out .entry)) at (digits count n) ⌝ }
+// The first digits of a number, where they are fewer than three: the last of a group.
+fn put_first(out: &mut [u8], at: usize, count: usize, g: Group)
+    requires { ⌜ (0 < count) × ((count < 3) × (at + count ≤ length (now out))) ⌝ }
+    ensures { λ r. ⌜ now (out .exit) ≡ firstSet (now (out .entry)) at count g ⌝ }
 {
-    if count == 0 {
-        return;
-    }
-    let g = digit_groups::last_three(groups, n);
     if count == 1 {
         out[at] = g.third;
         return;
@@ -70,19 +64,23 @@ fn put_first(out: &mut [u8], groups: &[u16; 1000], at: usize, count: usize, n: u
     out[at] = g.second;
 }
 
-// The last so many digits of a number, from a place on, three at a time.
-fn put_digits(out: &mut [u8], groups: &[u16; 1000], at: usize, count: usize, n: u64)
-    requires { ⌜ Ruled entryOf (now groups) × (at + count ≤ length (now out)) ⌝ }
+// The last so many digits of a number, from a place on, three at a time. The one call of `last_three` is compiled into the loop.
+fn put_digits(out: &mut [u8], at: usize, count: usize, n: u64)
+    requires { ⌜ at + count ≤ length (now out) ⌝ }
     ensures { λ r. ⌜ now (out .exit) ≡ sets (now (out .entry)) at (digits count n) ⌝ }
 {
     let mut rest = n;
     let mut left = count;
-    while 3 <= left {
+    while 0 < left {
+        let g = digit_groups::last_three(rest);
+        if left < 3 {
+            put_first(out, at, left, g);
+            return;
+        }
         left -= 3;
-        put_group(out, at + left, digit_groups::last_three(groups, rest));
+        put_group(out, at + left, g);
         rest = rest / 1000;
     }
-    put_first(out, groups, at, left, rest);
 }
 
 // A sign, where there is one.
@@ -96,15 +94,15 @@ fn put_sign(out: &mut [u8], negative: bool)
 }
 
 // The point and the digits after it, where there are places.
-fn put_point(out: &mut [u8], groups: &[u16; 1000], at: usize, places: usize, part: u64)
-    requires { ⌜ Ruled entryOf (now groups) × (at + length (pointText places part) ≤ length (now out)) ⌝ }
+fn put_point(out: &mut [u8], at: usize, places: usize, part: u64)
+    requires { ⌜ at + length (pointText places part) ≤ length (now out) ⌝ }
     ensures { λ r. ⌜ now (out .exit) ≡ sets (now (out .entry)) at (pointText places part) ⌝ }
 {
     if places == 0 {
         return;
     }
     out[at] = 46;
-    put_digits(out, groups, at + 1, places, part);
+    put_digits(out, at + 1, places, part);
 }
 
 // How many bytes a sign takes, and a point with so many places.
@@ -126,11 +124,10 @@ fn put_text(out: &mut [u8], negative: bool, whole: u64, width: usize, places: us
     requires { ⌜ (width ≡ digitCount 12 whole) × (length (written negative whole places part) ≤ length (now out)) ⌝ }
     ensures { λ r. ⌜ now (out .exit) ≡ sets (now (out .entry)) 0 (written negative whole places part) ⌝ }
 {
-    let groups = digit_groups::groups();
     let sign = sign_length(negative);
     put_sign(out, negative);
-    put_digits(out, &groups, sign, width, whole);
-    put_point(out, &groups, sign + width, places, part);
+    put_digits(out, sign, width, whole);
+    put_point(out, sign + width, places, part);
 }
 
 // The text of a figure with so many places, in the bytes lent. Its length comes first.

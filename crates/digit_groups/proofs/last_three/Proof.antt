@@ -1,38 +1,32 @@
--- `digit_groups::last_three` meets its contract: the table goes by its rule at the entry that is read.
-use native.Mathlib.Omega.{arith}
-use Rattle.digit_groups.specs.Laws.{read-small, read-group}
+-- `digit_groups::last_three` meets its contract: the entry has the digits.
+use Rattle.digit_groups.specs.Laws.{entry-group}
 use borrow.Author.Needs.{needs}
 use Rattle.digit_groups.proofs.last_three.Statement.{statement}
 use Rattle.digit_groups.proofs.last_three.Tie as tie
 
-mul-e : tie.Need-mul-e
-mul-e c = search needs
+entry-requires : tie.Need-entry-requires
+entry-requires c κs = search needs
 
-element-copy-out-e : tie.Need-element-copy-out-e
-element-copy-out-e c = search needs
+cast-t4 : tie.Need-cast-t4
+cast-t4 c = search needs
 
-cast-t10 : tie.Need-cast-t10
-cast-t10 c = omega (arith, read-small _ (c .before .pre) (c .before .args .n))
+add-t5 : tie.Need-add-t5
+add-t5 c = search needs
 
-add-t11 : tie.Need-add-t11
-add-t11 c = omega (arith, read-small _ (c .before .pre) (c .before .args .n))
+cast-t8 : tie.Need-cast-t8
+cast-t8 c = search needs
 
-cast-t14 : tie.Need-cast-t14
-cast-t14 c = search needs
+add-t9 : tie.Need-add-t9
+add-t9 c = search needs
 
-add-t15 : tie.Need-add-t15
-add-t15 c = search needs
+cast-t11 : tie.Need-cast-t11
+cast-t11 c = search needs
 
-cast-t17 : tie.Need-cast-t17
-cast-t17 c = search needs
-
-add-t18 : tie.Need-add-t18
-add-t18 c = search needs
+add-t12 : tie.Need-add-t12
+add-t12 c = search needs
 
 returns : tie.Need-returns
-returns c = read-group _ (c .before .pre) (c .before .args .n)
+returns c = entry-group _ _ (c .entry .ensures)
 
 pub last-three-spec : {M : Type 1} → statement M
-last-three-spec =
-    tie.close
-    (tie.spec mul-e element-copy-out-e cast-t10 add-t11 cast-t14 add-t15 cast-t17 add-t18 returns)
+last-three-spec = tie.close (tie.spec entry-requires cast-t4 add-t5 cast-t8 add-t9 cast-t11 add-t12 returns)

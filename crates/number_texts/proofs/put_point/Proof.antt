@@ -15,7 +15,7 @@ returns c = rw (eq-eqb _ _ (c .if1 .taken))
 slice-write-out : tie.Need-slice-write-out
 slice-write-out c =
     let e = length-point-some (c .before .before .args .places) (c .before .before .args .part) (c .if1 .left) in
-    omega (arith, c .before .before .pre .1, e)
+    omega (arith, c .before .before .pre, e)
 
 add-put-digits : tie.Need-add-put-digits
 add-put-digits c = search needs
@@ -23,7 +23,7 @@ add-put-digits c = search needs
 put-digits-requires : tie.Need-put-digits-requires
 put-digits-requires c κs =
     let e = length-point-some (c .before .before .before .args .places) (c .before .before .before .args .part) (c .before .if1 .left) in
-    (c .before .before .before .pre .0, simp length-set (omega (arith, c .before .before .before .pre .1, e)))
+    simp length-set (omega (arith, c .before .before .before .pre, e))
 
 same-length : tie.Need-same-length
 same-length c = c .before .before .put-digits .kept .0 ∙ length-set (c .before .before .before .before .before .before .args .out .now)
