@@ -34,8 +34,8 @@
 extern "C" {
 #endif
 
-/* The version of this header, 0.13.0: major * 10000 + minor * 100 + patch. */
-#define PAMUKLID_VERSION 1300
+/* The version of this header, 0.14.0: major * 10000 + minor * 100 + patch. */
+#define PAMUKLID_VERSION 1400
 
 /* Refusals, by number. A call that is refused has answered nothing: send nothing. */
 #define PAMUKLID_ACCEPTED 0                 /* none: the image is accepted, the call was answered */
@@ -343,6 +343,19 @@ typedef struct {
     uint8_t refusal;      /* PAMUKLID_ACCEPTED; PAMUKLID_REFUSAL_STATION_FIGURE (the dial) or
                              PAMUKLID_REFUSAL_ROWS */
 } pamuklid_distance;
+
+/* answer: where to move the dial */
+#define PAMUKLID_NEAREST_REFUSED 0    /* a refusal: see refusal */
+#define PAMUKLID_NEAREST_DIAL 1       /* to dial_hz */
+#define PAMUKLID_NEAREST_NONE 2       /* nowhere: no dial outside the channel band (60 m) allows data */
+#define PAMUKLID_NEAREST_NOT_JUDGED 3 /* not judged: something that pamuklid_nearest_dial needs is not met */
+
+/* The nearest dial at which data is allowed. */
+typedef struct {
+    double dial_hz;       /* PAMUKLID_NEAREST_DIAL: the dial, a whole number of eighths; else +infinity */
+    uint8_t answer;       /* PAMUKLID_NEAREST_... */
+    uint8_t refusal;      /* PAMUKLID_NEAREST_REFUSED: PAMUKLID_REFUSAL_...; else PAMUKLID_ACCEPTED */
+} pamuklid_nearest;
 
 /* Whether a table is tidy. */
 typedef struct {
@@ -708,6 +721,22 @@ pamuklid_census pamuklid_census_of(pamuklid_station s, uint8_t kind, uint8_t dir
 pamuklid_distance pamuklid_distance_of(double dial_hz, uint8_t flags, uint8_t channel_band, uint32_t count,
                                        const uint8_t *rows, size_t rows_len);
 
+/* Where to move the dial. Of the dials in whole eighths of a hertz whose signal with its margins the channel band
+ * (60 m) does not hold: the one at which pamuklid_evaluate allows data and no such dial is closer to the
+ * station's; of two equally close the lower. It is the station's dial itself where that is one of them. There
+ * is none (PAMUKLID_NEAREST_NONE) exactly if pamuklid_safe_dials would list no row outside the channel band.
+ * The station's dial may lie in the channel band; what is allowed there does not count.
+ * The answer is PAMUKLID_NEAREST_NOT_JUDGED where nothing is refused and one of these fails, and only there:
+ *   - the policy is PAMUKLID_POLICY_RULES, and the table is tidy (pamuklid_tidy);
+ *   - the station is in the table's region, and its control, license, sideband and dial are known;
+ *   - the width of the edges that the table reads, plus both margins, is above 0;
+ *   - every figure in hertz is a whole number of eighths and at most 2^38 (274877906944) in size: those of the
+ *     image (with the plan off too; watts are none), of both pairs of edges, of the margins and of the dial.
+ * The dial given may be up to 3 * 2^38 in size; from one above 2^38 the next question is not judged.
+ * Reads the image with PAMUKLID_POLICY_RULES only. Refusals 20 to 22, 1 to 14, 15. */
+pamuklid_nearest pamuklid_nearest_dial(pamuklid_station s, uint8_t direction, pamuklid_edges e,
+                                       const uint8_t *image, size_t n);
+
 /* The text of a frequency in kilohertz with three decimals, for a panel or a log: 14097700 is "14097.700".
  * The digits are those of hz / 1000, a double, by its exact value, to the nearest thousandth, a half to the
  * even one; a sign "-" is written wherever hz has one, of a zero too.
@@ -838,6 +867,11 @@ PAMUKLID_SIZE(pamuklid_distance, 16);
 PAMUKLID_AT(pamuklid_distance, distance_hz, 0);
 PAMUKLID_AT(pamuklid_distance, listed, 8);
 PAMUKLID_AT(pamuklid_distance, refusal, 9);
+
+PAMUKLID_SIZE(pamuklid_nearest, 16);
+PAMUKLID_AT(pamuklid_nearest, dial_hz, 0);
+PAMUKLID_AT(pamuklid_nearest, answer, 8);
+PAMUKLID_AT(pamuklid_nearest, refusal, 9);
 
 PAMUKLID_SIZE(pamuklid_report, 8);
 PAMUKLID_AT(pamuklid_report, count, 0);

@@ -2,8 +2,8 @@
 
 pub use pamuklid::raw::{
     Edges, Fields, MOST_REPORT, MOST_TEXT, REPORT_ROW, Station, Text, airtime, amend, census,
-    check, evaluate, fault_of, lower, raise, report, safe_dials, text_at, text_hertz, text_khz,
-    walk_first, walk_open, walk_step, write,
+    check, evaluate, fault_of, lower, nearest_dial, raise, report, safe_dials, text_at, text_hertz,
+    text_khz, tidy, walk_first, walk_open, walk_step, write,
 };
 
 /// A climb with one control frame for all its rungs.

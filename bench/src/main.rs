@@ -11,6 +11,7 @@ mod amends;
 mod censuses;
 mod ffi;
 mod images;
+mod nearests;
 mod reports;
 mod rust {
     include!(concat!(env!("OUT_DIR"), "/rust.rs"));
@@ -65,12 +66,14 @@ fn timed(turns: usize, f: &mut dyn FnMut()) -> f64 {
     (now() - began) / turns as f64
 }
 
+/// How many turns of a call take some five milliseconds.
+fn turns(f: &mut dyn FnMut()) -> usize {
+    let once = timed(3, f).max(1.0);
+    ((5e6 / once) as usize).clamp(1, 1_000_000)
+}
+
 /// The least time of a turn on each side, the sides taking turns.
 fn least(rounds: usize, ours: &mut dyn FnMut(), theirs: &mut dyn FnMut()) -> (f64, f64) {
-    let turns = |f: &mut dyn FnMut()| {
-        let once = timed(3, f).max(1.0);
-        ((5e6 / once) as usize).clamp(1, 1_000_000)
-    };
     let (a, b) = (turns(ours), turns(theirs));
     let mut best = (f64::MAX, f64::MAX);
     let began = now();
@@ -513,6 +516,7 @@ fn main() {
     faults(&largest, rounds);
     growth(show, rounds);
     long_lists(show, rounds);
+    nearests::timed(rounds, &[&hf, &largest]);
     reports::timed(show, rounds, &hf, &largest);
     censuses::timed(show, rounds, &hf, &largest);
     texts::timed(show, rounds);
@@ -522,6 +526,7 @@ fn main() {
     walks::timed(show, rounds, &[&hf, &largest]);
     stacks(&hf);
     stacks(&largest);
+    nearests::stacks(&[&hf, &largest]);
     reports::stacks();
     texts::stacks();
     airtimes::stacks();

@@ -69,6 +69,26 @@ static void print_decision(const pamuklid_decision *d)
     printf("\n");
 }
 
+/* Where to move the dial, where data is blocked. */
+static void print_nearest(pamuklid_station s, uint8_t direction, pamuklid_edges e, size_t n)
+{
+    pamuklid_nearest t = pamuklid_nearest_dial(s, direction, e, image, n);
+    switch (t.answer) {
+    case PAMUKLID_NEAREST_DIAL:
+        printf("  move the dial to %.12g\n", t.dial_hz);
+        break;
+    case PAMUKLID_NEAREST_NONE:
+        printf("  no dial outside the channel band allows it\n");
+        break;
+    case PAMUKLID_NEAREST_NOT_JUDGED:
+        printf("  where to move the dial: not judged\n");
+        break;
+    default:
+        printf("  where to move the dial: refusal %d\n", t.refusal);
+        break;
+    }
+}
+
 /* The check, the tidy question, and where the table is wrong. */
 static void print_image(const char *title, const uint8_t *bytes, size_t n)
 {
@@ -427,12 +447,15 @@ static const struct item items[] = {
     {"data", 14023799.875, 1250, 1750, POWER_UNKNOWN, LOCAL, ORIGINATE, DATA},
     {"data", 14148200, 1250, 1750, POWER_UNKNOWN, LOCAL, ORIGINATE, DATA},
     {"data", 14148200.125, 1250, 1750, POWER_UNKNOWN, LOCAL, ORIGINATE, DATA},
+    {"data", 14148200.1, 1250, 1750, POWER_UNKNOWN, LOCAL, ORIGINATE, DATA}, /* a dial not in eighths */
     {"data", 14148500, 1250, 1750, POWER_UNKNOWN, LOCAL, ORIGINATE, DATA},
     {"data", 14149000, 1250, 1750, POWER_UNKNOWN, LOCAL, ORIGINATE, DATA},
     {"data", 14100000, 100, 2900, POWER_UNKNOWN, LOCAL, ORIGINATE, DATA},
     {"data", 14100000, 100, 2900.125, POWER_UNKNOWN, LOCAL, ORIGINATE, DATA},
     {"automatic, originating", 14097700, 1250, 1750, POWER_UNKNOWN, AUTOMATIC, ORIGINATE, DATA},
     {"automatic, originating", 14098000, 1250, 1750, POWER_UNKNOWN, AUTOMATIC, ORIGINATE, DATA},
+    {"automatic, originating", 14098500, 1250, 1750, POWER_UNKNOWN, AUTOMATIC, ORIGINATE, DATA},
+    {"automatic, originating", 14098500.125, 1250, 1750, POWER_UNKNOWN, AUTOMATIC, ORIGINATE, DATA},
     {"automatic, responding", 14098000, 1250, 1750, POWER_UNKNOWN, AUTOMATIC, RESPOND, DATA},
     {"automatic, responding to automatic", 14098000, 1250, 1750, POWER_UNKNOWN, AUTOMATIC,
      TO_AUTOMATIC, DATA},
@@ -448,10 +471,12 @@ static void verdicts(void)
     for (size_t i = 0; i < sizeof items / sizeof items[0]; i++) {
         const struct item *t = &items[i];
         pamuklid_station s = station_at(t->dial, t->control, t->power);
-        pamuklid_decision d = pamuklid_evaluate(s, t->kind, t->direction, both(t->low, t->high),
-                                                image, image_len);
+        pamuklid_edges e = both(t->low, t->high);
+        pamuklid_decision d = pamuklid_evaluate(s, t->kind, t->direction, e, image, image_len);
         printf("%s, dial %.12g, edges %.12g to %.12g: ", t->title, t->dial, t->low, t->high);
         print_decision(&d);
+        if (t->kind == DATA && d.verdict == PAMUKLID_BLOCKED)
+            print_nearest(s, t->direction, e, image_len);
     }
 }
 
@@ -477,6 +502,8 @@ static void margins(void)
         printf("margins 25 and 450, %s sideband, dial %.12g: ",
                s.sideband == PAMUKLID_SIDEBAND_UPPER ? "upper" : "lower", asked[i].dial);
         print_decision(&d);
+        if (d.verdict == PAMUKLID_BLOCKED)
+            print_nearest(s, ORIGINATE, both(1250, 1750), image_len);
     }
 }
 
@@ -691,5 +718,6 @@ int main(int argc, char **argv)
                           both(1250, 1750), image, 0);
     printf("no image: ");
     print_decision(&d);
+    print_nearest(station_at(14100000, LOCAL, POWER_UNKNOWN), ORIGINATE, both(1250, 1750), 0);
     return 0;
 }

@@ -188,6 +188,20 @@ pub fn bands(image: &[u8]) -> impl Iterator<Item = (f64, f64)> + '_ {
     })
 }
 
+/// Every figure in hertz of an accepted image: its place, its name, and the figure.
+pub fn hertz(image: &[u8]) -> impl Iterator<Item = (Place, &'static str, f64)> + '_ {
+    let of = move |place: Place, forms: &[Form]| -> Vec<(Place, &'static str, f64)> {
+        let Some(start) = place.bytes(image).map(|bytes| bytes.start) else { return Vec::new() };
+        let figures = forms.iter().filter(|form| form.holds == Holds::Hz);
+        figures.map(|form| (place, form.name, f64_at(image, start + form.at))).collect()
+    };
+    let records = Table::ALL.iter().flat_map(move |&table| {
+        let indices = (0..count_of(image, table)).filter_map(|i| u16::try_from(i).ok());
+        indices.flat_map(move |index| of(Place::Record { table, index }, &record_forms(table)))
+    });
+    of(Place::General, general_forms(image)).into_iter().chain(records)
+}
+
 /// The number of the band that a record is, or names: of bands and data segments.
 pub fn band_of(image: &[u8], table: Table, index: u16) -> Option<u8> {
     let named = matches!(table, Table::Bands | Table::Segments);

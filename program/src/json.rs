@@ -9,6 +9,7 @@ use serde::Serialize;
 use crate::answer::{Failure, Status};
 use crate::args::Asked;
 use crate::image::Field;
+use crate::nearest::Move;
 use crate::table::{Source, Table};
 use crate::words;
 
@@ -372,6 +373,31 @@ impl RowJson {
             rule: RuleJson::of(row.rule),
             blocked_at_lower: ends[0],
             blocked_at_upper: ends[1],
+        }
+    }
+}
+
+/// Where to move the dial.
+#[derive(Serialize)]
+pub struct NearestJson {
+    /// dial, none or not_judged
+    answer: &'static str,
+    dial_hz: Option<f64>,
+    /// from the station's dial, below 0 where it is down
+    move_hz: Option<f64>,
+    /// why it was not judged
+    reason: Option<String>,
+}
+
+impl NearestJson {
+    pub fn of(to: &Move) -> Self {
+        let none = Self { answer: "none", dial_hz: None, move_hz: None, reason: None };
+        match to {
+            Move::To { dial_hz, by_hz, .. } => {
+                Self { answer: "dial", dial_hz: Some(*dial_hz), move_hz: Some(*by_hz), ..none }
+            }
+            Move::Nowhere { .. } => none,
+            Move::NotJudged(why) => Self { answer: "not_judged", reason: Some(why.clone()), ..none },
         }
     }
 }

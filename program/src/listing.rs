@@ -79,6 +79,18 @@ impl Listing {
         }
     }
 
+    /// Whether a dial of a band's rows is so near to another dial, or nearer.
+    pub fn is_within(&self, band: u8, dial_hz: f64, far_hz: f64) -> bool {
+        let near = |r: &Row| {
+            let dials = r.row.dial;
+            r.row.band == band && dials.low_hz - dial_hz <= far_hz && dial_hz - dials.high_hz <= far_hz
+        };
+        match self {
+            Self::Rows(rows) => rows.iter().any(near),
+            Self::Barred(_) => false,
+        }
+    }
+
     pub fn text(&self, style: Style) -> String {
         let mut out = style.heading("Dials at which data of these edges may be sent") + "\n";
         let rows = match self {

@@ -12,6 +12,7 @@ mod day;
 mod image;
 mod json;
 mod listing;
+mod nearest;
 mod output;
 mod table;
 mod text;
@@ -30,8 +31,8 @@ use commands::Command;
 /// Says before a transmission whether it is lawful under 47 CFR Part 97, by a table of the rules
 ///
 /// The table is a trustee's, the station and the edges of the signal are given as options. It also says how fast a
-/// rung may be sent and at which dials data may be, checks a table and reports its slips, puts amendments into it, and
-/// adds up time on the air. Every answer is the proved library's.
+/// rung may be sent, at which dials data may be and where to move the dial, checks a table and reports its slips, puts
+/// amendments into it, and adds up time on the air. Every answer is the proved library's.
 #[derive(Parser, Debug)]
 #[command(name = "pamuklid", bin_name = "pamuklid", max_term_width = 100, after_help = AFTER)]
 pub struct Cli {

@@ -59,22 +59,20 @@ is-t : (b : Bool) → b ≡ true → T b
 is-t true e = tt
 is-t false e = absurd (false≢true e)
 
-nought : (s : Bool) (m : ℕ) (e : ℤ) → m * up e ≡ 0 → Within 43 (fin s m e)
-nought s m e h = omega arith
+nought : (j : ℕ) (s : Bool) (m : ℕ) (e : ℤ) → m * up e ≡ 0 → Within j (fin s m e)
+nought j s m e h = omega arith
 
-module _ (m : ℕ) (e : ℤ) where
+module _ (j m : ℕ) (e : ℤ) where
   plus : (p q : Bool) → (T p → m * up e ≡ 0) → (T q → m * up e ≡ 0)
-      → le (cond p (fin true m e) (cond q zeroHz (fin false m e))) limit43 ≡ true → Within 43 (fin false m e)
-  unfolding ofBits
-  plus true q f g h = nought false m e (f tt)
-  plus false true f g h = nought false m e (g tt)
-  plus false false f g h = within-le 43 (fin false m e) refl (is-t _ h)
+      → le (cond p (fin true m e) (cond q zeroHz (fin false m e))) (fin false 1 (pos j)) ≡ true → Within j (fin false m e)
+  plus true q f g h = nought j false m e (f tt)
+  plus false true f g h = nought j false m e (g tt)
+  plus false false f g h = within-le j (fin false m e) refl (is-t _ h)
 
   less : (p q : Bool) → (T (not p) → m * up e ≡ 0)
-      → le (cond p (fin false m e) (cond q zeroHz (fin true m e))) limit43 ≡ true → Within 43 (fin true m e)
-  unfolding ofBits
-  less true q f h = within-le 43 (fin false m e) refl (is-t _ h)
-  less false q f h = nought true m e (f tt)
+      → le (cond p (fin false m e) (cond q zeroHz (fin true m e))) (fin false 1 (pos j)) ≡ true → Within j (fin true m e)
+  less true q f h = within-le j (fin false m e) refl (is-t _ h)
+  less false q f h = nought j true m e (f tt)
 
 none : (a b d : ℕ) → a * 1 < 0 * b * d → a ≡ 0
 none a b d h = omega (arith, h, zero-mul b, zero-mul d)
@@ -85,17 +83,21 @@ same a b d h = omega (arith, h, zero-mul b, zero-mul d)
 no-more : (a b d : ℕ) → a * 1 + 0 * b * d ≤ 0 → a ≡ 0
 no-more a b d h = omega arith
 
-pub in-size-within : (x : Float) → inSize limit43 x ≡ true → Within 43 x
+pub in-size-power : (j : ℕ) (x : Float) → inSize (fin false 1 (pos j)) x ≡ true → Within j x
 unfolding le lt eq neg ofBits
-in-size-within nan h = absurd (false≢true h)
-in-size-within (inf true) h = absurd (false≢true h)
-in-size-within (inf false) h = absurd (false≢true h)
-in-size-within (fin false m e) h =
-    plus m e (ltb (m * up e * 1) (0 * 1 * down e)) (eqb (m * up e * 1) (0 * 1 * down e) && true)
+in-size-power j nan h = absurd (false≢true h)
+in-size-power j (inf true) h = absurd (false≢true h)
+in-size-power j (inf false) h = absurd (false≢true h)
+in-size-power j (fin false m e) h =
+    plus j m e (ltb (m * up e * 1) (0 * 1 * down e)) (eqb (m * up e * 1) (0 * 1 * down e) && true)
     (λ t. none (m * up e) 1 (down e) (ltb→lt _ _ t)) (λ t. same (m * up e) 1 (down e) (eqb→eq _ _ (and-l (eqb (m * up e * 1) (0 * 1 * down e)) true t))) h
-in-size-within (fin true m e) h =
-    less m e (ltb 0 (m * up e * 1 + 0 * 1 * down e)) (eqb (m * up e * 1) (0 * 1 * down e) && (false || eqb (m * up e * 1) 0))
+in-size-power j (fin true m e) h =
+    less j m e (ltb 0 (m * up e * 1 + 0 * 1 * down e)) (eqb (m * up e * 1) (0 * 1 * down e) && (false || eqb (m * up e * 1) 0))
     (λ t. no-more (m * up e) 1 (down e) (nltb→le _ _ t)) h
+
+pub in-size-within : (x : Float) → inSize limit43 x ≡ true → Within 43 x
+unfolding ofBits
+in-size-within x h = in-size-power 43 x h
 
 -- ---- what is rounded keeps to a power of two
 

@@ -8,10 +8,10 @@ ghost use Rattle.decimal.specs.Within.{Within};
 ghost use Rattle.decimal.specs.Laws.{Parted};
 
 // A figure: its sign, its binary digits, and by how many places they are moved down.
-struct Parts {
-    negative: bool,
-    digits: u64,
-    shift: u64,
+pub struct Parts {
+    pub negative: bool,
+    pub digits: u64,
+    pub shift: u64,
 }
 
 // A figure rounded: its sign, and how many units of its last place it has.
@@ -21,7 +21,7 @@ pub struct Decimal {
 }
 
 // The parts of a figure, by its bits.
-fn parts_of(x: f64) -> Parts
+pub fn parts_of(x: f64) -> Parts
     requires { ⌜ Within 43 x ⌝ }
     ensures { λ r. ⌜ Parted x (r .negative) (r .digits) (r .shift) ⌝ }
 {

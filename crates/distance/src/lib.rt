@@ -13,7 +13,7 @@ pub enum Distance {
 }
 
 // A band that is not the channel band.
-fn is_outside(flags: u8, channel_band: u8, band: u8) -> bool
+pub fn is_outside(flags: u8, channel_band: u8, band: u8) -> bool
     ensures { λ r. ⌜ r ≡ isOutside flags «channel_band» band ⌝ }
 {
     if codes::bit2(flags) {

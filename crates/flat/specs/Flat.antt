@@ -202,6 +202,6 @@ walkAnswerFlat a = record { state = walkFlat (a .state); refusal = refusalNumber
 unfoldable pub stepFlat : StepAnswer → FlatStep
 stepFlat a = record { ceiling = ceilingFlat (a .ceiling); state = walkFlat (a .state); over = markOf (a .over) }
 
--- the boundary's version, 0.13.0: 10,000 times the first number, 100 times the second, and the third
+-- the boundary's version, 0.14.0: 10,000 times the first number, 100 times the second, and the third
 abbrev pub versionNumber : ℕ
-versionNumber = 1300
+versionNumber = 1400

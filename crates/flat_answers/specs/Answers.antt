@@ -40,7 +40,10 @@ use Rattle.writer.specs.declared.ImageAnswer.the-variants.{Length as ImageOf, R
 use Rattle.convert.specs.Convert.{raiseTests, lowerTests, raisedOf, loweredOf}
 use Rattle.amended.specs.Amended.{effectiveOf}
 use Rattle.amend.specs.Amend.{amendTests}
+use Rattle.nearest.specs.declared.Nearest.{Nearest}
+use Rattle.nearest.specs.declared.Nearest.the-variants.{Dial, NoneAllowed, NotJudged, Refused as NoDial}
 use Rattle.flat_answers.specs.declared.FlatDistance.{FlatDistance}
+use Rattle.flat_answers.specs.declared.FlatNearest.{FlatNearest}
 use Rattle.flat_answers.specs.declared.FlatFields.{FlatFields}
 use Rattle.flat_answers.specs.declared.FlatTidiness.{FlatTidiness}
 use Rattle.flat_answers.specs.declared.FlatDials.{FlatDials}
@@ -158,6 +161,13 @@ abbrev pub distanceFlat : Distance → FlatDistance
 distanceFlat (Hertz x) = record { «distance_hz» = x; listed = 1; refusal = 0 }
 distanceFlat NoneListed = record { «distance_hz» = infinityHz; listed = 0; refusal = 0 }
 distanceFlat (NoAnswer n) = record { «distance_hz» = infinityHz; listed = 0; refusal = n }
+
+-- the nearest dial: answer is 1 where there is one, 2 where there is none, 3 where that was not judged, and 0 with a refusal
+abbrev pub nearestFlat : Nearest → FlatNearest
+nearestFlat (Dial x) = record { «dial_hz» = x; answer = 1; refusal = 0 }
+nearestFlat NoneAllowed = record { «dial_hz» = infinityHz; answer = 2; refusal = 0 }
+nearestFlat NotJudged = record { «dial_hz» = infinityHz; answer = 3; refusal = 0 }
+nearestFlat (NoDial n) = record { «dial_hz» = infinityHz; answer = 0; refusal = n }
 
 -- a text: its length, or a refusal's number and length 0
 abbrev pub textFlat : TextAnswer → FlatText

@@ -1,5 +1,5 @@
 // The records of the boundary to C of the answers that hold no decision, flat structs of numbers, and the fields of a table that is written. It
-// uses fault, tidy, numbers, dials, report, census, distance, number_texts, airtime, given and writer; its definitions use codes, occupancy,
+// uses fault, tidy, numbers, dials, report, census, distance, nearest, number_texts, airtime, given and writer; its definitions use codes, occupancy,
 // station, table, convert, amended and amend.
 use airtime::Airtime;
 use census::Census;
@@ -8,6 +8,7 @@ use distance::Distance;
 use fault::Fault;
 use fault::FaultAnswer;
 use given::Fields;
+use nearest::Nearest;
 use number_texts::TextAnswer;
 use report::TableReport;
 use tidy::Tidiness;
@@ -15,7 +16,7 @@ use writer::ImageAnswer;
 ghost use mathlib.Core.Path.{_≡_};
 ghost use Rattle.flat_answers.specs.Fits.{FaultFits, Counted, ReportCounted};
 ghost use Rattle.flat_answers.specs.Answers.{fieldsOf, faultFlat, tidinessFlat, dialsFlat, reportFlat, imageFlat, censusFlat};
-ghost use Rattle.flat_answers.specs.Answers.{infinityHz, distanceFlat, textFlat, airtimeFlat};
+ghost use Rattle.flat_answers.specs.Answers.{infinityHz, distanceFlat, nearestFlat, textFlat, airtimeFlat};
 
 // What an image is written from, beside its records: edition, general block, and the number of records of each table. The watts of
 // edition 1 are not looked at.
@@ -93,6 +94,14 @@ pub struct FlatCensus {
 pub struct FlatDistance {
     pub distance_hz: f64,
     pub listed: u8,
+    pub refusal: u8,
+}
+
+// Where to move the dial to. answer: 0 refused, 1 a dial, 2 none, 3 not judged; without a dial dial_hz is infinite.
+#[repr(C)]
+pub struct FlatNearest {
+    pub dial_hz: f64,
+    pub answer: u8,
     pub refusal: u8,
 }
 
@@ -278,6 +287,35 @@ pub fn distance_flat(d: Distance) -> FlatDistance
             distance_hz: none,
             listed: 0,
             refusal: n,
+        },
+    }
+}
+
+// The nearest dial, flat.
+pub fn nearest_flat(n: Nearest) -> FlatNearest
+    ensures { λ r. ⌜ r ≡ nearestFlat n ⌝ }
+{
+    let none = infinity();
+    match n {
+        Nearest::Dial(x) => FlatNearest {
+            dial_hz: x,
+            answer: 1,
+            refusal: 0,
+        },
+        Nearest::NoneAllowed => FlatNearest {
+            dial_hz: none,
+            answer: 2,
+            refusal: 0,
+        },
+        Nearest::NotJudged => FlatNearest {
+            dial_hz: none,
+            answer: 3,
+            refusal: 0,
+        },
+        Nearest::Refused(k) => FlatNearest {
+            dial_hz: none,
+            answer: 0,
+            refusal: k,
         },
     }
 }

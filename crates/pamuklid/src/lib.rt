@@ -14,6 +14,7 @@ use flat_answers::FlatDistance;
 use flat_answers::FlatFault;
 use flat_answers::FlatFields;
 use flat_answers::FlatImage;
+use flat_answers::FlatNearest;
 use flat_answers::FlatReport;
 use flat_answers::FlatText;
 use flat_answers::FlatTidiness;
@@ -33,13 +34,14 @@ ghost use Rattle.flat.specs.Flat.{stationRecordOf, stationOf, edgesOf, flatOf};
 ghost use Rattle.flat_answers.specs.Answers.{faultFlat, tidinessFlat};
 ghost use Rattle.flat.specs.Flat.{ceilingFlat};
 ghost use Rattle.flat_answers.specs.Answers.{FlatDialed, FlatReported, censusFlat, FlatWritten, FlatRaised, FlatLowered, FlatAmended};
-ghost use Rattle.flat_answers.specs.Answers.{distanceFlat, FlatTexted, FlatTotalled};
+ghost use Rattle.flat_answers.specs.Answers.{distanceFlat, nearestFlat, FlatTexted, FlatTotalled};
+ghost use Rattle.nearest.specs.Nearest.{nearestOf};
 ghost use Rattle.flat.specs.Flat.{walkOf, walkFlat, walkAnswerFlat, stepFlat, versionNumber};
 ghost use Rattle.walk.specs.Walk.{firstState, swapOf, openOf};
 ghost use Rattle.walk_step.specs.Step.{stepOf};
 
 // The version of this boundary: 0.13.0.
-pub const VERSION: u32 = 1300;
+pub const VERSION: u32 = 1400;
 
 // The version of this boundary, that of the header: 10,000 times the first number, 100 times the second, and the third.
 #[no_mangle]
@@ -278,6 +280,21 @@ pub extern "C" fn pamuklid_census_of(
     let record = flat::station_in(s);
     let edges = flat::edges_in(e);
     flat_answers::census_flat(census::census_of(record, kind, direction, edges, image, first, last))
+}
+
+// Where to move the dial to: the dial nearest to the record's own at which data is allowed, outside the channel band.
+#[no_mangle]
+pub extern "C" fn pamuklid_nearest_dial(
+    s: FlatStation,
+    direction: u8,
+    e: FlatEdges,
+    image: &[u8],
+) -> FlatNearest
+    ensures { λ r. ⌜ r ≡ nearestFlat (nearestOf (stationRecordOf s) direction (edgesOf e) (now (image .entry))) ⌝ }
+{
+    let record = flat::station_in(s);
+    let edges = flat::edges_in(e);
+    flat_answers::nearest_flat(nearest::nearest_dial(record, direction, edges, image))
 }
 
 // How far a dial stands from the nearest of the first count rows of a list, those of the channel band left out. flags and channel_band

@@ -46,7 +46,7 @@ fn two_share(s: &[u8], t: usize, classes: bool) -> bool
 }
 
 // Whether the table of an accepted image is tidy.
-fn tidy_table(s: &[u8]) -> bool
+pub fn tidy_table(s: &[u8]) -> bool
     requires { ⌜ Whole (now s) ⌝ }
     ensures { λ r. ⌜ r ≡ tidyTable (tableOf (now (s .entry))) ⌝ }
 {

@@ -6,8 +6,9 @@ use std::process::ExitCode;
 
 use pamuklid::{
     raw, text_at, text_hertz, text_khz, Amendment, Ceiling, Code, Control, Decision, Direction,
-    Distance, Edges, Fields, Kind, License, Overshoot, Place, Policy, Record, Refusal, ReportRow,
-    Sideband, Station, Step, Table, Tables, Walk, AMENDMENT, MOST_TEXT, REPORT_ROW, ROW,
+    Distance, Edges, Fields, Kind, License, Nearest, Overshoot, Place, Policy, Record, Refusal,
+    ReportRow, Sideband, Station, Step, Table, Tables, Verdict, Walk, AMENDMENT, MOST_TEXT,
+    REPORT_ROW, ROW,
 };
 
 fn station(dial_hz: f64, control: Control, power_w: Option<f64>) -> Station {
@@ -40,6 +41,21 @@ fn decision(d: &Decision) -> String {
 
 fn answer(a: Result<Decision, Refusal>) -> String {
     a.as_ref().map_or_else(|r| refusal(*r), decision)
+}
+
+/// Whether a verdict is blocked.
+fn blocked(a: &Result<Decision, Refusal>) -> bool {
+    a.as_ref().is_ok_and(|d| d.verdict == Verdict::Blocked)
+}
+
+/// Where to move the dial, where data is blocked.
+fn print_nearest(s: &Station, direction: Direction, edges: &Edges, image: &[u8]) {
+    match pamuklid::nearest_dial(s, direction, edges, image) {
+        Ok(Nearest::Dial(dial)) => println!("  move the dial to {dial}"),
+        Ok(Nearest::NoneAllowed) => println!("  no dial outside the channel band allows it"),
+        Ok(Nearest::NotJudged) => println!("  where to move the dial: not judged"),
+        Err(r) => println!("  where to move the dial: {}", refusal(r)),
+    }
 }
 
 /// The check, the tidy question, and where the table is wrong.
@@ -320,6 +336,8 @@ fn verdicts(image: &[u8]) {
         ("data", 14_023_799.875, (1_250.0, 1_750.0), None, Local, Originate, Data),
         ("data", 14_148_200.0, (1_250.0, 1_750.0), None, Local, Originate, Data),
         ("data", 14_148_200.125, (1_250.0, 1_750.0), None, Local, Originate, Data),
+        // a dial not in eighths
+        ("data", 14_148_200.1, (1_250.0, 1_750.0), None, Local, Originate, Data),
         ("data", 14_148_500.0, (1_250.0, 1_750.0), None, Local, Originate, Data),
         ("data", 14_149_000.0, (1_250.0, 1_750.0), None, Local, Originate, Data),
         ("data", 14_100_000.0, (100.0, 2_900.0), None, Local, Originate, Data),
@@ -336,6 +354,24 @@ fn verdicts(image: &[u8]) {
         (
             "automatic, originating",
             14_098_000.0,
+            (1_250.0, 1_750.0),
+            None,
+            Automatic,
+            Originate,
+            Data,
+        ),
+        (
+            "automatic, originating",
+            14_098_500.0,
+            (1_250.0, 1_750.0),
+            None,
+            Automatic,
+            Originate,
+            Data,
+        ),
+        (
+            "automatic, originating",
+            14_098_500.125,
             (1_250.0, 1_750.0),
             None,
             Automatic,
@@ -368,8 +404,13 @@ fn verdicts(image: &[u8]) {
     ];
     for (title, dial, (low, high), power, control, direction, kind) in rows {
         let s = station(dial, control, power);
-        let d = pamuklid::evaluate(&s, kind, direction, &Edges::both(low, high), image);
+        let edges = Edges::both(low, high);
+        let d = pamuklid::evaluate(&s, kind, direction, &edges, image);
+        let ask = kind == Data && blocked(&d);
         println!("{title}, dial {dial}, edges {low} to {high}: {}", answer(d));
+        if ask {
+            print_nearest(&s, direction, &edges, image);
+        }
     }
 }
 
@@ -391,7 +432,11 @@ fn margins(image: &[u8]) {
         };
         let edges = Edges::both(1_250.0, 1_750.0);
         let d = pamuklid::evaluate(&s, Kind::Data, Direction::Originate, &edges, image);
+        let ask = blocked(&d);
         println!("margins 25 and 450, {word} sideband, dial {dial}: {}", answer(d));
+        if ask {
+            print_nearest(&s, Direction::Originate, &edges, image);
+        }
     }
 }
 
@@ -565,5 +610,6 @@ fn main() -> ExitCode {
     let edges = Edges::both(1_250.0, 1_750.0);
     let d = pamuklid::evaluate(&s, Kind::Data, Direction::Originate, &edges, &[]);
     println!("no image: {}", answer(d));
+    print_nearest(&s, Direction::Originate, &edges, &[]);
     ExitCode::SUCCESS
 }

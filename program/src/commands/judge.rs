@@ -1,4 +1,4 @@
-//! `pamuklid judge`: the verdict on a transmission, the ceiling of rungs, and the dials for data.
+//! `pamuklid judge`: the verdict on a transmission, the ceiling of rungs, the dials for data, and where to move the dial.
 
 use clap::ArgAction;
 use pamuklid::{ceiling, evaluate, fault_of, Edges, Fault, Kind, Policy, Refusal};
@@ -7,8 +7,9 @@ use serde::Serialize;
 use crate::answer::{Answer, Failure, Status, Style};
 use crate::args::{in_order, Asked, KindArgs, SignalArgs, StationArgs, TableArgs, VerdictArgs, PRACTICE_EDGES};
 use crate::image::{self, Field};
-use crate::json::{CeilingJson, DecisionJson, Question, RangeJson, RefusalJson, RowJson};
+use crate::json::{CeilingJson, DecisionJson, NearestJson, Question, RangeJson, RefusalJson, RowJson};
 use crate::listing::{closing, list, list_remarks, notes, remarks, Listing};
+use crate::nearest::Move;
 use crate::text::{typed, Typed};
 use crate::words;
 
@@ -16,6 +17,9 @@ use crate::words;
 ///
 /// It goes by the practice table, which is made up, or by that of --table. The answer has the rule and the edges;
 /// with --rung, how fast a rung may be sent; and for data the dials. What is not given is the practice station's.
+///
+/// Where data is blocked, the last line says where to move the dial: up or down, by how much, and to which dial, the
+/// nearest at which it may be sent, 60 m left out; or that no dial will do; or why that was not judged.
 ///
 /// Exit status: 0 may be sent, 1 blocked, 2 not judged.
 #[derive(clap::Args, Debug)]
@@ -92,6 +96,8 @@ struct Json {
     refusal: Option<RefusalJson>,
     ceiling: Option<CeilingJson>,
     dials: Option<Vec<RowJson>>,
+    /// of data that is blocked
+    nearest: Option<NearestJson>,
     remarks: Vec<String>,
 }
 
@@ -121,6 +127,7 @@ pub fn answer(args: &Args, style: Style) -> Result<Answer, Failure> {
                 refusal: Some(RefusalJson::at(refusal, image, fault.as_ref())),
                 ceiling: None,
                 dials: None,
+                nearest: None,
                 remarks: Vec::new(),
             };
             return Answer::new(Status::NotAnswered, text, &json);
@@ -176,6 +183,23 @@ pub fn answer(args: &Args, style: Style) -> Result<Answer, Failure> {
     let on_list = listing.as_ref().map_or_else(Vec::new, |listing| list_remarks(&asked, listing));
     text.push_str(&closing(&asked, &on_list, style));
     remarks.extend(on_list);
+
+    let mut nearest = None;
+    if asked.kind == Kind::Data && !decision.allowed() {
+        text.push('\n');
+        match Move::of(&asked, &decision, listing.as_ref()) {
+            Ok(to) => {
+                text.push_str(&to.text(style));
+                nearest = Some(NearestJson::of(&to));
+            }
+            Err(refusal) => {
+                let head = "Where to move the dial was not judged";
+                text.push_str(&words::refusal(head, refusal, &asked.table, None, style));
+                refused.get_or_insert(RefusalJson::of(refusal));
+                status = Status::NotAnswered;
+            }
+        }
+    }
     let json = Json {
         command: "judge",
         status: status as u8,
@@ -184,6 +208,7 @@ pub fn answer(args: &Args, style: Style) -> Result<Answer, Failure> {
         refusal: refused,
         ceiling: climbed,
         dials: listing.as_ref().map(Listing::json),
+        nearest,
         remarks,
     };
     Answer::new(status, text, &json)

@@ -1,4 +1,5 @@
-//! A dial list: its rows, as their bytes have them, and the distance of a dial from it.
+//! A dial list: its rows, as their bytes have them, and the distance of a dial from it; and the nearest dial
+//! at which data is allowed.
 
 use crate::answer::Range;
 use crate::codes::{Refusal, Rule};
@@ -140,6 +141,40 @@ impl Distance {
         match self {
             Self::NoneListed => 0,
             Self::Hz(_) => 1,
+        }
+    }
+}
+
+/// Where to move the dial: the answer of [`nearest_dial`](crate::nearest_dial).
+#[derive(Clone, Copy, Debug, PartialEq)]
+pub enum Nearest {
+    /// To this dial, in hertz, a whole number of eighths. It is no verdict: judge every transmission all the
+    /// same.
+    Dial(f64),
+    /// Nowhere: no dial outside the channel band (60 m) allows data.
+    NoneAllowed,
+    /// Not judged: something that [`nearest_dial`](crate::nearest_dial) needs is not met.
+    NotJudged,
+}
+
+impl Nearest {
+    /// The value of its two numbers in an answer that is not refused; `None` where the first stands for
+    /// nothing. The hertz are read only where the first number has a use for them.
+    pub const fn from_numbers(answer: u8, dial_hz: f64) -> Option<Self> {
+        match answer {
+            1 => Some(Self::Dial(dial_hz)),
+            2 => Some(Self::NoneAllowed),
+            3 => Some(Self::NotJudged),
+            _ => None,
+        }
+    }
+
+    /// The first of its numbers.
+    pub const fn number(self) -> u8 {
+        match self {
+            Self::Dial(_) => 1,
+            Self::NoneAllowed => 2,
+            Self::NotJudged => 3,
         }
     }
 }

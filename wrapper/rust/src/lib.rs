@@ -21,6 +21,7 @@
 //! | [`Walk`] | the same, a rung at a time, while another table is loaded |
 //! | [`safe_dials`] | the dials at which a signal stays inside the rules |
 //! | [`DialList::distance`], [`distance`] | how far a dial stands from those of a list |
+//! | [`nearest_dial`] | where to move the dial: the nearest at which data is allowed |
 //! | [`text_at`], [`text_khz`] | a frequency's text, kilohertz: three decimals, or as many as it needs |
 //! | [`text_hertz`] | a figure's text, whole hertz |
 //! | [`census`] | how many dials of a stretch get each code |
@@ -107,7 +108,7 @@ pub use codes::{
     Code, Control, Direction, Edge, Guidance, Kind, License, Overshoot, Policy, Refusal, Rule,
     Sideband, UnknownName, Verdict,
 };
-pub use dials::{DialList, DialRow, DialRows, Distance, ROW};
+pub use dials::{DialList, DialRow, DialRows, Distance, Nearest, ROW};
 pub use fault::{Fault, Place, Table};
 pub use raw::{Edges, CODES, MOST_DIALS, MOST_LOG};
 pub use report::{Report, ReportRow, ReportRows, MOST_REPORT, REPORT_ROW};
@@ -307,6 +308,66 @@ pub fn distance(
     codes::refused(flat.refusal)?;
     let value = Distance::from_numbers(flat.listed, flat.distance_hz);
     Ok(codes::known("listed mark", flat.listed, value))
+}
+
+/// Where to move the dial. Of the dials in whole eighths of a hertz whose signal with its margins the channel
+/// band (60 m) does not hold: the one at which [`evaluate`] allows data and no such dial is closer to the
+/// station's; of two equally close the lower. It is the station's dial itself where that is one of them. The
+/// station's dial may lie in the channel band; what is allowed there does not count.
+///
+/// The answer is [`Nearest::NotJudged`] where nothing is refused and one of these fails, and only there:
+///
+/// - the policy is [`Policy::Rules`], and the table is [`tidy`];
+/// - the station is in the table's region, and its control, license, sideband and dial are known;
+/// - the width of the edges that the table reads, plus both margins, is above 0;
+/// - every figure in hertz is a whole number of eighths and at most 2^38 in size: those of the image (with the
+///   plan off too; watts are none), of both pairs of edges, of the margins and of the dial.
+///
+/// The image is read under [`Policy::Rules`] only. Refusals 20 to 22, 1 to 14, 15.
+///
+/// ```
+/// use pamuklid::{nearest_dial, Control, Direction, Edges, License, Nearest, Policy, Sideband, Station};
+///
+/// # let table = concat!(env!("CARGO_MANIFEST_DIR"), "/../../tools/reference/practice.bin");
+/// # let image = std::fs::read(table).unwrap();
+/// // General on the practice table, 250 Hz beyond the upper edge of the data segment of 20 m
+/// let mut station = Station {
+///     policy: Policy::Rules,
+///     control: Some(Control::Local),
+///     license: Some(License::General),
+///     sideband: Some(Sideband::Upper),
+///     itu_region: 2,
+///     margin_lower_hz: 50.0,
+///     margin_upper_hz: 50.0,
+///     dial_hz: Some(14_148_500.0),
+///     power_w: None,
+///     band_plan: false,
+/// };
+/// let edges = Edges::both(1_250.0, 1_750.0);
+/// let nearest = nearest_dial(&station, Direction::Originate, &edges, &image)?;
+/// assert_eq!(nearest, Nearest::Dial(14_148_200.0));
+/// assert_eq!(nearest.to_string(), "the nearest dial for data is 14148.200 kHz");
+/// // The table has privileges for General alone.
+/// station.license = Some(License::Novice);
+/// let nearest = nearest_dial(&station, Direction::Originate, &edges, &image)?;
+/// assert_eq!(nearest, Nearest::NoneAllowed);
+/// // No dial to move from.
+/// station.dial_hz = None;
+/// let nearest = nearest_dial(&station, Direction::Originate, &edges, &image)?;
+/// assert_eq!(nearest, Nearest::NotJudged);
+/// # Ok::<(), pamuklid::Refusal>(())
+/// ```
+pub fn nearest_dial(
+    station: &Station,
+    direction: Direction,
+    edges: &Edges,
+    image: &[u8],
+) -> Result<Nearest, Refusal> {
+    version::checked();
+    let flat = raw::nearest_dial(station.flat(), direction.number(), *edges, image);
+    codes::refused(flat.refusal)?;
+    let value = Nearest::from_numbers(flat.answer, flat.dial_hz);
+    Ok(codes::known("nearest dial", flat.answer, value))
 }
 
 /// A census of a band, for whoever compares tables: how many of the whole-hertz dials from `first` to

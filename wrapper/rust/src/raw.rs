@@ -10,7 +10,7 @@
 use std::mem::size_of;
 
 /// The version of the library that this crate was written for: major * 10000 + minor * 100 + patch.
-pub const VERSION: u32 = 1300;
+pub const VERSION: u32 = 1400;
 /// A control, license or sideband that is not known.
 pub const ABSENT: u8 = 255;
 /// The rung of a ceiling that has none.
@@ -373,6 +373,18 @@ pub struct Distance {
     pub refusal: u8,
 }
 
+/// The nearest dial at which data is allowed.
+#[repr(C)]
+#[derive(Clone, Copy, Debug)]
+pub struct Nearest {
+    /// The dial where `answer` is 1; else +infinity.
+    pub dial_hz: f64,
+    /// 0 on a refusal; else [`Nearest`](crate::Nearest)'s first number.
+    pub answer: u8,
+    /// 0; or 20 to 22, 1 to 14, 15.
+    pub refusal: u8,
+}
+
 /// The answer of a table's report.
 #[repr(C)]
 #[derive(Clone, Copy, Debug)]
@@ -458,6 +470,7 @@ const _: () = {
     assert!(size_of::<Step>() == 416);
     assert!(size_of::<Dials>() == 8);
     assert!(size_of::<Distance>() == 16);
+    assert!(size_of::<Nearest>() == 16);
     assert!(size_of::<Report>() == 8);
     assert!(size_of::<Image>() == 8);
     assert!(size_of::<Text>() == 8);
@@ -563,6 +576,13 @@ extern "C" {
         rows: *const u8,
         rows_len: usize,
     ) -> Distance;
+    fn pamuklid_nearest_dial(
+        s: Station,
+        direction: u8,
+        e: Edges,
+        image: *const u8,
+        n: usize,
+    ) -> Nearest;
     fn pamuklid_text_at(hz: f64, text: *mut u8, room: usize) -> Text;
     fn pamuklid_text_khz(hz: f64, text: *mut u8, room: usize) -> Text;
     fn pamuklid_text_hertz(hz: f64, text: *mut u8, room: usize) -> Text;
@@ -782,6 +802,12 @@ pub fn safe_dials(s: Station, direction: u8, e: Edges, image: &[u8], rows: &mut 
 pub fn distance(dial_hz: f64, flags: u8, channel_band: u8, count: u32, rows: &[u8]) -> Distance {
     let (at, len) = (rows.as_ptr(), rows.len());
     unsafe { pamuklid_distance_of(dial_hz, flags, channel_band, count, at, len) }
+}
+
+/// `pamuklid_nearest_dial`.
+#[inline]
+pub fn nearest_dial(s: Station, direction: u8, e: Edges, image: &[u8]) -> Nearest {
+    unsafe { pamuklid_nearest_dial(s, direction, e, image.as_ptr(), image.len()) }
 }
 
 /// `pamuklid_text_at`: kilohertz, three decimals.

@@ -5,7 +5,7 @@ use std::sync::atomic::{AtomicBool, Ordering};
 
 use crate::raw;
 
-/// A version of the library, as `0.13.0`.
+/// A version of the library, as `0.14.0`.
 #[derive(Clone, Copy, Debug, PartialEq, Eq, PartialOrd, Ord, Hash)]
 pub struct Version {
     /// Changes with what the calls mean.
@@ -65,9 +65,9 @@ mod tests {
     }
 
     #[test]
-    #[should_panic(expected = "written for libpamuklid.a 0.13.0, and 0.13.1 is linked: build the")]
+    #[should_panic(expected = "written for libpamuklid.a 0.14.0, and 0.14.1 is linked: build the")]
     fn a_later_patch() {
-        agree(Version::from_number(1301));
+        agree(Version::from_number(1401));
     }
 
     #[test]

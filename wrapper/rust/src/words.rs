@@ -11,7 +11,7 @@ use crate::codes::{
     Code, Control, Direction, Edge, Guidance, Kind, License, Overshoot, Policy, Refusal, Rule,
     Sideband, Verdict,
 };
-use crate::dials::{DialRow, Distance};
+use crate::dials::{DialRow, Distance, Nearest};
 use crate::fault::{Fault, Place, Table};
 use crate::report::ReportRow;
 use crate::texts::{text_at, text_hertz, text_khz, MOST_TEXT};
@@ -705,6 +705,16 @@ impl Display for Distance {
             Self::Hz(0.0) => f.pad("the dial is listed"),
             Self::Hz(far) => write!(f, "the nearest listed dial is {} away", Hertz(far)),
             Self::NoneListed => f.pad("no dial is listed outside the channel band"),
+        }
+    }
+}
+
+impl Display for Nearest {
+    fn fmt(&self, f: &mut Formatter<'_>) -> fmt::Result {
+        match *self {
+            Self::Dial(hz) => write!(f, "the nearest dial for data is {}", Kilohertz(hz)),
+            Self::NoneAllowed => f.pad("no dial outside the channel band allows data"),
+            Self::NotJudged => f.pad("the nearest dial for data was not judged"),
         }
     }
 }

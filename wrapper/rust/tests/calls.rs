@@ -2,11 +2,12 @@
 //! library's.
 
 use pamuklid::{
-    airtime, ceiling, census, check, distance, evaluate, fault_of, lower, raise, raw, report,
-    safe_dials, text_at, text_hertz, text_khz, tidy, unmeasured, version, Code, Control, DialRow,
-    DialRows, Direction, Distance, Edge, Edges, Fault, Guidance, Kind, License, Overshoot, Place,
-    Policy, Range, Refusal, ReportRow, Rule, Segment, Sideband, SixtyNotes, Station, Table,
-    Verdict, MOST_DIALS, MOST_LOG, MOST_REPORT, MOST_TEXT, REPORT_ROW, ROW, VERSION,
+    airtime, ceiling, census, check, distance, evaluate, fault_of, lower, nearest_dial, raise, raw,
+    report, safe_dials, text_at, text_hertz, text_khz, tidy, unmeasured, version, Code, Control,
+    DialRow, DialRows, Direction, Distance, Edge, Edges, Fault, Guidance, Kind, License, Nearest,
+    Overshoot, Place, Policy, Range, Refusal, ReportRow, Rule, Segment, Sideband, SixtyNotes,
+    Station, Table, Verdict, MOST_DIALS, MOST_LOG, MOST_REPORT, MOST_TEXT, REPORT_ROW, ROW,
+    VERSION,
 };
 
 static IMAGE: &[u8] = include_bytes!("../../../tools/reference/practice.bin");
@@ -490,6 +491,9 @@ fn no_such_direction() {
         let rows = raw::safe_dials(s, direction, EDGES, IMAGE, &mut bytes);
         assert_eq!((rows.refusal, rows.count == 0), (want, want == 20));
         assert_eq!(bytes == [7; 4 * ROW], want == 20);
+        let near = raw::nearest_dial(s, direction, EDGES, IMAGE);
+        assert_eq!((near.refusal, near.answer), (want, u8::from(want == 0)));
+        assert_eq!(near.dial_hz == f64::INFINITY, want == 20);
     }
 }
 
@@ -634,6 +638,14 @@ fn absent_parts_are_safe() {
     assert_eq!(far(14_100_000.0, 0), (0, 0, f64::INFINITY));
     assert_eq!(far(14_100_000.0, 1), (23, 0, f64::INFINITY));
     assert_eq!(far(f64::NAN, 0), (21, 0, f64::INFINITY));
+    let near = |s, edges, image| {
+        let near = raw::nearest_dial(s, 0, edges, image);
+        (near.refusal, near.answer, near.dial_hz)
+    };
+    assert_eq!(near(s, EDGES, IMAGE), (0, 1, 14_100_000.0));
+    assert_eq!(near(s, EDGES, &[]), (22, 0, f64::INFINITY));
+    assert_eq!(near(s, Edges::both(0.0, 2_900.0), IMAGE), (0, 2, f64::INFINITY));
+    assert_eq!(near(raw::Station { dial_known: 0, ..s }, EDGES, IMAGE), (0, 3, f64::INFINITY));
 }
 
 /// The floor control frame counts where a rung's mark says so.
@@ -792,6 +804,213 @@ fn distance_off_the_channel_band() {
     // both rows of 60 m alone
     assert_eq!(at(4, 60, 2), Ok(Distance::NoneListed));
     assert_eq!(at(0, 60, 2), Ok(Distance::Hz(50.0)));
+}
+
+/// The call for a station that originates.
+fn near(s: &Station, edges: &Edges, image: &[u8]) -> Result<Nearest, Refusal> {
+    nearest_dial(s, Direction::Originate, edges, image)
+}
+
+const TWO_38: f64 = 274_877_906_944.0;
+
+/// Outside 60 m General's dials are 14,023,800 to 14,148,200, under automatic control 14,093,800 to 14,097,700
+/// and 14,099,300 to 14,110,200.
+#[test]
+fn nearest_dials() {
+    let moved =
+        |s: &Station, to| assert_eq!(near(s, &EDGES, IMAGE), Ok(Nearest::Dial(to)), "{s:?}");
+    for (dial_hz, to) in [
+        (14_023_800.0, 14_023_800.0),
+        (14_100_000.125, 14_100_000.125),
+        (14_148_200.0, 14_148_200.0),
+        (14_023_799.875, 14_023_800.0),
+        (14_148_200.125, 14_148_200.0),
+        (14_149_000.0, 14_148_200.0),
+        (0.0, 14_023_800.0),
+        (-0.0, 14_023_800.0),
+        (-TWO_38, 14_023_800.0),
+        (TWO_38, 14_148_200.0),
+        // in the channel band: set up for the channel, off it, and in the segment of 60 m
+        (5_330_500.0, 14_023_800.0),
+        (5_330_550.125, 14_023_800.0),
+        (5_360_000.0, 14_023_800.0),
+    ] {
+        moved(&station(dial_hz), to);
+    }
+    for (dial_hz, to) in [
+        (14_098_000.0, 14_097_700.0),
+        (14_098_499.875, 14_097_700.0),
+        (14_098_500.0, 14_097_700.0), // equally far from both: the lower
+        (14_098_500.125, 14_099_300.0),
+        (14_148_500.0, 14_110_200.0),
+    ] {
+        moved(&automatic(dial_hz), to);
+        let s = automatic(dial_hz);
+        let to = Ok(Nearest::Dial(to));
+        assert_eq!(nearest_dial(&s, Direction::RespondToAutomatic, &EDGES, IMAGE), to);
+        // answering an operator's station it has all of General's dials
+        let own = Ok(Nearest::Dial(dial_hz.min(14_148_200.0)));
+        assert_eq!(nearest_dial(&s, Direction::Respond, &EDGES, IMAGE), own);
+    }
+    // the lower sideband with two margins: 14,025,000 + 1,750 + 25 to 14,150,000 + 1,250 - 450
+    for (dial_hz, to) in [(14_026_774.875, 14_026_775.0), (14_150_800.125, 14_150_800.0)] {
+        let (sideband, margin_lower_hz, margin_upper_hz) = (Some(Sideband::Lower), 25.0, 450.0);
+        moved(&Station { sideband, margin_lower_hz, margin_upper_hz, ..station(dial_hz) }, to);
+    }
+    // a dial of negative zero reads as zero
+    let high = Edges::both(14_030_000.0, 14_030_500.0);
+    let Ok(Nearest::Dial(own)) = near(&station(-0.0), &high, IMAGE) else { panic!("no dial") };
+    assert_eq!(own.to_bits(), 0);
+    // 2,800 wide and no more; and nobody but General has a privilege
+    let wide = Edges::both(100.0, 2_900.0);
+    assert_eq!(near(&station(0.0), &wide, IMAGE), Ok(Nearest::Dial(14_024_950.0)));
+    let wider = Edges::both(100.0, 2_900.125);
+    assert_eq!(near(&station(14_100_000.0), &wider, IMAGE), Ok(Nearest::NoneAllowed));
+    let s = Station { license: Some(License::Extra), ..station(14_100_000.0) };
+    assert_eq!(near(&s, &EDGES, IMAGE), Ok(Nearest::NoneAllowed));
+}
+
+/// The dial given is allowed, an eighth nearer is not, and the list's distance is that of the dial given.
+#[test]
+fn nearest_beside_the_list() {
+    let allowed = |s: &Station, dial_hz| {
+        let s = Station { dial_hz: Some(dial_hz), ..*s };
+        evaluate(&s, Kind::Data, Direction::Originate, &EDGES, IMAGE).unwrap().allowed()
+    };
+    for at in 0..4_000 {
+        let dial_hz = 14_020_000.0 + 33.125 * f64::from(at);
+        for s in [station(dial_hz), automatic(dial_hz)] {
+            let Ok(Nearest::Dial(to)) = near(&s, &EDGES, IMAGE) else { panic!("{s:?}") };
+            assert!(allowed(&s, to), "{s:?} to {to}");
+            if to != dial_hz {
+                assert!(!allowed(&s, to + 0.125 * (dial_hz - to).signum()), "{s:?} to {to}");
+            }
+            let mut bytes = [0; 3 * ROW];
+            let list = safe_dials(&s, Direction::Originate, &EDGES, IMAGE, &mut bytes).unwrap();
+            assert_eq!(list.distance(dial_hz), Ok(Distance::Hz((to - dial_hz).abs())));
+        }
+    }
+}
+
+/// One premise fails, each in its turn.
+#[test]
+fn nearest_not_judged() {
+    let not_judged = Ok(Nearest::NotJudged);
+    let s = station(14_149_000.0);
+    let to = Ok(Nearest::Dial(14_148_200.0));
+    assert_eq!(near(&s, &EDGES, IMAGE), to);
+    // rules in force: of others no image is looked at
+    for policy in [Policy::Unset, Policy::NoRules, Policy::Broken] {
+        assert_eq!(near(&Station { policy, ..s }, &EDGES, &[]), not_judged);
+    }
+    for missing in [
+        Station { itu_region: 1, ..s },
+        Station { control: None, ..s },
+        Station { license: None, ..s },
+        Station { sideband: None, ..s },
+        Station { dial_hz: None, ..s },
+    ] {
+        assert_eq!(near(&missing, &EDGES, IMAGE), not_judged, "{missing:?}");
+    }
+    let figure = |x: f64| x.to_bits().to_le_bytes();
+    // tidy: band 60 up to 15,000,000
+    assert_eq!(near(&s, &EDGES, &with(104, &figure(15_000_000.0))), not_judged);
+    // the guarded width: 500 less 250 and 250; with an eighth more the signal is 1,500 to 1,500.125 above the dial
+    let narrow = |upper| Station { margin_lower_hz: -250.0, margin_upper_hz: upper, ..s };
+    assert_eq!(near(&narrow(-250.0), &EDGES, IMAGE), not_judged);
+    let last = Ok(Nearest::Dial(14_148_499.875));
+    assert_eq!(near(&narrow(-249.875), &EDGES, IMAGE), last);
+    // eighths, and 2^38
+    for x in [0.0625, TWO_38 + 0.125, -TWO_38 - 0.125] {
+        for off in [
+            Station { dial_hz: Some(x), ..s },
+            Station { margin_lower_hz: x, ..s },
+            Station { margin_upper_hz: x, ..s },
+        ] {
+            assert_eq!(near(&off, &EDGES, IMAGE), not_judged, "{off:?}");
+        }
+        // the pair that is read, and the other: byte 41 is the reading, 0 by power and 1 by spectrum
+        for off in [
+            Edges { power_low: x, ..EDGES },
+            Edges { power_high: x, ..EDGES },
+            Edges { spectral_low: x, ..EDGES },
+            Edges { spectral_high: x, ..EDGES },
+        ] {
+            for reading in 0..3 {
+                assert_eq!(near(&s, &off, &with(41, &[reading])), not_judged, "{off:?}");
+            }
+        }
+    }
+    // the general limit, the elsewhere limit, a channel's width, carrier offset and tolerance, a channel's centre, an
+    // automatic segment's end: under local control too
+    for (at, x) in [
+        (0, 2_800.062_5),
+        (8, 500.062_5),
+        (16, 2_800.062_5),
+        (24, 1_500.062_5),
+        (32, 50.062_5),
+        (192, 5_332_000.062_5),
+        (328, 14_112_000.062_5),
+        (328, TWO_38 + 0.125),
+    ] {
+        assert_eq!(near(&s, &EDGES, &with(at, &figure(x))), not_judged, "{x} at {at}");
+    }
+    assert_eq!(near(&s, &EDGES, &with(328, &figure(TWO_38))), to);
+    // an own limit, under bit 0 of its segment's flags
+    let mut own = with(144, &figure(2_800.062_5));
+    own[155] = 1;
+    assert_eq!(near(&s, &EDGES, &own), not_judged);
+}
+
+/// An image with a record more behind the last: the table's number, and its low, high and figure.
+fn and(table: usize, figures: [f64; 3]) -> Vec<u8> {
+    let mut image = IMAGE[..352].to_vec();
+    figures.iter().for_each(|x| image.extend(x.to_bits().to_le_bytes()));
+    image.extend([0; 8]);
+    image.extend(&IMAGE[352..]);
+    image[384 + 2 * table] += 1;
+    image[384 + 18..384 + 22].copy_from_slice(&384u32.to_le_bytes());
+    image
+}
+
+/// Watts are no hertz; the plan's areas count with the plan off too.
+#[test]
+fn nearest_of_watts_and_plans() {
+    let s = station(14_149_000.0);
+    let to = Ok(Nearest::Dial(14_148_200.0));
+    assert_eq!(near(&s, &EDGES, &second(100.0, 9.15)), to);
+    assert_eq!(near(&Station { power_w: Some(9.15), ..s }, &EDGES, IMAGE), to);
+    let power = |low| and(6, [low, 14_350_000.0, 9.15]);
+    assert_eq!(near(&s, &EDGES, &power(14_000_000.0)), to);
+    assert_eq!(near(&s, &EDGES, &power(14_000_000.062_5)), Ok(Nearest::NotJudged));
+    let plan = |low| {
+        let mut image = and(7, [low, 14_112_000.0, 0.0]);
+        image[42] |= raw::PART_PLAN;
+        image
+    };
+    for band_plan in [false, true] {
+        let s = Station { band_plan, ..s };
+        assert_eq!(near(&s, &EDGES, &plan(14_070_000.0)), to);
+        assert_eq!(near(&s, &EDGES, &plan(14_070_000.062_5)), Ok(Nearest::NotJudged));
+    }
+}
+
+/// A refusal comes before "not judged".
+#[test]
+fn nearest_refused() {
+    let s = Station { control: None, ..station(14_149_000.0) };
+    assert_eq!(near(&s, &EDGES, IMAGE), Ok(Nearest::NotJudged));
+    let far = Station { dial_hz: Some(4.0 * TWO_38 + 0.125), ..s };
+    assert_eq!(near(&far, &EDGES, &[]), Err(Refusal::StationFigure));
+    let far = Station { policy: Policy::NoRules, ..far };
+    assert_eq!(near(&far, &EDGES, &[]), Err(Refusal::StationFigure));
+    let edges = Edges { spectral_low: f64::NAN, ..EDGES };
+    assert_eq!(near(&s, &edges, &[]), Err(Refusal::NoImage));
+    assert_eq!(near(&s, &edges, &IMAGE[1..]), Err(Refusal::Counts));
+    assert_eq!(near(&s, &edges, &with(41, &[3])), Err(Refusal::CodedByte));
+    assert_eq!(near(&s, &edges, IMAGE), Err(Refusal::SignalEdge));
+    let free = Station { policy: Policy::NoRules, ..s };
+    assert_eq!(near(&free, &edges, &[]), Err(Refusal::SignalEdge));
 }
 
 /// A row by its bytes, written by hand.

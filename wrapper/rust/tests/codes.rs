@@ -4,8 +4,8 @@ use std::fmt::Debug;
 use std::str::FromStr;
 
 use pamuklid::{
-    Code, Control, Direction, Distance, Edge, Guidance, Kind, License, Overshoot, Policy, Refusal,
-    Rule, Sideband, Table, UnknownName, Verdict,
+    Code, Control, Direction, Distance, Edge, Guidance, Kind, License, Nearest, Overshoot, Policy,
+    Refusal, Rule, Sideband, Table, UnknownName, Verdict,
 };
 
 /// All 256 bytes: those of `numbers` are values, each its own, and no other byte is. Each value has a
@@ -123,7 +123,7 @@ fn rules() {
     }
 }
 
-/// An overshoot, a guidance and a distance by all bytes of their numbers.
+/// An overshoot, a guidance, a distance and a nearest dial by all bytes of their numbers.
 #[test]
 fn numbers_with_parts() {
     for byte in 0..=255 {
@@ -159,6 +159,17 @@ fn numbers_with_parts() {
             let want = match byte {
                 0 => Some(Distance::NoneListed),
                 1 => Some(Distance::Hz(hertz)),
+                _ => None,
+            };
+            assert_eq!(value, want);
+            if let Some(value) = value {
+                assert_eq!(value.number(), byte);
+            }
+            let value = Nearest::from_numbers(byte, hertz);
+            let want = match byte {
+                1 => Some(Nearest::Dial(hertz)),
+                2 => Some(Nearest::NoneAllowed),
+                3 => Some(Nearest::NotJudged),
                 _ => None,
             };
             assert_eq!(value, want);

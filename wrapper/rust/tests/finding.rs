@@ -107,13 +107,13 @@ fn older() {
     fails(&output, &["/lib/libpamuklid.a is older than this crate", "build it again"]);
 }
 
-/// A library that says 0.13.1: its version can be asked, and no other call goes to it.
+/// A library that says 0.14.1: its version can be asked, and no other call goes to it.
 #[test]
 fn another_version() {
     let program = "
 #[no_mangle]
 extern \"C\" fn pamuklid_version() -> u32 {
-    1301
+    1401
 }
 
 #[no_mangle]
@@ -130,7 +130,7 @@ fn main() {
     let root = scene_with("another_version", "\"no-link\"", program);
     let output = cargo("run", &root, &root, "");
     assert!(!output.status.success());
-    assert_eq!(String::from_utf8_lossy(&output.stdout), "0.13.1\n", "{}", said(&output));
-    let why = "written for libpamuklid.a 0.13.0, and 0.13.1 is linked: build the library again";
+    assert_eq!(String::from_utf8_lossy(&output.stdout), "0.14.1\n", "{}", said(&output));
+    let why = "written for libpamuklid.a 0.14.0, and 0.14.1 is linked: build the library again";
     assert!(said(&output).contains(why), "{}", said(&output));
 }

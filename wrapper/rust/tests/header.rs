@@ -7,8 +7,8 @@ use std::fs;
 use std::path::Path;
 
 use pamuklid::{
-    raw, Amendment, Code, Control, DialRow, Direction, Edge, Guidance, Kind, License, Overshoot,
-    Policy, Range, Record, Refusal, ReportRow, Rule, Sideband, Table, Verdict, VERSION,
+    raw, Amendment, Code, Control, DialRow, Direction, Edge, Guidance, Kind, License, Nearest,
+    Overshoot, Policy, Range, Record, Refusal, ReportRow, Rule, Sideband, Table, Verdict, VERSION,
 };
 
 fn file(name: &str) -> String {
@@ -115,6 +115,15 @@ fn every_number() {
         ("OUTSIDE", Guidance::Outside),
     ] {
         numbers.take(&format!("GUIDANCE_{name}"), guidance.number().into());
+    }
+    numbers.take("NEAREST_REFUSED", 0);
+    assert_eq!(Nearest::from_numbers(0, 1.0), None);
+    for (name, nearest) in [
+        ("DIAL", Nearest::Dial(1.0)),
+        ("NONE", Nearest::NoneAllowed),
+        ("NOT_JUDGED", Nearest::NotJudged),
+    ] {
+        numbers.take(&format!("NEAREST_{name}"), nearest.number().into());
     }
     for (name, place) in [("NONE", 0), ("GENERAL", 1), ("RECORD", 2)] {
         numbers.take(&format!("PLACE_{name}"), place);
@@ -447,7 +456,9 @@ fn of_rust(source: &str) -> (Structs, Calls) {
 fn library() -> String {
     let crates = Path::new(env!("CARGO_MANIFEST_DIR")).join("../../crates");
     let source = |name| fs::read_to_string(crates.join(name).join("src/lib.rt"));
-    ["flat", "flat_answers", "pamuklid"].map(|name| source(name).expect("the library's source")).concat()
+    ["flat", "flat_answers", "pamuklid"]
+        .map(|name| source(name).expect("the library's source"))
+        .concat()
 }
 
 #[test]
@@ -456,8 +467,8 @@ fn structs_and_calls() {
     let (structs, calls) = of_rust(&file("src/raw.rs"));
     let (their_structs, their_calls) = of_rust(&library());
     let names = |of: &Structs| of.keys().cloned().collect::<BTreeSet<_>>();
-    assert_eq!(c_structs.len(), 17);
-    assert_eq!(c_calls.len(), 24);
+    assert_eq!(c_structs.len(), 18);
+    assert_eq!(c_calls.len(), 25);
     assert_eq!(names(&structs), names(&c_structs));
     assert_eq!(names(&structs), names(&their_structs));
     for (name, fields) in &structs {

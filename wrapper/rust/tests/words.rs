@@ -5,8 +5,8 @@ use std::fmt::Display;
 
 use pamuklid::{
     Ceiling, Code, Control, Decision, DialRow, Direction, Distance, Edge, Fault, Guidance, Hertz,
-    Kilohertz, Kind, License, Overshoot, Place, Policy, PowerNotes, Range, Refusal, ReportRow,
-    Rule, Segment, Sideband, SixtyNotes, Table, Verdict, Version,
+    Kilohertz, Kind, License, Nearest, Overshoot, Place, Policy, PowerNotes, Range, Refusal,
+    ReportRow, Rule, Segment, Sideband, SixtyNotes, Table, Verdict, Version,
 };
 
 fn range(low_hz: f64, high_hz: f64) -> Range {
@@ -42,7 +42,7 @@ fn figures() {
     reads(range(5_330_600.0, 5_333_450.0), "5330.6 to 5333.450 kHz");
     let segment = Segment { range: range(14_095_000.0, 14_099_500.0), rule: Rule::Table(13) };
     reads(segment, "14095 to 14099.5 kHz (rule 13 of the table)");
-    reads(Version { major: 0, minor: 13, patch: 0 }, "0.13.0");
+    reads(Version { major: 0, minor: 14, patch: 0 }, "0.14.0");
     reads(Version::from_number(123_456), "12.34.56");
 }
 
@@ -276,6 +276,10 @@ fn parts_of_an_answer() {
     reads(Distance::Hz(0.125), "the nearest listed dial is under 1 Hz away");
     reads(Distance::Hz(8_693_300.0), "the nearest listed dial is 8693300 Hz away");
     reads(Distance::NoneListed, "no dial is listed outside the channel band");
+    reads(Nearest::Dial(14_148_200.0), "the nearest dial for data is 14148.200 kHz");
+    reads(Nearest::Dial(14_148_199.5), "the nearest dial for data is about 14148.200 kHz");
+    reads(Nearest::NoneAllowed, "no dial outside the channel band allows data");
+    reads(Nearest::NotJudged, "the nearest dial for data was not judged");
     let power = |records: &[usize]| records.iter().copied().collect::<PowerNotes>();
     reads(PowerNotes::NONE, "the power is above no power limit of the table");
     reads(power(&[3]), "the power is above the table's power limit 3");

@@ -1,0 +1,18 @@
+-- By the figure.
+use mathlib.Core.Path.{ap, _∙_}
+use Rattle.on_grid.specs.Within.{figureMet}
+use borrow.Author.Needs.{needs}
+use Rattle.on_grid.proofs.bits_met.Statement.{statement}
+use Rattle.on_grid.proofs.bits_met.Tie as tie
+
+figure-requires : tie.Need-figure-requires
+figure-requires c κs = search needs
+
+figure-met-requires : tie.Need-figure-met-requires
+figure-met-requires c κs = search needs
+
+returns : tie.Need-returns
+returns c = c .figure-met .ensures ∙ ap figureMet (c .before .figure .ensures)
+
+pub bits-met-spec : {M : Type 1} → statement M
+bits-met-spec = tie.close (tie.spec figure-requires figure-met-requires returns)
