@@ -1,11 +1,7 @@
 // A program of the gate: it takes the censuses that its input describes, and writes the refusal and the counts of each. Input and output
-// come from tools/reference/census.py, which says what the bytes mean. It stops at input that is malformed. It uses figures, codes,
-// profile, occupancy, air, station, layout, numbers and census.
-use air::Margins;
+// come from tools/reference/census.py, which says what the bytes mean. It stops at input that is malformed. It uses
+// layout, numbers, census and asked.
 use census::Census;
-use occupancy::Edges;
-use profile::Range;
-use station::StationRecord;
 ghost use Prim.Native.Nat.{_+_, _≤_};
 ghost use lib.ListN.{length};
 
@@ -38,12 +34,6 @@ fn shown(c: Census) {
     io::write_all(1, b"\n");
 }
 
-fn figure_at(s: &[u8], at: usize) -> f64
-    requires { ⌜ at + 8 ≤ length (now s) ⌝ }
-{
-    figures::figure(layout::u64_at(s, at))
-}
-
 // A signed number from its bits.
 fn signed(bits: u64) -> i64 {
     if bits < 0x8000_0000_0000_0000 {
@@ -52,50 +42,14 @@ fn signed(bits: u64) -> i64 {
     (0 - ((0xffff_ffff_ffff_ffff - bits) as i64)) - 1
 }
 
-// The station record of a case.
-fn record_at(s: &[u8], at: usize) -> StationRecord
-    requires { ⌜ at + 98 ≤ length (now s) ⌝ }
-{
-    StationRecord {
-        policy: layout::byte_at(s, at),
-        control: layout::byte_at(s, at + 1),
-        license: layout::byte_at(s, at + 2),
-        sideband: layout::byte_at(s, at + 3),
-        itu_region: layout::byte_at(s, at + 4),
-        band_plan: layout::byte_at(s, at + 5),
-        dial_known: layout::byte_at(s, at + 6),
-        power_known: layout::byte_at(s, at + 7),
-        margin: Margins {
-            lower_hz: figure_at(s, at + 10),
-            upper_hz: figure_at(s, at + 18),
-        },
-        dial_hz: figure_at(s, at + 26),
-        power_w: figure_at(s, at + 34),
-    }
-}
-
-fn edges_at(s: &[u8], at: usize) -> Edges
-    requires { ⌜ at + 32 ≤ length (now s) ⌝ }
-{
-    let power = Range {
-        low_hz: figure_at(s, at),
-        high_hz: figure_at(s, at + 8),
-    };
-    let spectral = Range {
-        low_hz: figure_at(s, at + 16),
-        high_hz: figure_at(s, at + 24),
-    };
-    Edges { power, spectral }
-}
-
 // The line of the case at a place, on an image.
 fn case_on(s: &[u8], at: usize, k: u16, image: &[u8])
     requires { ⌜ at + 98 ≤ length (now s) ⌝ }
 {
-    let r = record_at(s, at);
+    let r = asked::record_at(s, at);
     let kind = layout::byte_at(s, at + 8);
     let direction = layout::byte_at(s, at + 9);
-    let e = edges_at(s, at + 42);
+    let e = asked::edges_at(s, at + 42);
     let first = signed(layout::u64_at(s, at + 74));
     let last = signed(layout::u64_at(s, at + 82));
     io::print_decimal(1, k as u64);
