@@ -7,18 +7,18 @@ use native.Mathlib.Omega.{arith}
 use borrow.Author.Tests.{eq-eqb, eqb-true}
 use lib.Dec.{eqb}
 use lib.Pow.{pow-mono, split}
-use lib.Ieee.{Float, nan, inf, fin, up, down, ofBits}
+use lib.Ieee.{Float, nan, inf, fin, up, down, ofBits, lt, le, eq}
 use lib.Ieee.Exact.{HasValue}
 use lib.Ieee.Fits.{down-pos}
 use Rattle.eighths.specs.Grid.{inEighths}
-use Rattle.figures.specs.Figure.{inSize}
+use Rattle.figures.specs.Figure.{inSize, figureOf}
 use Rattle.decimal.specs.Within.{Within, in-size-power, within-more}
 use Rattle.decimal.specs.Laws.{moved-back}
 use Rattle.scan.specs.First.{some}
 use Rattle.layout.specs.Layout.{tables}
 use Rattle.layout.specs.declared.General.{General}
 use Rattle.table.specs.Table.{Table}
-use Rattle.on_grid.specs.Within.{limit38, blockMet, unmetIn, figuresMet}
+use Rattle.on_grid.specs.Within.{limit38, figureMet, blockMet, unmetIn, figuresMet}
 
 same : (a b : Bool) → (a ≡ true → b ≡ true) → (b ≡ true → a ≡ true) → a ≡ b
 same true b f g = sym (f refl)
@@ -74,3 +74,8 @@ block-not table g e h = ap (λ (b : Bool). b && not (some (unmetIn table) tables
 pub block-met : (table : Table) (g : General) → g ≡ table .general → blockMet g ≡ true → not (some (unmetIn table) tables) ≡ figuresMet table
 unfolding figuresMet
 block-met table g e h = ap (λ (b : Bool). b && not (some (unmetIn table) tables)) (sym h ∙ ap blockMet e)
+
+-- nought
+pub nought-met : true ≡ figureMet (figureOf 0)
+unfolding figureMet inEighths lt le eq ofBits
+nought-met = refl

@@ -51,10 +51,13 @@ pub fn figure_met(x: f64) -> bool
     false
 }
 
-// The figure that 64 bits stand for.
+// The figure that 64 bits stand for. Most records have a nought.
 fn bits_met(bits: u64) -> bool
     ensures { λ r. ⌜ r ≡ figureMet (figureOf bits) ⌝ }
 {
+    if bits == 0 {
+        return true;
+    }
     figure_met(figures::figure(bits))
 }
 

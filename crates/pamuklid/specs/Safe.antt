@@ -1,12 +1,12 @@
 -- What the numbers of the boundary say to whoever looks at one of them alone. A refusal's number is never 0, so 0 says that nothing was
 -- refused; and what is absent or refused permits nothing.
 use Prim.Native.Nat.{ℕ, _<_}
-use mathlib.Core.Bool.{Bool, true, false, not, cond, _&&_}
+use mathlib.Core.Bool.{Bool, true, false, not, cond, _&&_, true≢false}
 use mathlib.Core.List.{List, [], _∷_, _++_}
 use mathlib.Core.Path.{_≡_, refl, sym, ap, _∙_}
 use native.Mathlib.Omega.{arith}
 use borrow.Author.Tests.{ltb-true}
-use lib.Dec.{ltb}
+use lib.Dec.{eqb, ltb}
 use lib.Ieee.{Float, eq, ofBits}
 use Rattle.figures.specs.Figure.{zeroHz}
 use Rattle.codes.specs.Read.{directionValid}
@@ -32,10 +32,12 @@ use Rattle.dials.specs.List.{listRows, lentTests, listTests, answerOf}
 use Rattle.dials.specs.declared.DialList.the-variants.{Rows}
 use Rattle.distance.specs.declared.Distance.{Distance}
 use Rattle.distance.specs.declared.Distance.the-variants.{Hertz, NoneListed, Refused as NoAnswer}
+use Rattle.nearest.specs.declared.Nearest.{Nearest}
+use Rattle.nearest.specs.declared.Nearest.the-variants.{Dial, NoneAllowed, NotJudged, Refused as NoDial}
 use Rattle.numbers.specs.Refusal.{refusalNumber}
 use Rattle.flat_answers.specs.declared.FlatDials.{FlatDials}
 use Rattle.flat.specs.Flat.{flatOf, ceilingFlat}
-use Rattle.flat_answers.specs.Answers.{dialsFlat, FlatDialed, infinityHz, distanceFlat}
+use Rattle.flat_answers.specs.Answers.{dialsFlat, FlatDialed, infinityHz, distanceFlat, nearestFlat}
 use Rattle.pamuklid.specs.Guided.{decision, evaluate-refusal}
 
 -- ---- a refusal's number is at least 1
@@ -135,3 +137,12 @@ unfolding eq ofBits
 unlisted-not-nought (Hertz x) e = absurd (omega (arith, e))
 unlisted-not-nought NoneListed e = refl
 unlisted-not-nought (NoAnswer n) e = refl
+
+-- ---- the nearest dial
+
+-- Without a dial its figure is infinite, which no call takes for one.
+pub nearest-absent : (x : Nearest) → eqb (nearestFlat x .answer) 1 ≡ false → nearestFlat x .«dial_hz» ≡ infinityHz
+nearest-absent (Dial x) e = absurd (true≢false e)
+nearest-absent NoneAllowed e = refl
+nearest-absent NotJudged e = refl
+nearest-absent (NoDial n) e = refl
