@@ -29,7 +29,7 @@ use Rattle.demand_3.specs.Grounds.{tidy-met}
 use Rattle.demand_3.specs.Theorem.{demand-3}
 use Rattle.flat.specs.Flat.{stationRecordOf, edgesOf, flatOf}
 use Rattle.flat_answers.specs.Answers.{tidinessFlat, FlatDialed, distanceFlat}
-use Rattle.pamuklid.specs.Safe.{verdict-not-refused, list-not-refused}
+use Rattle.fitting.specs.Safe.{verdict-not-refused, list-not-refused}
 use Rattle.flat.specs.declared.FlatStation.{FlatStation}
 use Rattle.flat.specs.declared.FlatEdges.{FlatEdges}
 use Rattle.flat.specs.declared.FlatDecision.{FlatDecision}

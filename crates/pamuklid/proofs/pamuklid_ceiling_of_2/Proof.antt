@@ -1,6 +1,6 @@
 -- By the calls.
-use Rattle.pamuklid.specs.Fits.{ceiling-fits}
-use Rattle.pamuklid.specs.Guided.{limit-indexed}
+use Rattle.fitting.specs.Fits.{ceiling-fits}
+use Rattle.fitting.specs.Guided.{limit-indexed}
 use borrow.Author.Needs.{needs}
 use Rattle.pamuklid.proofs.pamuklid_ceiling_of_2.Statement.{statement}
 use Rattle.pamuklid.proofs.pamuklid_ceiling_of_2.Tie as tie

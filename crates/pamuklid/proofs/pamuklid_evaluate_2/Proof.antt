@@ -1,5 +1,5 @@
 -- By the calls.
-use Rattle.pamuklid.specs.Guided.{evaluate-indexed}
+use Rattle.fitting.specs.Guided.{evaluate-indexed}
 use borrow.Author.Needs.{needs}
 use Rattle.pamuklid.proofs.pamuklid_evaluate_2.Statement.{statement}
 use Rattle.pamuklid.proofs.pamuklid_evaluate_2.Tie as tie

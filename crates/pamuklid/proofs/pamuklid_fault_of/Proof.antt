@@ -1,5 +1,5 @@
 -- By the calls.
-use Rattle.pamuklid.specs.Fits.{fault-fits}
+use Rattle.fitting.specs.Fits.{fault-fits}
 use borrow.Author.Needs.{needs}
 use Rattle.pamuklid.proofs.pamuklid_fault_of.Statement.{statement}
 use Rattle.pamuklid.proofs.pamuklid_fault_of.Tie as tie

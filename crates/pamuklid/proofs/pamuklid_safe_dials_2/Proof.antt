@@ -1,7 +1,7 @@
 -- By the calls: the answer flat, the bytes as the list call leaves them.
 use mathlib.Core.Path.{ap}
 use Rattle.flat_answers.specs.Answers.{dialsFlat}
-use Rattle.pamuklid.specs.Fits.{list-counted}
+use Rattle.fitting.specs.Fits.{list-counted}
 use borrow.Author.Needs.{needs}
 use Rattle.pamuklid.proofs.pamuklid_safe_dials_2.Statement.{statement}
 use Rattle.pamuklid.proofs.pamuklid_safe_dials_2.Tie as tie

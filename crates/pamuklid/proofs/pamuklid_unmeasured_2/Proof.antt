@@ -1,5 +1,5 @@
 -- By the calls.
-use Rattle.pamuklid.specs.Guided.{unmeasured-indexed}
+use Rattle.fitting.specs.Guided.{unmeasured-indexed}
 use borrow.Author.Needs.{needs}
 use Rattle.pamuklid.proofs.pamuklid_unmeasured_2.Statement.{statement}
 use Rattle.pamuklid.proofs.pamuklid_unmeasured_2.Tie as tie

@@ -1,5 +1,5 @@
 -- By the calls.
-use Rattle.pamuklid.specs.Stepped.{step-fits}
+use Rattle.fitting.specs.Stepped.{step-fits}
 use borrow.Author.Needs.{needs}
 use Rattle.pamuklid.proofs.pamuklid_walk_step.Statement.{statement}
 use Rattle.pamuklid.proofs.pamuklid_walk_step.Tie as tie

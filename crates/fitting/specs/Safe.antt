@@ -38,7 +38,7 @@ use Rattle.numbers.specs.Refusal.{refusalNumber}
 use Rattle.flat_answers.specs.declared.FlatDials.{FlatDials}
 use Rattle.flat.specs.Flat.{flatOf, ceilingFlat}
 use Rattle.flat_answers.specs.Answers.{dialsFlat, FlatDialed, infinityHz, distanceFlat, nearestFlat}
-use Rattle.pamuklid.specs.Guided.{decision, evaluate-refusal}
+use Rattle.fitting.specs.Guided.{decision, evaluate-refusal}
 
 -- ---- a refusal's number is at least 1
 

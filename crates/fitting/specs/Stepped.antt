@@ -27,8 +27,8 @@ use Rattle.walk_step.specs.Step.{stepTests, stepOf}
 use Rattle.walk_step.specs.Laws.{valid-place}
 use Rattle.walk.specs.declared.WalkState.{WalkState}
 use Rattle.flat.specs.Fits.{RungFits, Indexed}
-use Rattle.pamuklid.specs.Fits.{absent-fits}
-use Rattle.pamuklid.specs.Guided.{refused, judging-indexed}
+use Rattle.fitting.specs.Fits.{absent-fits}
+use Rattle.fitting.specs.Guided.{refused, judging-indexed}
 
 -- what the boundary asks of a ceiling
 abbrev pub Fitting : CeilingAnswer → Type 0
