@@ -58,8 +58,18 @@ const AMENDED: [(&str, usize, &str); 3] = [
 ];
 
 /// The driver's files that the stub has a copy of.
-const OWN: [&str; 9] =
-    ["expect", "adapter", "amendment", "distance", "edition", "report", "airtime", "sixty", "walk"];
+const OWN: [&str; 10] = [
+    "expect",
+    "adapter",
+    "amendment",
+    "distance",
+    "edition",
+    "nearest",
+    "report",
+    "airtime",
+    "sixty",
+    "walk",
+];
 
 fn copy(from: &Path, to: &Path) {
     println!("cargo::rerun-if-changed={}", from.display());

@@ -5,7 +5,7 @@ builds the driver against that copy and sees whether a run notices a difference.
     python3 compare/mutate.py [--rust] [--stub] [--unequal | --watts] [--only TEXT] [--from N] [--work DIR]
                               [--seed S] [--verdicts N] [--ceilings N] [--dials N] [--texts N] [--reports N]
                               [--airtimes N] [--censuses N] [--editions N] [--amendments N] [--walks N]
-                              [--check] [-v] [--report FILE]
+                              [--nearests N] [--check] [-v] [--report FILE]
 
 Without --stub the library is linked (PAMUKLID_LIB_DIR); with --stub its place is taken by a second,
 unchanged copy of the Rust, which measures how sharp the cases are without the library. --rust plants
@@ -54,6 +54,7 @@ def main():
     args.add_argument("--editions", type=int, default=100000)
     args.add_argument("--amendments", type=int, default=50000)
     args.add_argument("--walks", type=int, default=20000)
+    args.add_argument("--nearests", type=int, default=50000)
     args.add_argument("--check", action="store_true")
     args.add_argument("--report")
     args.add_argument("-v", action="store_true", dest="verbose")
@@ -87,8 +88,8 @@ def plant_all(args, rust, work):
     place["stub.rs"] = os.path.join(driver, "src/stub.rs")
     text["stub.rs"] = open(os.path.join(HERE, "src/stub.rs"), encoding="utf-8").read()
     os.makedirs(os.path.join(work, "own"), exist_ok=True)
-    for name in ["expect.rs", "adapter.rs", "amendment.rs", "distance.rs", "edition.rs", "report.rs", "airtime.rs",
-                 "sixty.rs", "walk.rs"]:
+    for name in ["expect.rs", "adapter.rs", "amendment.rs", "distance.rs", "edition.rs", "nearest.rs", "report.rs",
+                 "airtime.rs", "sixty.rs", "walk.rs"]:
         place[name] = os.path.join(driver, "src", name)
         text[name] = open(os.path.join(HERE, "src", name), encoding="utf-8").read()
         put(os.path.join(work, "own", name), text[name])
@@ -125,7 +126,8 @@ def plant_all(args, rust, work):
            "--ceilings", str(args.ceilings), "--dials", str(args.dials), "--texts", str(args.texts),
            "--reports", str(args.reports), "--airtimes", str(args.airtimes),
            "--censuses", str(args.censuses), "--editions", str(args.editions),
-           "--amendments", str(args.amendments), "--walks", str(args.walks)]
+           "--amendments", str(args.amendments), "--walks", str(args.walks),
+           "--nearests", str(args.nearests)]
 
     def attempt():
         """(built, exit status, first line that says what)"""

@@ -3,10 +3,10 @@ file), new text. `same` says why a mistake changes no answer inside document 01'
 must survive, every other must be noticed.
 
 Files: profile.rs, occupancy.rs and mod.rs are the Rust; expect.rs, adapter.rs, amendment.rs, distance.rs,
-edition.rs, sixty.rs, report.rs and walk.rs are the driver's own part, written from documents 01 and 02 (refusals
-1 to 6, 15, 16, 20 to 30 and their order, where a table is wrong, tidy, the distance of a dial, writer and
-converters, channel against segment, the report of a table, amendments, walks, and what the Rust says only in
-words); stub.rs, with --stub, stands for a wrong library; build.rs has the edits that give the Rust its second margin, with --unequal, and the 60 m
+edition.rs, nearest.rs, sixty.rs, report.rs and walk.rs are the driver's own part, written from documents 01 and 02
+(refusals 1 to 6, 15, 16, 20 to 30 and their order, where a table is wrong, tidy, the distance of a dial, writer and
+converters, the nearest dial, channel against segment, the report of a table, amendments, walks, and what the Rust
+says only in words); stub.rs, with --stub, stands for a wrong library; build.rs has the edits that give the Rust its second margin, with --unequal, and the 60 m
 power limits of the table, with --watts.
 """
 
@@ -1302,6 +1302,69 @@ at(W, "let refusal = lent.refusal(w.image);", "let refusal = lent.refusal(w.imag
 at(W, "let refusal = lent.refusal(w.image);", "let refusal = lent.refusal(0).max(lent.refusal(1));")
 at(W, "let p = lent.images[usize::from(w.image)];\n    let (verdict", "let p = lent.images[usize::from(w.image ^ w.waiting)];\n    let (verdict")
 at(W, "let (verdict, change) = sixty::evaluate(p, &lent.s, 0, lent.direction, &edges)?;", "let (verdict, change) = (adapter::evaluate(p, &lent.s, 0, lent.direction, &edges)?, None);")
+
+# ---------------------------------------------------------------------------- nearest dials
+NEAREST = "nearest.rs"
+# the answer's numbers
+at(NEAREST, "Answer::None => (2, 0, f64::INFINITY)", "Answer::None => (2, 0, 0.0)")
+at(NEAREST, "Answer::None => (2, 0, f64::INFINITY)", "Answer::None => (3, 0, f64::INFINITY)")
+at(NEAREST, "Answer::NotJudged => (3, 0, f64::INFINITY)", "Answer::NotJudged => (2, 0, f64::INFINITY)")
+at(NEAREST, "Answer::Refused(number) => (0, number, f64::INFINITY)", "Answer::Refused(number) => (3, number, f64::INFINITY)")
+at(NEAREST, "Answer::Refused(number) => (0, number, f64::INFINITY)", "Answer::Refused(number) => (0, number, f64::NEG_INFINITY)")
+at(NEAREST, "    if refusal != 0 {\n        return Ok(Answer::Refused(refusal));", "    if refusal != 0 && (s.policy != 2 || p.refusal != 0 || faults(p, s, e).is_empty()) {\n        return Ok(Answer::Refused(refusal));")
+# which figures count
+for part in ("t.data_limit", "t.elsewhere_limit", "t.width", "t.offset", "t.tolerance"):
+    block = "[t.data_limit, t.elsewhere_limit, t.width, t.offset, t.tolerance]"
+    at(NEAREST, block, block.replace(part, "0.0"))
+TABLES = "for (table, records) in t.tables.iter().enumerate() {"
+for left_out in range(9):
+    same = "an excluded band has no figures" if left_out == 5 else None
+    at(NEAREST, TABLES, TABLES[:-2] + ".filter(|x| x.0 != %d) {" % left_out, same)
+at(NEAREST, TABLES, TABLES[:-2] + ".filter(|x| x.0 < 7 || s.band_plan == 1) {")
+at(NEAREST, "let own = [r.low, r.high, r.figure];", "let own = [0.0, r.high, r.figure];")
+at(NEAREST, "let own = [r.low, r.high, r.figure];", "let own = [r.low, 0.0, r.figure];")
+at(NEAREST, "let own = [r.low, r.high, r.figure];", "let own = [r.low, r.high, 0.0];")
+at(NEAREST, "let hertz = if table == POWER { 2 } else { 3 };", "let hertz = 3;")
+at(NEAREST, "out.extend((EDGES..).zip(e.figures()));", "out.extend((EDGES..).zip(e.figures()).take(2));")
+at(NEAREST, "out.extend((EDGES..).zip(e.figures()));", "out.extend((EDGES..).zip(e.figures()).skip(1));")
+at(NEAREST, "out.extend((EDGES..).zip(e.figures()));", "let (low, high) = audio(t, e);\n    out.extend([(EDGES, low), (EDGES + 1, high)]);")
+at(NEAREST, "(lower, upper) if lower == upper => out.push((BOTH, lower)),", "(lower, upper) if lower == upper => {}")
+at(NEAREST, "    if s.dial_known == 1 {\n", "    if s.dial_known == 2 {\n")
+# eighths and size
+at(NEAREST, "(8.0 * x).fract() == 0.0", "(16.0 * x).fract() == 0.0")
+at(NEAREST, "(8.0 * x).fract() == 0.0", "(4.0 * x).fract() == 0.0")
+at(NEAREST, "(8.0 * x).fract() == 0.0", "(8.0 * x).fract().abs() < 1e-9")
+at(NEAREST, "if x.abs() > FAR {", "if x.abs() >= FAR {")
+at(NEAREST, "if x.abs() > FAR {", "if x > FAR {")
+at(NEAREST, "if x.abs() > FAR {", "if -x > FAR {")
+at(NEAREST, "if x.abs() > FAR {", "if x.abs() > FAR + 0.125 {")
+# the other premises
+for premise in ("!expect::tidy(t)", "s.itu_region != t.region", "s.dial_known == 0"):
+    at(NEAREST, "%s)," % premise, "false),")
+for premise in ("Control, s.control", "License, s.license", "Sideband, s.sideband"):
+    at(NEAREST, "Fault::%s == 255)" % premise, "Fault::%s == 254)" % premise)
+at(NEAREST, "(high - low) + (lower + upper) <= 0.0", "(high - low) + (lower + upper) < 0.0")
+at(NEAREST, "(high - low) + (lower + upper) <= 0.0", "(high - low) <= 0.0")
+at(NEAREST, "(high - low) + (lower + upper) <= 0.0", "(high - low) + (lower + upper) <= 0.125")
+at(NEAREST, "(high - low) + (lower + upper) <= 0.0", "(high - low) + lower <= 0.0")
+at(NEAREST, "0 => (power_low, power_high),", "0 => (low, high),")
+at(NEAREST, "1 => (low, high),", "1 => (power_low, power_high),")
+at(NEAREST, "_ => (power_low.min(low), power_high.max(high)),", "_ => (power_low, power_high),")
+# the rows, and the next point of each
+at(NEAREST, "!(t.has(HAS_CHANNELS) && r[32] == t.channel_band)", "true || !(t.has(HAS_CHANNELS) && r[32] == t.channel_band)")
+at(NEAREST, "!(t.has(HAS_CHANNELS) && r[32] == t.channel_band)", "!(r[32] == t.channel_band)")
+at(NEAREST, "(f64_at(r, 16), f64_at(r, 24))", "(f64_at(r, 16), f64_at(r, 16))")
+at(NEAREST, "(f64_at(r, 16), f64_at(r, 24))", "(f64_at(r, 24), f64_at(r, 24))")
+at(NEAREST, "least.is_none_or(|least| far < least)", "least.is_none_or(|least| far <= least)")
+at(NEAREST, "least.is_none_or(|least| far < least)", "least.is_none_or(|least| far > least)")
+at(NEAREST, "least.is_none_or(|least| far < least)", "least.is_none()")
+at(NEAREST, " || (Some(far) == least && Some(next) < best)", "", "rows come by their lower dial")
+at(NEAREST, "let dial = expect::read(s.dial_hz);\n    let mut best", "let dial = s.dial_hz;\n    let mut best")
+at(NEAREST, "best.map_or(Answer::None, Answer::Dial)", "best.map_or(Answer::None, |x| Answer::Dial(x + 0.125))")
+apart(NEAREST, "(lower, upper) => out.extend([(LOWER, lower), (UPPER, upper)]),", "(lower, _) => out.push((LOWER, lower)),")
+apart(NEAREST, "(lower, upper) => out.extend([(LOWER, lower), (UPPER, upper)]),", "(_, upper) => out.push((UPPER, upper)),")
+apart(NEAREST, "(high - low) + (lower + upper) <= 0.0", "(high - low) + 2.0 * lower <= 0.0")
+apart(NEAREST, "(high - low) + (lower + upper) <= 0.0", "(high - low) + 2.0 * upper <= 0.0")
 
 # ------------------------------------------------------------------------------ other watts
 amended(B, '"c.s.power_w.filter(|&p| p > c.s.channel_w)"', '"c.s.power_w.filter(|&p| p > c.s.segment_w)"')

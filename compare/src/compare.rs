@@ -8,8 +8,9 @@ use crate::distance;
 use crate::draw::Rng;
 use crate::expect;
 use crate::ffi::{self, Decision, Edges, Fault, Figures, Parts, Station, StationParts};
-use crate::image;
+use crate::image::{self, Table};
 use crate::oracle::adapter::{self, Prepared};
+use crate::oracle::nearest::{self, Answer};
 use crate::oracle::sixty::{self, Change, Climb};
 use crate::report::{self, Row};
 
@@ -308,6 +309,32 @@ pub fn distance(a: &distance::Asked, rows: &[u8]) -> Told<Result<Option<f64>, u8
     Ok(answer)
 }
 
+/// The nearest dial. `watts`: the library is lent the table in edition 2 with these, which change nothing here.
+pub fn nearest(
+    image: &[u8],
+    p: &Prepared,
+    s: &Station,
+    direction: u8,
+    e: &Edges,
+    watts: Option<(f64, f64)>,
+) -> Told<Answer> {
+    let before = match (watts, &p.table) {
+        (Some(_), Some(t)) if p.refusal == 0 => Table { watts, ..t.clone() }.encode(),
+        _ => lend(image, p),
+    };
+    let lent = before.clone();
+    let got = ffi::nearest_dial(*s, direction, *e, &lent);
+    let answer = nearest::answer(p, s, direction, e)?;
+    let want = nearest::flat(answer);
+    let same = (got.answer, got.refusal) == (want.answer, want.refusal)
+        && got.dial_hz.to_bits() == want.dial_hz.to_bits();
+    if !same {
+        return Err(format!("library: {got:?}, expected {want:?}"));
+    }
+    unchanged(&before, &lent, "image")?;
+    Ok(answer)
+}
+
 fn row_text(r: &[u8]) -> String {
     let f = |i: usize| image::f64_at(r, 8 * i);
     format!(
@@ -331,6 +358,7 @@ pub enum Call {
     Ceiling { direction: u8, ladder: Ladder },
     Dials { direction: u8, e: Edges, room: Room, fill: u64 },
     Report { class: u8, room: Room, fill: u64 },
+    Nearest { direction: u8, e: Edges, watts: Option<(f64, f64)> },
 }
 
 #[derive(Clone)]
@@ -361,6 +389,9 @@ impl Case {
             }
             Call::Report { class, room, fill } => {
                 report(&self.image, &p, *class, *room, *fill).err()
+            }
+            Call::Nearest { direction, e, watts } => {
+                nearest(&self.image, &p, &self.s, *direction, e, *watts).err()
             }
         }
     }
@@ -458,6 +489,7 @@ impl Case {
             Call::Ceiling { .. } => "ceiling",
             Call::Dials { .. } => "safe_dials",
             Call::Report { .. } => "report",
+            Call::Nearest { .. } => "nearest dial",
         };
         println!("call: {name}");
         if !matches!(self.call, Call::Image | Call::Report { .. }) {
@@ -492,6 +524,11 @@ impl Case {
             Call::Report { class, room, .. } => {
                 println!("  class {class}");
                 println!("  room for rows: {room:?} bytes");
+            }
+            Call::Nearest { direction, e, watts } => {
+                println!("  direction {direction}");
+                println!("  edges: {}", edges_text(e));
+                println!("  lent with watts {watts:?}");
             }
         }
         let hex: String = self.image.iter().map(|b| format!("{b:02x}")).collect();

@@ -6,10 +6,10 @@ pub use pamuklid::raw::fault_of;
 #[cfg(feature = "stub")]
 pub use pamuklid::raw::{Airtime, Census, Dials, Report, Step, Tidiness};
 pub use pamuklid::raw::{
-    Ceiling, Decision, Distance, Edges, Fault, Fields, Image, Station, Text, VERSION, Walk,
-    WalkAnswer, airtime, amend, ceiling, census, check, distance, evaluate, fresh, lower, raise,
-    report, safe_dials, text_at, text_hertz, text_khz, tidy, unmeasured, version, walk_first,
-    walk_open, walk_step, walk_swap, write,
+    Ceiling, Decision, Distance, Edges, Fault, Fields, Image, Nearest, Station, Text, VERSION,
+    Walk, WalkAnswer, airtime, amend, ceiling, census, check, distance, evaluate, fresh, lower,
+    nearest_dial, raise, report, safe_dials, text_at, text_hertz, text_khz, tidy, unmeasured,
+    version, walk_first, walk_open, walk_step, walk_swap, write,
 };
 
 /// Every part absent, and blocked.

@@ -2,7 +2,7 @@
 //!
 //!     pamuklid-compare [--verdicts N] [--ceilings N] [--dials N] [--texts N] [--reports N]
 //!                      [--airtimes N] [--censuses N] [--editions N] [--amendments N] [--walks N]
-//!                      [--direction D] [--seed S] [--few] [--brief]
+//!                      [--nearests N] [--direction D] [--seed S] [--few] [--brief]
 //!     pamuklid-compare --replay FILE [--seed S]
 //!     pamuklid-compare --replay-check FILE | --replay-more FILE [--seed S]
 //!
@@ -27,7 +27,9 @@ mod editions;
 mod expect;
 mod ffi;
 mod fixed;
+mod grid;
 mod image;
+mod nearests;
 mod oracle;
 #[cfg(feature = "stub")]
 mod original;
@@ -116,6 +118,7 @@ pub struct Run {
     pub editions: editions::Met,
     pub amendments: amendments::Met,
     pub walks: walks::Met,
+    pub nearests: nearests::Met,
     directions: Directions,
     brief: bool,
 }
@@ -146,6 +149,7 @@ impl Run {
             editions: editions::Met::default(),
             amendments: amendments::Met::default(),
             walks: walks::Met::default(),
+            nearests: nearests::Met::default(),
             directions: Directions::new(only),
             brief,
         }
@@ -605,6 +609,7 @@ struct Wanted {
     editions: u64,
     amendments: u64,
     walks: u64,
+    nearests: u64,
 }
 
 fn run_all(run: &mut Run, wanted: &Wanted) {
@@ -729,6 +734,8 @@ fn run_all(run: &mut Run, wanted: &Wanted) {
         amendments::run(run, wanted.amendments);
         walks::fixed(run);
         walks::run(run, wanted.walks);
+        nearests::fixed(run);
+        nearests::run(run, wanted.nearests);
     }
 }
 
@@ -750,7 +757,7 @@ fn usage() -> ! {
     eprintln!(
         "usage: pamuklid-compare [--verdicts N] [--ceilings N] [--dials N] [--texts N] \
          [--reports N] [--airtimes N] [--censuses N] [--editions N] [--amendments N] [--walks N] \
-         [--direction D] [--seed S] [--few] [--brief]\n\
+         [--nearests N] [--direction D] [--seed S] [--few] [--brief]\n\
          \x20      pamuklid-compare --replay FILE [--seed S]\n\
          \x20      pamuklid-compare --replay-check FILE | --replay-more FILE [--seed S]"
     );
@@ -769,6 +776,7 @@ fn main() {
         editions: 1_000_000,
         amendments: 200_000,
         walks: 100_000,
+        nearests: 1_000_000,
     };
     let (mut seed, mut only, mut few, mut brief, mut replay) = (1, None, false, false, None);
     let mut args = std::env::args().skip(1);
@@ -785,6 +793,7 @@ fn main() {
             "--editions" => wanted.editions = number(),
             "--amendments" => wanted.amendments = number(),
             "--walks" => wanted.walks = number(),
+            "--nearests" => wanted.nearests = number(),
             "--direction" => match number() {
                 direction @ 0..=3 => only = Some(direction as u8),
                 _ => usage(),
@@ -895,6 +904,16 @@ fn main() {
             run.walks.refused,
             run.walks.equal,
             run.walks.so_far
+        );
+        println!(
+            "nearest dials: {} asked, {} of them given a dial, {} none, {} not judged, {} refused; held to {} \
+             verdicts",
+            run.nearests.asked,
+            run.nearests.dials,
+            run.nearests.none,
+            run.nearests.not_judged,
+            run.nearests.refused,
+            run.nearests.verdicts
         );
     }
     run.texts.count(&mut run.reach);

@@ -8,6 +8,8 @@ pub mod adapter;
 pub mod amendment;
 #[path = "edition.rs"]
 pub mod edition;
+#[path = "nearest.rs"]
+pub mod nearest;
 #[path = "sixty.rs"]
 pub mod sixty;
 #[path = "walk.rs"]

@@ -6,6 +6,7 @@ include!(concat!(env!("OUT_DIR"), "/include_adapter.rs"));
 include!(concat!(env!("OUT_DIR"), "/include_distance.rs"));
 include!(concat!(env!("OUT_DIR"), "/include_amendment.rs"));
 include!(concat!(env!("OUT_DIR"), "/include_edition.rs"));
+include!(concat!(env!("OUT_DIR"), "/include_nearest.rs"));
 include!(concat!(env!("OUT_DIR"), "/include_report.rs"));
 include!(concat!(env!("OUT_DIR"), "/include_airtime.rs"));
 include!(concat!(env!("OUT_DIR"), "/include_sixty.rs"));

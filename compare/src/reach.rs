@@ -8,7 +8,7 @@ use crate::ffi::{Decision, Station};
 use crate::image::{self, FIXED_WATTS, Table};
 use crate::oracle::adapter::Ceiling;
 use crate::oracle::sixty::{Change, Climb};
-use crate::{airtimes, amendments, censuses, editions, reports, texts, walks};
+use crate::{airtimes, amendments, censuses, editions, nearests, reports, texts, walks};
 
 pub type Key = (&'static str, u16, u16);
 
@@ -422,6 +422,7 @@ impl Reach {
             if only.is_none() {
                 out.extend(censuses::required());
                 out.extend(walks::required());
+                out.extend(nearests::required());
             }
         }
         out.extend([0, 1, 2, 3, 4, 11, 14].map(|number| ("fault without a place", number, 0)));

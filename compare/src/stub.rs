@@ -5,11 +5,13 @@ use std::cell::RefCell;
 use std::rc::Rc;
 
 use crate::ffi::{
-    Airtime, Ceiling, Census, Decision, Dials, Distance, Edges, Fault, Fields, Image, Report,
-    Station, Step, Text, Tidiness, VERSION, Walk, WalkAnswer,
+    Airtime, Ceiling, Census, Decision, Dials, Distance, Edges, Fault, Fields, Image, Nearest,
+    Report, Station, Step, Text, Tidiness, VERSION, Walk, WalkAnswer,
 };
 use crate::original::adapter::{self, Prepared};
-use crate::original::{airtime, amendment, distance, edition, expect, report, sixty, walk};
+use crate::original::{
+    airtime, amendment, distance, edition, expect, nearest, report, sixty, walk,
+};
 use crate::texts::Line;
 
 thread_local! {
@@ -152,6 +154,25 @@ extern "C" fn pamuklid_safe_dials_2(
     }
     rows[..bytes.len()].copy_from_slice(&bytes);
     Dials { count: (bytes.len() / 36) as u32, refusal: 0 }
+}
+
+#[unsafe(no_mangle)]
+extern "C" fn pamuklid_nearest_dial(
+    s: Station,
+    direction: u8,
+    e: Edges,
+    image: *const u8,
+    n: usize,
+) -> Nearest {
+    // of watts nothing hangs here, and the Rust has those of edition 1
+    let mut image = unsafe { slice(image, n) }.to_vec();
+    if prepared(&image).refusal == 0 && crate::image::front_of(&image) == 80 {
+        let (channel, segment) = crate::image::FIXED_WATTS;
+        image[64..72].copy_from_slice(&channel.to_bits().to_le_bytes());
+        image[72..80].copy_from_slice(&segment.to_bits().to_le_bytes());
+    }
+    let p = prepared(&image);
+    nearest::flat(nearest::answer(&p, &s, direction, &e).expect("the Rust's words"))
 }
 
 #[unsafe(no_mangle)]
