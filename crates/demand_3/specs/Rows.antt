@@ -38,12 +38,12 @@ any-none test [] h = refl
 any-none test (x ∷ xs) h = rw (h .0) (any-none test xs (h .1))
 
 -- what holds for the rows of every index below n
-every-below : (P : SafeDial → Type 0) (n : ℕ) (f : ℕ → List SafeDial) → ((i : ℕ) → i < n → Every P (f i)) → Every P (each n f)
+pub every-below : (P : SafeDial → Type 0) (n : ℕ) (f : ℕ → List SafeDial) → ((i : ℕ) → i < n → Every P (f i)) → Every P (each n f)
 unfolding each
 every-below P zero f h = tt
 every-below P (suc n) f h = every-append P (each n f) (f n) (every-below P n f (λ i k. h i (omega arith))) (h n (omega arith))
 
-every-cond : (P : SafeDial → Type 0) (b : Bool) (xs ys : List SafeDial) → Every P xs → Every P ys → Every P (cond b xs ys)
+pub every-cond : (P : SafeDial → Type 0) (b : Bool) (xs ys : List SafeDial) → Every P xs → Every P ys → Every P (cond b xs ys)
 every-cond P true xs ys p q = p
 every-cond P false xs ys p q = q
 

@@ -67,7 +67,7 @@ fitted-of Accepted xs n e = (refl, cc)
 fitted-of (Refused k) xs n e = absurd (let z : _≡_ {A = ℕ} 0 1 = cc in omega arith)
 
 -- a verdict that was not refused
-judged-of-refusal : (c : Checked) (d : Decision) → unlessRefused c d .refusal ≡ Accepted → c ≡ Accepted
+pub judged-of-refusal : (c : Checked) (d : Decision) → unlessRefused c d .refusal ≡ Accepted → c ≡ Accepted
 unfolding refusedOf
 judged-of-refusal Accepted d e = refl
 judged-of-refusal (Refused n) d e = e
