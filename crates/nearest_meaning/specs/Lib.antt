@@ -5,7 +5,6 @@ pub mod Order
 pub mod Fold
 pub mod Off
 pub mod Rows
-pub mod Unrefused
 pub mod Tuned
 pub mod Listed
 pub mod Theorem

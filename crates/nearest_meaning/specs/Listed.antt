@@ -53,7 +53,7 @@ use Rattle.nearest.specs.Nearest.{dialMet, within38, judgedOf}
 use Rattle.nearest_meaning.specs.Answers.{refusal, judged}
 use Rattle.nearest_meaning.specs.Off.{off-band}
 use Rattle.nearest_meaning.specs.Rows.{met-figure, figure, figures, margin-figures38, margins-met, edges-met, spans38, figure-within, figure-in-size, RowDials, rows-dials}
-use Rattle.nearest_meaning.specs.Unrefused.{judge-unrefused}
+use Rattle.judged.specs.Judged.{judge-judged}
 use Rattle.nearest_meaning.specs.Words.{Open}
 use Rattle.demand_3.specs.Theorem.{judged-of-refusal}
 use Rattle.nearest_meaning.specs.Tuned.{tuned-accepted}
@@ -181,7 +181,7 @@ module _
         unrefused =
             let P = prerequisites table there prerequisites-there in
             ap (λ (d : Decision). d .refusal) (verdict-is ∙ ruling table there way audio (readHz dial) P)
-            ∙ judge-unrefused table (judgedCase table there way audio (readHz dial) P) .unrefused
+            ∙ judge-judged table (judgedCase table there way audio (readHz dial) P) .unrefused
 
         -- The rows and the gate agree.
         agree :
