@@ -1,5 +1,5 @@
 // The dial list: the dials that keep a signal inside the rules, as rows in lent bytes. A public call. It uses codes, occupancy, air, station,
-// layout, table, entry, bytes, rows and dial_rows; its laws use lists.
+// layout, table, entry, bytes, rows, nearest_rows and dial_rows; its laws use lists.
 use codes::Checked;
 use codes::Control;
 use codes::Direction;
@@ -11,6 +11,8 @@ use dial_rows::Search;
 use dial_rows::SegmentRow;
 use dial_rows::Spot;
 use layout::Record;
+use nearest_rows::Best;
+use nearest_rows::Here;
 use occupancy::Edges;
 use station::Situation;
 use station::StationRecord;
@@ -26,6 +28,7 @@ ghost use Rattle.table.specs.Table.{tableOf};
 ghost use Rattle.table.specs.Parts.{segmentOf};
 ghost use Rattle.table.specs.declared.ChannelBand.the-variants.{On};
 ghost use Rattle.rows.specs.Pour.{Poured};
+ghost use Rattle.nearest_rows.specs.Over.{nearestOver};
 ghost use Rattle.dial_rows.specs.Dials.{privilegesRows, segmentRows, dataRows, bandRows};
 ghost use Rattle.dial_rows.specs.Next.{Known, Searched};
 ghost use Rattle.dials.specs.List.{situationRows, Begun, Filled, SafeDials};
@@ -36,27 +39,36 @@ pub enum DialList {
     Refused(u8),
 }
 
+// What was made of the rows so far: how many they are, and the nearest of them to a dial.
+pub struct Tally {
+    pub count: usize,
+    pub best: Best,
+}
+
 // The bytes that rows are counted on: 64 rows. A list of no more takes one pass.
 const OWN: usize = 2304;
 
-// The rows of a segment's record under every privilege, one after the other, into bytes that may have room for them or not. Each of
-// these functions takes the count of rows so far and returns it with its own.
+// The rows of a segment's record under every privilege, one after the other, into bytes that may have room for them or not, and held against
+// a dial. Each of these functions takes the tally so far and returns it with its own.
 fn privileges_rows(
     image: &[u8],
     rows: &mut [u8],
     q: Request,
     w: Search,
     r: Record,
-    before: usize,
-) -> usize
-    requires { ⌜ (Known (now image) q w) × (before + 65536 ≤ 0x1_0000_0000) ⌝ }
-    ensures { λ n. ⌜ Poured (now (rows .entry)) before (now (rows .exit)) n (privilegesRows (tableOf (now (image .entry))) q (segmentOf r)) ⌝ }
+    h: Here,
+    before: Tally,
+) -> Tally
+    requires { ⌜ (Known (now image) q w) × (before .count + 65536 ≤ 0x1_0000_0000) ⌝ }
+    ensures { λ t. ⌜ (Poured (now (rows .entry)) (before .count) (now (rows .exit)) (t .count) (privilegesRows (tableOf (now (image .entry))) q (segmentOf r)))
+        × (t .best ≡ nearestOver (h .«dial_hz») (h .flags) (h .«channel_band») (before .best) (privilegesRows (tableOf (now (image .entry))) q (segmentOf r))) ⌝ }
 {
     let mut spot = Spot {
         privilege: w.first,
         cut: 0,
     };
-    let mut n = before;
+    let mut n = before.count;
+    let mut best = before.best;
     loop {
         match dial_rows::privileges_from(image, q, w, r, spot) {
             SegmentRow::Row(x, behind) => {
@@ -70,10 +82,11 @@ fn privileges_rows(
                     x.dial_low_hz,
                     x.dial_high_hz,
                 );
+                best = nearest_rows::consider(h, best, x);
                 spot = behind;
             }
             SegmentRow::NoRow => {
-                return n;
+                return Tally { count: n, best };
             }
         }
         n += 1;
@@ -87,30 +100,36 @@ fn segment_rows(
     q: Request,
     w: Search,
     r: Record,
-    before: usize,
-) -> usize
-    requires { ⌜ (Known (now image) q w) × (before + 65536 ≤ 0x1_0000_0000) ⌝ }
-    ensures { λ n. ⌜ Poured (now (rows .entry)) before (now (rows .exit)) n (segmentRows (tableOf (now (image .entry))) q (segmentOf r)) ⌝ }
+    h: Here,
+    before: Tally,
+) -> Tally
+    requires { ⌜ (Known (now image) q w) × (before .count + 65536 ≤ 0x1_0000_0000) ⌝ }
+    ensures { λ t. ⌜ (Poured (now (rows .entry)) (before .count) (now (rows .exit)) (t .count) (segmentRows (tableOf (now (image .entry))) q (segmentOf r)))
+        × (t .best ≡ nearestOver (h .«dial_hz») (h .flags) (h .«channel_band») (before .best) (segmentRows (tableOf (now (image .entry))) q (segmentOf r))) ⌝ }
 {
     if dial_rows::closed(image, q, r) {
         return before;
     }
-    privileges_rows(image, rows, q, w, r, before)
+    privileges_rows(image, rows, q, w, r, h, before)
 }
 
 // The rows of every data segment.
-fn data_rows(image: &[u8], rows: &mut [u8], q: Request, w: Search) -> usize
+pub fn data_rows(image: &[u8], rows: &mut [u8], q: Request, w: Search, h: Here) -> Tally
     requires { ⌜ Known (now image) q w ⌝ }
-    ensures { λ n. ⌜ Poured (now (rows .entry)) 0 (now (rows .exit)) n (dataRows (tableOf (now (image .entry))) q) ⌝ }
+    ensures { λ t. ⌜ (Poured (now (rows .entry)) 0 (now (rows .exit)) (t .count) (dataRows (tableOf (now (image .entry))) q))
+        × (t .best ≡ nearestOver (h .«dial_hz») (h .flags) (h .«channel_band») Best.Nowhere (dataRows (tableOf (now (image .entry))) q)) ⌝ }
 {
     let mut n: usize = 0;
+    let mut best = Best::Nowhere;
     let mut i: usize = 0;
     while i < w.segment_count {
         let r = layout::record_at(image, w.segments + layout::RECORD_SIZE * i);
-        n = segment_rows(image, rows, q, w, r, n);
+        let t = segment_rows(image, rows, q, w, r, h, Tally { count: n, best });
+        n = t.count;
+        best = t.best;
         i += 1;
     }
-    n
+    Tally { count: n, best }
 }
 
 // The rows of the channels.
@@ -156,7 +175,13 @@ fn gather(image: &[u8], rows: &mut [u8], q: Request, w: Search, band: ChannelBan
     ensures { λ r. ⌜ Poured (now (rows .entry)) 0 (now (rows .exit)) r
         (dataRows (tableOf (now (image .entry))) q ++ bandRows (tableOf (now (image .entry))) q band) ⌝ }
 {
-    let n = data_rows(image, rows, q, w);
+    let h = Here {
+        dial_hz: 0.0,
+        flags: 0,
+        channel_band: 0,
+    };
+    let t = data_rows(image, rows, q, w, h);
+    let n = t.count;
     match band {
         ChannelBand::On(c) => channel_rows(image, rows, q, w, c, n),
         ChannelBand::NoChannels => n,

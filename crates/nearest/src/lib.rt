@@ -1,5 +1,5 @@
 // Where to move the dial to: the dial nearest to the present one at which data is allowed. A public call. It uses codes, profile, occupancy,
-// air, station, layout, table, tidy, entry, verdict, dial_rows, on_grid and nearest_rows; its definitions use dials, distance and demand_3.
+// air, station, layout, table, tidy, entry, verdict, dial_rows, dials, on_grid and nearest_rows; its definitions use distance and demand_3.
 use codes::Checked;
 use codes::Control;
 use codes::ControlMode;
@@ -85,7 +85,8 @@ fn answer_of(best: Best) -> Nearest
     }
 }
 
-// The nearest of the rows that a request is given. Those of the channels are not searched: none lies outside the channel band.
+// The nearest of the rows that a request is given, by the list's own search, with no bytes to keep a row in. Those of the channels are not
+// searched: none lies outside the channel band.
 fn nearest_for(image: &[u8], g: General, q: Request, dial_hz: f64) -> Nearest
     requires { ⌜ (Whole (now image)) × (g ≡ generalOf (now image)) ⌝ }
     ensures { λ r. ⌜ r ≡ answerOf (nearestOver «dial_hz» (g .flags) (g .«channel_band») Best.Nowhere (rowsOf (tableOf (now (image .entry))) q)) ⌝ }
@@ -96,7 +97,10 @@ fn nearest_for(image: &[u8], g: General, q: Request, dial_hz: f64) -> Nearest
         flags: g.flags,
         channel_band: g.channel_band,
     };
-    answer_of(nearest_rows::in_data(image, h, q, w))
+    let mut none = [0u8; 1];
+    let t = dials::data_rows(image, &mut none, q, w, h);
+    let best = t.best;
+    answer_of(best)
 }
 
 // With the prerequisites met.

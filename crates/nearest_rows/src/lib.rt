@@ -1,16 +1,7 @@
-// The nearest to a dial of the dials in the rows of a request, those of the channel band left out. The rows come one after the other from the
-// search that the dial list uses, and none is stored. It uses layout, rows, dial_rows and distance; its definitions use table, its laws lists.
-use dial_rows::Request;
-use dial_rows::Search;
-use dial_rows::SegmentRow;
-use dial_rows::Spot;
-use layout::Record;
+// The nearest to a dial of the dials in several rows, those of the channel band left out: row by row, as a search gives them. It uses rows and
+// distance; its laws use lists.
 use rows::SafeDial;
 ghost use mathlib.Core.Path.{_≡_};
-ghost use Rattle.table.specs.Table.{tableOf};
-ghost use Rattle.table.specs.Parts.{segmentOf};
-ghost use Rattle.dial_rows.specs.Dials.{privilegesRows, segmentRows, dataRows};
-ghost use Rattle.dial_rows.specs.Next.{Known};
 ghost use Rattle.nearest_rows.specs.Over.{pointOf, farOf, before, betterOf, consideredOf, nearestOver};
 
 // The nearest dial so far.
@@ -19,7 +10,7 @@ pub enum Best {
     Nowhere,
 }
 
-// What the rows are held against: the present dial, and which band is the channel band.
+// What the rows are held against: a dial, and which band is the channel band.
 pub struct Here {
     pub dial_hz: f64,
     pub flags: u8,
@@ -78,63 +69,12 @@ fn better(dial_hz: f64, best: Best, x: f64) -> Best
 }
 
 // A row, if it is outside the channel band.
-fn consider(h: Here, best: Best, x: SafeDial) -> Best
+pub fn consider(h: Here, best: Best, x: SafeDial) -> Best
     ensures { λ r. ⌜ r ≡ consideredOf (h .«dial_hz») (h .flags) (h .«channel_band») best x ⌝ }
 {
     if distance::is_outside(h.flags, h.channel_band, x.band) {
         let point = point_of(h.dial_hz, x.dial_low_hz, x.dial_high_hz);
         return better(h.dial_hz, best, point);
-    }
-    best
-}
-
-// The rows of a segment's record under every privilege.
-fn in_privileges(image: &[u8], h: Here, q: Request, w: Search, r: Record, so_far: Best) -> Best
-    requires { ⌜ Known (now image) q w ⌝ }
-    ensures { λ x. ⌜ x ≡ nearestOver (h .«dial_hz») (h .flags) (h .«channel_band») «so_far»
-        (privilegesRows (tableOf (now (image .entry))) q (segmentOf r)) ⌝ }
-{
-    let mut spot = Spot {
-        privilege: w.first,
-        cut: 0,
-    };
-    let mut best = so_far;
-    loop {
-        match dial_rows::privileges_from(image, q, w, r, spot) {
-            SegmentRow::Row(x, behind) => {
-                best = consider(h, best, x);
-                spot = behind;
-            }
-            SegmentRow::NoRow => {
-                return best;
-            }
-        }
-    }
-}
-
-// Those of a segment's record: none where it is passed over.
-fn in_segment(image: &[u8], h: Here, q: Request, w: Search, r: Record, so_far: Best) -> Best
-    requires { ⌜ Known (now image) q w ⌝ }
-    ensures { λ x. ⌜ x ≡ nearestOver (h .«dial_hz») (h .flags) (h .«channel_band») «so_far»
-        (segmentRows (tableOf (now (image .entry))) q (segmentOf r)) ⌝ }
-{
-    if dial_rows::closed(image, q, r) {
-        return so_far;
-    }
-    in_privileges(image, h, q, w, r, so_far)
-}
-
-// Those of every data segment.
-pub fn in_data(image: &[u8], h: Here, q: Request, w: Search) -> Best
-    requires { ⌜ Known (now image) q w ⌝ }
-    ensures { λ x. ⌜ x ≡ nearestOver (h .«dial_hz») (h .flags) (h .«channel_band») Best.Nowhere (dataRows (tableOf (now (image .entry))) q) ⌝ }
-{
-    let mut best = Best::Nowhere;
-    let mut i: usize = 0;
-    while i < w.segment_count {
-        let r = layout::record_at(image, w.segments + layout::RECORD_SIZE * i);
-        best = in_segment(image, h, q, w, r, best);
-        i += 1;
     }
     best
 }

@@ -20,7 +20,7 @@ channel-rows-requires c κs =
     let a = c .before .before .before .before .before .before .before .before .before .before .args in
     let p = c .before .before .before .before .before .before .before .before .before .before .pre in (
       (p .0, subst (λ b. a .w .«channel_count» ≡ channelCount (tableOf (a .image .now)) (a .q) b) (c .before .before .band .given .1) (p .1)),
-      omega (arith, c .before .before .before .before .before .before .data-rows .ensures .counted, data-few (a .image .now) (p .0 .whole) (a .q)),
+      omega (arith, c .before .before .before .before .before .before .data-rows .ensures .0 .counted, data-few (a .image .now) (p .0 .whole) (a .q)),
     )
 
 enum-told : tie.Need-enum-told
@@ -32,7 +32,7 @@ same-length c = search needs
 returns : tie.Need-returns
 returns c =
     rw (c .before .before .before .before .before .band .given .1)
-    (poured-more _ _ _ _ _ _ _ _ (c .before .before .before .before .before .before .before .before .before .data-rows .ensures)
+    (poured-more _ _ _ _ _ _ _ _ (c .before .before .before .before .before .before .before .before .before .data-rows .ensures .0)
     (c .before .before .channel-rows .ensures))
 
 same-length-2 : tie.Need-same-length-2
@@ -41,7 +41,7 @@ same-length-2 c = search needs
 returns-2 : tie.Need-returns-2
 returns-2 c =
     rw (c .enum-told .given .1)
-    (poured-more _ _ _ _ _ _ _ _ (c .before .before .before .before .data-rows .ensures) (poured-none _ _))
+    (poured-more _ _ _ _ _ _ _ _ (c .before .before .before .before .data-rows .ensures .0) (poured-none _ _))
 
 pub gather-spec : {M : Type 1} → statement M
 gather-spec =
