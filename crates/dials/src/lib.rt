@@ -28,7 +28,7 @@ ghost use Rattle.table.specs.Table.{tableOf};
 ghost use Rattle.table.specs.Parts.{segmentOf};
 ghost use Rattle.table.specs.declared.ChannelBand.the-variants.{On};
 ghost use Rattle.rows.specs.Pour.{Poured};
-ghost use Rattle.nearest_rows.specs.Over.{heldOver};
+ghost use Rattle.nearest_rows.specs.Over.{nearestOver};
 ghost use Rattle.dial_rows.specs.Dials.{privilegesRows, segmentRows, dataRows, bandRows};
 ghost use Rattle.dial_rows.specs.Next.{Known, Searched};
 ghost use Rattle.dials.specs.List.{situationRows, Begun, Filled, SafeDials};
@@ -61,7 +61,7 @@ fn privileges_rows(
 ) -> Tally
     requires { ⌜ (Known (now image) q w) × (before .count + 65536 ≤ 0x1_0000_0000) ⌝ }
     ensures { λ t. ⌜ (Poured (now (rows .entry)) (before .count) (now (rows .exit)) (t .count) (privilegesRows (tableOf (now (image .entry))) q (segmentOf r)))
-        × (t .best ≡ heldOver h (before .best) (privilegesRows (tableOf (now (image .entry))) q (segmentOf r))) ⌝ }
+        × (t .best ≡ nearestOver (h .«dial_hz») (h .flags) (h .«channel_band») (before .best) (privilegesRows (tableOf (now (image .entry))) q (segmentOf r))) ⌝ }
 {
     let mut spot = Spot {
         privilege: w.first,
@@ -105,7 +105,7 @@ fn segment_rows(
 ) -> Tally
     requires { ⌜ (Known (now image) q w) × (before .count + 65536 ≤ 0x1_0000_0000) ⌝ }
     ensures { λ t. ⌜ (Poured (now (rows .entry)) (before .count) (now (rows .exit)) (t .count) (segmentRows (tableOf (now (image .entry))) q (segmentOf r)))
-        × (t .best ≡ heldOver h (before .best) (segmentRows (tableOf (now (image .entry))) q (segmentOf r))) ⌝ }
+        × (t .best ≡ nearestOver (h .«dial_hz») (h .flags) (h .«channel_band») (before .best) (segmentRows (tableOf (now (image .entry))) q (segmentOf r))) ⌝ }
 {
     if dial_rows::closed(image, q, r) {
         return before;
@@ -117,7 +117,7 @@ fn segment_rows(
 pub fn data_rows(image: &[u8], rows: &mut [u8], q: Request, w: Search, h: Here) -> Tally
     requires { ⌜ Known (now image) q w ⌝ }
     ensures { λ t. ⌜ (Poured (now (rows .entry)) 0 (now (rows .exit)) (t .count) (dataRows (tableOf (now (image .entry))) q))
-        × (t .best ≡ heldOver h Best.Nowhere (dataRows (tableOf (now (image .entry))) q)) ⌝ }
+        × (t .best ≡ nearestOver (h .«dial_hz») (h .flags) (h .«channel_band») Best.Nowhere (dataRows (tableOf (now (image .entry))) q)) ⌝ }
 {
     let mut n: usize = 0;
     let mut best = Best::Nowhere;
@@ -179,7 +179,6 @@ fn gather(image: &[u8], rows: &mut [u8], q: Request, w: Search, band: ChannelBan
         dial_hz: 0.0,
         flags: 0,
         channel_band: 0,
-        asked: false,
     };
     let t = data_rows(image, rows, q, w, h);
     let n = t.count;

@@ -96,7 +96,6 @@ fn nearest_for(image: &[u8], g: General, q: Request, dial_hz: f64) -> Nearest
         dial_hz,
         flags: g.flags,
         channel_band: g.channel_band,
-        asked: true,
     };
     let mut none = [0u8; 1];
     let t = dials::data_rows(image, &mut none, q, w, h);

@@ -1,14 +1,13 @@
 -- The search over rows by its laws.
 use Prim.Native.Nat.{ℕ}
-use mathlib.Core.Bool.{false, Bool, true, cond}
+use mathlib.Core.Bool.{false}
 use mathlib.Core.List.{List, [], _∷_, _++_}
 use mathlib.Core.Path.{_≡_, refl}
 use lib.Ieee.{Float}
 use Rattle.lists.specs.Laws.{Every}
 use Rattle.rows.specs.declared.SafeDial.{SafeDial}
 use Rattle.distance.specs.Distance.{isOutside}
-use Rattle.nearest_rows.specs.Over.{consideredOf, nearestOver, heldOf, heldOver}
-use Rattle.nearest_rows.specs.declared.Here.{Here}
+use Rattle.nearest_rows.specs.Over.{consideredOf, nearestOver}
 use Rattle.nearest_rows.specs.declared.Best.{Best}
 
 module _ (dial : Float) (flags channel : ℕ) where
@@ -33,32 +32,3 @@ module _ (dial : Float) (flags channel : ℕ) where
   unfolding nearestOver
   over-channels [] h best = refl
   over-channels (x ∷ xs) h best = rw (h .0) (over-channels xs (h .1) best)
-
--- ---- the same, where it is asked for
-
-module _ (h : Here) where
-  abbrev same : Bool → Best → List SafeDial → Best
-  same b best xs = cond b (nearestOver (h .«dial_hz») (h .flags) (h .«channel_band») best xs) best
-
-  pub held-none : (best : Best) → heldOver h best [] ≡ best
-  held-none best = go (h .asked)
-    where
-      go : (b : Bool) → same b best [] ≡ best
-      go true = over-none (h .«dial_hz») (h .flags) (h .«channel_band») best
-      go false = refl
-
-  pub held-row : (best : Best) (x : SafeDial) (xs : List SafeDial) → heldOver h best (x ∷ xs) ≡ heldOver h (heldOf h best x) xs
-  held-row best x xs = go (h .asked)
-    where
-      go :
-          (b : Bool)
-          → same b best (x ∷ xs) ≡ same b (cond b (consideredOf (h .«dial_hz») (h .flags) (h .«channel_band») best x) best) xs
-      go true = over-row (h .«dial_hz») (h .flags) (h .«channel_band») best x xs
-      go false = refl
-
-  pub held-append : (xs ys : List SafeDial) (best : Best) → heldOver h best (xs ++ ys) ≡ heldOver h (heldOver h best xs) ys
-  held-append xs ys best = go (h .asked)
-    where
-      go : (b : Bool) → same b best (xs ++ ys) ≡ same b (same b best xs) ys
-      go true = over-append (h .«dial_hz») (h .flags) (h .«channel_band») xs ys best
-      go false = refl

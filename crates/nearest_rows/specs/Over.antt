@@ -5,7 +5,6 @@ use mathlib.Core.List.{List, [], _∷_}
 use lib.Ieee.{Float, binary64, sub, lt}
 use Rattle.rows.specs.declared.SafeDial.{SafeDial}
 use Rattle.distance.specs.Distance.{isOutside}
-use Rattle.nearest_rows.specs.declared.Here.{Here}
 use Rattle.nearest_rows.specs.declared.Best.{Best}
 use Rattle.nearest_rows.specs.declared.Best.the-variants.{At, Nowhere}
 
@@ -33,10 +32,3 @@ consideredOf dial flags channel best x =
 unfoldable pub nearestOver : Float → ℕ → ℕ → Best → List SafeDial → Best
 nearestOver dial flags channel best [] = best
 nearestOver dial flags channel best (x ∷ xs) = nearestOver dial flags channel (consideredOf dial flags channel best x) xs
-
--- held against what is asked: one row, and several
-abbrev pub heldOf : Here → Best → SafeDial → Best
-heldOf h best x = cond (h .asked) (consideredOf (h .«dial_hz») (h .flags) (h .«channel_band») best x) best
-
-abbrev pub heldOver : Here → Best → List SafeDial → Best
-heldOver h best xs = cond (h .asked) (nearestOver (h .«dial_hz») (h .flags) (h .«channel_band») best xs) best

@@ -2,7 +2,7 @@
 // distance; its laws use lists.
 use rows::SafeDial;
 ghost use mathlib.Core.Path.{_≡_};
-ghost use Rattle.nearest_rows.specs.Over.{pointOf, farOf, before, betterOf, consideredOf, heldOf};
+ghost use Rattle.nearest_rows.specs.Over.{pointOf, farOf, before, betterOf, consideredOf, nearestOver};
 
 // The nearest dial so far.
 pub enum Best {
@@ -15,8 +15,6 @@ pub struct Here {
     pub dial_hz: f64,
     pub flags: u8,
     pub channel_band: u8,
-    // Whether the nearest is asked for; else nothing is held against the dial.
-    pub asked: bool,
 }
 
 // The dial of a row that is nearest to a dial.
@@ -71,22 +69,12 @@ fn better(dial_hz: f64, best: Best, x: f64) -> Best
 }
 
 // A row, if it is outside the channel band.
-fn considered(h: Here, best: Best, x: SafeDial) -> Best
+pub fn consider(h: Here, best: Best, x: SafeDial) -> Best
     ensures { λ r. ⌜ r ≡ consideredOf (h .«dial_hz») (h .flags) (h .«channel_band») best x ⌝ }
 {
     if distance::is_outside(h.flags, h.channel_band, x.band) {
         let point = point_of(h.dial_hz, x.dial_low_hz, x.dial_high_hz);
         return better(h.dial_hz, best, point);
-    }
-    best
-}
-
-// The same, where it is asked for.
-pub fn consider(h: Here, best: Best, x: SafeDial) -> Best
-    ensures { λ r. ⌜ r ≡ heldOf h best x ⌝ }
-{
-    if h.asked {
-        return considered(h, best, x);
     }
     best
 }

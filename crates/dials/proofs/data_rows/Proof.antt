@@ -7,8 +7,8 @@ use Rattle.lists.specs.From.{from, from-step, from-end}
 use Rattle.table.specs.Table.{tableOf}
 use Rattle.table.specs.Parts.{segmentOf}
 use Rattle.rows.specs.Pour.{Pouring, pouring-none, pouring-more, pouring-done}
-use Rattle.nearest_rows.specs.Over.{heldOver}
-use Rattle.nearest_rows.specs.Laws.{held-none, held-append}
+use Rattle.nearest_rows.specs.Over.{nearestOver}
+use Rattle.nearest_rows.specs.Laws.{over-none, over-append}
 use Rattle.nearest_rows.specs.declared.Best.{Best}
 use Rattle.nearest_rows.specs.declared.Best.the-variants.{Nowhere}
 use Rattle.dial_rows.specs.Dials.{segmentRows, segmentRowsAt, dataRows}
@@ -21,8 +21,8 @@ abbrev Inv-loop : tie.InvT-loop
 Inv-loop image rows₀ q w h n₀ best₀ i₀ rows n best i =
     Pouring rows₀ 0 (dataRows (tableOf image) q) rows n (from (w .«segment_count») (segmentRowsAt (tableOf image) q) i)
     × ((length rows ≡ length rows₀)
-    × (heldOver h best (from (w .«segment_count») (segmentRowsAt (tableOf image) q) i)
-    ≡ heldOver h Nowhere (dataRows (tableOf image) q)))
+    × (nearestOver (h .«dial_hz») (h .flags) (h .«channel_band») best (from (w .«segment_count») (segmentRowsAt (tableOf image) q) i)
+    ≡ nearestOver (h .«dial_hz») (h .flags) (h .«channel_band») Nowhere (dataRows (tableOf image) q)))
 
 abbrev μ-loop : tie.MeasureT-loop
 μ-loop image rows₀ q w h n₀ best₀ i₀ rows n best i = w .«segment_count» - i
@@ -41,7 +41,7 @@ asked c =
 loop-holds : tie.Need-loop-holds Inv-loop μ-loop
 loop-holds c =
     let all = data-all _ _ _ (c .before .before .pre) in
-    (pouring-none _ _ _ _ all, (refl, ap (heldOver (c .before .before .args .h) Nowhere) all))
+    (pouring-none _ _ _ _ all, (refl, ap (nearestOver _ _ _ Nowhere) all))
 
 mul-record-at : tie.Need-mul-record-at Inv-loop μ-loop
 mul-record-at c = omega (arith, segment-placed _ _ _ (c .before .before .before .before .before .pre) _ (c .if1 .taken))
@@ -78,7 +78,7 @@ loop-again : tie.Need-loop-again Inv-loop μ-loop
 loop-again c =
     let a = c .before .before .before .before .before .before .before .before .before .before .before .args in
     let t = c .before .before .before .before .before .before .before .before .loop in
-    let over = heldOver (a .h) in
+    let over = nearestOver (a .h .«dial_hz») (a .h .flags) (a .h .«channel_band») in
     let f = segmentRowsAt (tableOf (a .image .now)) (a .q) in
     let n = a .w .«segment_count» in
     let here = asked (c .before .before) in
@@ -87,7 +87,7 @@ loop-again c =
       (
         c .before .before .segment-rows .kept .1 .0 ∙ t .inv .1 .0,
         ap (λ (x : Best). over x (from n f (t .i + 1))) (c .before .before .segment-rows .ensures .1 ∙ ap (over (t .best)) here)
-            ∙ sym (held-append (a .h) (f (t .i)) (from n f (t .i + 1)) (t .best))
+            ∙ sym (over-append (a .h .«dial_hz») (a .h .flags) (a .h .«channel_band») (f (t .i)) (from n f (t .i + 1)) (t .best))
             ∙ sym (ap (over (t .best)) step) ∙ t .inv .1 .1,
       ),
     )
@@ -99,10 +99,10 @@ returns : tie.Need-returns Inv-loop μ-loop
 returns c =
     let a = c .before .before .before .before .before .args in
     let t = c .before .before .loop in
-    let over = heldOver (a .h) in
+    let over = nearestOver (a .h .«dial_hz») (a .h .flags) (a .h .«channel_band») in
     let none = from-end (a .w .«segment_count») (t .i) (segmentRowsAt (tableOf (a .image .now)) (a .q)) (c .if1 .left) in (
       pouring-done _ _ _ _ _ _ (t .inv .0) none,
-      sym (held-none (a .h) (t .best)) ∙ sym (ap (over (t .best)) none) ∙ t .inv .1 .1,
+      sym (over-none (a .h .«dial_hz») (a .h .flags) (a .h .«channel_band») (t .best)) ∙ sym (ap (over (t .best)) none) ∙ t .inv .1 .1,
     )
 
 pub data-rows-spec : {M : Type 1} → statement M

@@ -6,8 +6,8 @@ use lib.ListN.{length}
 use Rattle.table.specs.Table.{tableOf}
 use Rattle.table.specs.Parts.{segmentOf}
 use Rattle.rows.specs.Pour.{Pouring, pouring-none, pouring-step, pouring-done}
-use Rattle.nearest_rows.specs.Over.{heldOver}
-use Rattle.nearest_rows.specs.Laws.{held-none, held-row}
+use Rattle.nearest_rows.specs.Over.{nearestOver}
+use Rattle.nearest_rows.specs.Laws.{over-none, over-row}
 use Rattle.nearest_rows.specs.declared.Best.{Best}
 use Rattle.dial_rows.specs.Dials.{privilegesRows}
 use Rattle.dial_rows.specs.Next.{segmentNext, privilegesFrom, privileges-all}
@@ -20,8 +20,8 @@ abbrev Inv-loop : tie.InvT-loop
 Inv-loop image rows₀ q w r h spot₀ n₀ best₀ rows spot n best =
     Pouring rows₀ n₀ (privilegesRows (tableOf image) q (segmentOf r)) rows n (privilegesFrom (tableOf image) q (segmentOf r) spot)
     × ((length rows ≡ length rows₀)
-    × (heldOver h best (privilegesFrom (tableOf image) q (segmentOf r) spot)
-    ≡ heldOver h best₀ (privilegesRows (tableOf image) q (segmentOf r))))
+    × (nearestOver (h .«dial_hz») (h .flags) (h .«channel_band») best (privilegesFrom (tableOf image) q (segmentOf r) spot)
+    ≡ nearestOver (h .«dial_hz») (h .flags) (h .«channel_band») best₀ (privilegesRows (tableOf image) q (segmentOf r))))
 
 abbrev μ-loop : tie.MeasureT-loop
 μ-loop image rows₀ q w r h spot₀ n₀ best₀ rows spot n best = length (privilegesFrom (tableOf image) q (segmentOf r) spot)
@@ -39,7 +39,7 @@ given c =
 loop-holds : tie.Need-loop-holds Inv-loop μ-loop
 loop-holds c =
     let all = privileges-all _ _ _ _ (c .before .before .pre .0 .ahead) in
-    (pouring-none _ _ _ _ all, (refl, ap (heldOver (c .before .before .args .h) (c .before .before .args .before .best)) all))
+    (pouring-none _ _ _ _ all, (refl, ap (nearestOver _ _ _ _) all))
 
 privileges-from-requires : tie.Need-privileges-from-requires Inv-loop μ-loop
 privileges-from-requires c κs = c .before .before .before .pre .0
@@ -72,14 +72,14 @@ loop-again : tie.Need-loop-again Inv-loop μ-loop
 loop-again c =
     let a = c .before .before .before .before .before .before .before .before .before .before .before .before .args in
     let rest = privilegesFrom (tableOf (a .image .now)) (a .q) (segmentOf (a .r)) in
-    let over = heldOver (a .h) in
+    let over = nearestOver (a .h .«dial_hz») (a .h .flags) (a .h .«channel_band») in
     let t = c .before .before .before .before .before .before .before .before .before .loop in
     let x = c .before .before .before .before .before .before .x in (
       pouring-step _ _ _ _ _ _ _ _ _ (t .inv .0) (given (c .before .before .before .before .before .before)) (c .before .before .before .offer .ensures),
       (
         c .before .before .before .offer .kept .0 ∙ t .inv .1 .0,
         ap (λ (y : Best). over y (rest (x .given .0 .1 .0))) (c .consider .ensures)
-            ∙ sym (held-row (a .h) (t .best) (x .given .0 .0) (rest (x .given .0 .1 .0)))
+            ∙ sym (over-row (a .h .«dial_hz») (a .h .flags) (a .h .«channel_band») (t .best) (x .given .0 .0) (rest (x .given .0 .1 .0)))
             ∙ sym (ap (over (t .best)) (given (c .before .before .before .before .before .before))) ∙ t .inv .1 .1,
       ),
     )
@@ -93,12 +93,12 @@ same-length c = c .before .before .before .loop .inv .1 .0
 returns : tie.Need-returns Inv-loop μ-loop
 returns c =
     let a = c .before .before .before .before .before .before .args in
-    let over = heldOver (a .h) in
+    let over = nearestOver (a .h .«dial_hz») (a .h .flags) (a .h .«channel_band») in
     let t = c .before .before .before .loop in
     let none = c .before .before .privileges-from .ensures
     ∙ ap (segmentNext (privilegesFrom (tableOf (a .image .now)) (a .q) (segmentOf (a .r)))) (c .enum-told .given .1) in (
       pouring-done _ _ _ _ _ _ (t .inv .0) none,
-      sym (held-none (a .h) (t .best)) ∙ sym (ap (over (t .best)) none) ∙ t .inv .1 .1,
+      sym (over-none (a .h .«dial_hz») (a .h .flags) (a .h .«channel_band») (t .best)) ∙ sym (ap (over (t .best)) none) ∙ t .inv .1 .1,
     )
 
 pub privileges-rows-spec : {M : Type 1} → statement M

@@ -2,8 +2,8 @@
 use mathlib.Core.Path.{sym, ap, _∙_}
 use Rattle.table.specs.Parts.{segmentOf}
 use Rattle.rows.specs.Pour.{poured-none}
-use Rattle.nearest_rows.specs.Over.{heldOver}
-use Rattle.nearest_rows.specs.Laws.{held-none}
+use Rattle.nearest_rows.specs.Over.{nearestOver}
+use Rattle.nearest_rows.specs.Laws.{over-none}
 use Rattle.dial_rows.specs.Next.{segment-closed, segment-open}
 use borrow.Author.Needs.{needs}
 use Rattle.dials.proofs.segment_rows.Statement.{statement}
@@ -17,8 +17,8 @@ returns c =
     let a = c .before .before .before .before .args in
     let none = segment-closed (a .image .now) (a .q) (segmentOf (a .r)) (sym (c .before .closed .ensures) ∙ c .if1 .taken) in (
       rw none (poured-none _ _),
-      sym (held-none (a .h) (a .before .best))
-          ∙ ap (heldOver (a .h) (a .before .best)) (sym none),
+      sym (over-none (a .h .«dial_hz») (a .h .flags) (a .h .«channel_band») (a .before .best))
+          ∙ ap (nearestOver (a .h .«dial_hz») (a .h .flags) (a .h .«channel_band») (a .before .best)) (sym none),
     )
 
 privileges-rows-requires : tie.Need-privileges-rows-requires
@@ -34,7 +34,7 @@ returns-2 c =
     (sym (c .before .before .before .before .before .closed .ensures) ∙ c .before .before .before .before .if1 .left) in (
       rw all (c .before .before .privileges-rows .ensures .0),
       c .before .before .privileges-rows .ensures .1
-          ∙ ap (heldOver (a .h) (a .before .best)) (sym all),
+          ∙ ap (nearestOver (a .h .«dial_hz») (a .h .flags) (a .h .«channel_band») (a .before .best)) (sym all),
     )
 
 pub segment-rows-spec : {M : Type 1} → statement M
