@@ -1,5 +1,7 @@
 // What an operator is told of a lawful data transmission: power limits (97.313) and the voluntary band plan. It uses
 // profile, station, scan, layout, table, find, decision, part97 and findings.
+#![tactic(auto)]
+
 ghost use Rattle.std.specs.Prelude.{◌≡◌, ◌||◌};
 ghost use Rattle.layout.specs.Layout.{count_of, general_of, power};
 ghost use Rattle.layout.specs.Form.{Whole};
@@ -37,7 +39,7 @@ fn is_noted(c: Case, r: Range, limit: PowerLimit) -> bool
 }
 
 // A mark for each power record that has a note, and whether one has.
-#[derive(Drop)]
+#[derive(Clone, Copy)]
 pub struct Notes {
     pub marks: [u8; 256],
     pub any: bool,

@@ -1,5 +1,7 @@
 // The small functions of the Rust's mod.rs: the range on the air, the guarded range and the dial range.
 // Each operation rounds once, in the Rust's order. It uses codes and profile.
+#![tactic(auto)]
+
 ghost use Rattle.std.specs.Prelude.{◌≡◌};
 ghost use Rattle.air.specs.Air.{rf_range_of, guarded_of, unguarded_of, width_of, dial_ends_of, dial_range_of};
 
@@ -7,14 +9,14 @@ use codes::Sideband;
 use profile::Range;
 
 // What a range on the air is widened by, hertz: below it and above it. Either may be negative.
-#[derive(Drop)]
+#[derive(Clone, Copy)]
 pub struct Margins {
     pub lower_hz: f64,
     pub upper_hz: f64,
 }
 
 // The dials that put a signal inside a range, if any does.
-#[derive(Drop)]
+#[derive(Clone, Copy)]
 pub enum DialRange {
     Dials(Range),
     NoDial,

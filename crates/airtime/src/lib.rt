@@ -1,5 +1,7 @@
 // Time on the air: for each record of a run the seconds of its band over itself and the earlier records that start at most 599 seconds
 // before it, for groups that limit how long a station holds a shared channel. A public call. Its definitions use codes, scan and lists.
+#![tactic(auto)]
+
 ghost use Rattle.std.specs.Prelude.{◌≡◌, ◌<◌, length};
 ghost use Rattle.airtime.specs.Airtime.{falls_of, runs_fit, totals_of, Totalled};
 ghost use Rattle.airtime.specs.Laws.{Even, Held, Trimmed};
@@ -11,7 +13,7 @@ pub const MOST_RECORDS: usize = 65536;
 const SPAN: u64 = 599;
 
 // What became of a run: how many totals were written, or the refusal's number.
-#[derive(Drop)]
+#[derive(Clone, Copy)]
 pub enum Airtime {
     Totals(u32),
     Refused(u8),

@@ -1,5 +1,7 @@
 // Amendments with a day: the effective image of a base image, a list of amendments and a day. A public call. It uses codes, layout, table, find,
 // image, bytes, writer, convert and amended; its definitions use scan and coded.
+#![tactic(auto)]
+
 ghost use Rattle.std.specs.Prelude.{◌≡◌, false, ◌++◌, ◌≤◌, ◌<◌, length, drop};
 ghost use Rattle.std.proofs.lemmas.List.Edits.{sets};
 ghost use Rattle.scan.specs.First.{on_found};
@@ -164,7 +166,7 @@ fn put_image(out: &mut [u8], image: &[u8], list: &[u8], day: u32, index: &[u32])
     requires { (Ready image.now list.now day index.now) × (length image.now ≤ length out.old) }
     ensures { out.new ≡ effective_of image.now list.now day ++ drop (length image.now) out.old }
 {
-    bytes::copy(out, image, image.len());
+    byte_writes::copy(out, image, image.len());
     let count = layout::records_before(image, layout::TABLES) as usize;
     let mut k: usize = 0;
     while k < count {

@@ -1,5 +1,7 @@
 // Amendments with a day: a lent list of them and its refusal, which one counts for each record of an image, and the record that is in force. It
 // uses layout and scan; its laws use alike.
+#![tactic(auto)]
+
 ghost use Rattle.std.specs.Prelude.{◌≡◌, false, ◌+◌, ◌*◌, ◌≤◌, ◌<◌, ltb, length};
 ghost use Rattle.layout.specs.Form.{Whole};
 ghost use Rattle.layout.specs.Layout.{record_at, records_before};

@@ -1,5 +1,7 @@
 // What a case of a program of the gate asks of a station and a signal, from its bytes: 42 bytes of a station record with its two codes, and 32 of
 // edges; and the bits of a figure that an answer has. It uses figures, profile, occupancy, air, station and layout.
+#![tactic(auto)]
+
 ghost use Rattle.std.specs.Prelude.{◌+◌, ◌≤◌, length};
 
 use air::Margins;

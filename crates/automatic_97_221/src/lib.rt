@@ -1,5 +1,7 @@
 // 97.221, automatically controlled digital stations, as far as verdict, ceiling and dial list share it. It uses codes and
 // table.
+#![tactic(auto)]
+
 ghost use Rattle.std.specs.Prelude.{◌≡◌};
 ghost use Rattle.automatic_97_221.specs.Automatic.{is_automatic, at_control_point, responds, applies_of, elsewhere_allows};
 

@@ -1,5 +1,7 @@
 // Data from an automatically controlled station (97.221). It uses codes, profile, layout, table, find, decision,
 // part97, findings and automatic_97_221.
+#![tactic(auto)]
+
 ghost use Rattle.std.specs.Prelude.{◌≡◌, ◌&&◌, not};
 ghost use Rattle.layout.specs.Form.{Whole};
 ghost use Rattle.layout.specs.Layout.{general_of};

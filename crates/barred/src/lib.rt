@@ -1,6 +1,8 @@
 // Whether a transmission is blocked, without the answer: the census of a band asks its code of each dial, and the climb over the rungs asks
 // what blocks a rung, of which the answer is made without judging it again. It uses codes, profile, occupancy, station, layout, table, decision,
 // part97, findings, judge and verdict.
+#![tactic(auto)]
+
 ghost use Rattle.std.specs.Prelude.{◌≡◌};
 ghost use Rattle.layout.specs.Form.{Whole};
 ghost use Rattle.layout.specs.Layout.{general_of};
@@ -20,14 +22,14 @@ use station::{Figure, Situation};
 use verdict::Ready;
 
 // What blocks a transmission, if anything does.
-#[derive(Drop)]
+#[derive(Clone, Copy)]
 pub enum Bar {
     By(Finding),
     Free,
 }
 
 // What is asked of a decision that is not made.
-#[derive(Drop)]
+#[derive(Clone, Copy)]
 pub struct Brief {
     pub blocked: bool,
     pub code: Code,

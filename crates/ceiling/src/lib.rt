@@ -1,5 +1,7 @@
 // The ceiling: the fastest rung that may be sent, and the verdict on the first that may not. A public call. It uses codes,
 // occupancy, station, entry, decision, part97, barred and rungs; its definitions use layout, table and verdict, its laws scan.
+#![tactic(auto)]
+
 ghost use Rattle.std.specs.Prelude.{◌/◌, ◌≡◌, length};
 ghost use Rattle.codes.specs.declared.Policy.TheVariants.{Rules};
 ghost use Rattle.layout.specs.Form.{Whole};
@@ -15,21 +17,21 @@ use part97::Finding;
 use station::{Situation, StationRecord};
 
 // The fastest rung allowed.
-#[derive(Drop)]
+#[derive(Clone, Copy)]
 pub enum Rung {
     Fastest(usize),
     NoRung,
 }
 
 // What the rungs so far occupy, with their control frames.
-#[derive(Drop)]
+#[derive(Clone, Copy)]
 pub enum Envelope {
     Reached(Edges),
     Unreached,
 }
 
 // A rung's step: what it occupies with its control frame and every slower rung, and where that is blocked, by what.
-#[derive(Drop)]
+#[derive(Clone, Copy)]
 pub enum Step {
     Passed(Edges),
     Stopped(Edges, Finding),
@@ -37,7 +39,7 @@ pub enum Step {
 
 // A climb: the rungs judged so far, and the decision on the first that is blocked. Where there is none, `limit` is absent: Blocked,
 // with refusal 0, which no input meets.
-#[derive(Drop)]
+#[derive(Clone, Copy)]
 pub struct Climb {
     pub envelope: Envelope,
     pub rung: Rung,
@@ -45,7 +47,7 @@ pub struct Climb {
     pub limit: Decision,
 }
 
-#[derive(Drop)]
+#[derive(Clone, Copy)]
 pub struct CeilingAnswer {
     pub refusal: Checked,
     pub rung: Rung,

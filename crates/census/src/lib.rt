@@ -1,5 +1,7 @@
 // A census of a band: how many whole-hertz dials of a stretch get each code. A public call. It uses codes, station, occupancy, entry,
 // decision, verdict, barred and numbers; its definitions use layout and table too, and its laws scan, find and part97.
+#![tactic(auto)]
+
 ghost use Rattle.std.specs.Prelude.{◌≡◌, ◌+◌, ◌-◌, ◌<◌, ◌≤◌, pos, ◌+ℤ◌, unsigned_abs};
 ghost use Rattle.std.specs.Float.{binary64};
 ghost use Rattle.std.specs.Float.Ieee.{of_int};
@@ -24,7 +26,7 @@ const FARTHEST: u64 = 1099511627776;
 // Where nought lies among signed numbers of 64 bits, counted from the least.
 const NOUGHT: u64 = 9223372036854775808;
 
-#[derive(Drop)]
+#[derive(Clone, Copy)]
 pub struct Census {
     pub refusal: Checked,
     // How many dials get each code, code 1 first; noughts on a refusal.

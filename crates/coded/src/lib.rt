@@ -1,4 +1,6 @@
 // Refusal 5: the coded and the unused bytes of a record and of the general block. It uses codes and layout.
+#![tactic(auto)]
+
 ghost use Rattle.std.specs.Prelude.{◌≡◌};
 ghost use Rattle.coded.specs.Coded.{under, bits_under, no_lists, no_rules, coded_band, coded_segment, coded_channel};
 ghost use Rattle.coded.specs.Coded.{coded_privilege, coded_automatic, coded_excluded, coded_power, coded_plan, coded_of};

@@ -1,6 +1,6 @@
 -- Document 01's number for each case of each coded term ("Station codes", "Classes", "Emission bits").
 -- 255 stands for an absent control, licence or sideband.
-use Rattle.std.specs.Prelude.{ℕ, ◌^◌, ◌/◌, ◌%◌, Bool, true, false, ◌||◌, cond, leb, eqb}
+use Rattle.std.specs.Prelude.{ℕ, ◌^◌, ◌/◌, ◌%◌, Bool, eqb}
 use Rattle.codes.specs.declared.Policy.{Policy}
 use Rattle.codes.specs.declared.Policy.TheVariants.{Unset, NoProfile, Rules, Broken}
 use Rattle.codes.specs.declared.ControlMode.{ControlMode}

@@ -1,10 +1,12 @@
 // The coded terms of document 01 as enums: policy, control, licence class, sideband, kind of emission and
 // direction. A definition gives document 01's number for each case. It uses nothing.
+#![tactic(auto)]
+
 ghost use Rattle.std.specs.Prelude.{◌≡◌, ◌<◌};
 ghost use Rattle.codes.specs.Code.{class_code, kind_code, bit_of};
 ghost use Rattle.codes.specs.Read.{policy_of, control_of, license_of, sideband_of, kind_of, direction_valid, direction_of};
 
-#[derive(Drop)]
+#[derive(Clone, Copy)]
 pub enum Policy {
     Unset,
     NoProfile,
@@ -13,7 +15,7 @@ pub enum Policy {
 }
 
 // How the station is controlled (47 CFR 97.3(a)(6), (39); 97.109).
-#[derive(Drop)]
+#[derive(Clone, Copy)]
 pub enum ControlMode {
     Local,
     Remote,
@@ -21,7 +23,7 @@ pub enum ControlMode {
 }
 
 // The operator's licence class (97.301).
-#[derive(Drop)]
+#[derive(Clone, Copy)]
 pub enum LicenseClass {
     Novice,
     Technician,
@@ -31,14 +33,14 @@ pub enum LicenseClass {
 }
 
 // The sideband that the radio transmits the modem's audio on.
-#[derive(Drop)]
+#[derive(Clone, Copy)]
 pub enum Sideband {
     Usb,
     Lsb,
 }
 
 // What a transmission is, as the rules class it (97.3(c)).
-#[derive(Drop)]
+#[derive(Clone, Copy)]
 pub enum EmissionKind {
     Data,
     Cw,
@@ -48,7 +50,7 @@ pub enum EmissionKind {
 
 // Who began the exchange: 97.221(c)(1)'s question. Whoever answers another station answers one under local or remote control, or
 // one under automatic control.
-#[derive(Drop)]
+#[derive(Clone, Copy)]
 pub enum Direction {
     Originate,
     Respond,
@@ -57,26 +59,26 @@ pub enum Direction {
 }
 
 // A control, a licence class and a sideband that may be absent.
-#[derive(Drop)]
+#[derive(Clone, Copy)]
 pub enum Control {
     ControlIs(ControlMode),
     NoControl,
 }
 
-#[derive(Drop)]
+#[derive(Clone, Copy)]
 pub enum License {
     LicenseIs(LicenseClass),
     NoLicense,
 }
 
-#[derive(Drop)]
+#[derive(Clone, Copy)]
 pub enum SidebandSet {
     SidebandIs(Sideband),
     NoSideband,
 }
 
 // What a check says of its input: accepted, or the number of the first refusal.
-#[derive(Drop)]
+#[derive(Clone, Copy)]
 pub enum Checked {
     Accepted,
     Refused(u8),

@@ -18,7 +18,7 @@ use Rattle.layout.specs.Form.{size_wrong, letters_wrong, edition_wrong, counts_w
 use Rattle.table.specs.Table.{table_of}
 use Rattle.image.specs.Check.{content_tests, check_of}
 use Rattle.image.specs.Laws.{accepted_whole}
-use Rattle.bytes.specs.Laws.{sets_next}
+use Rattle.byte_writes.specs.Laws.{sets_next}
 use Rattle.given.specs.Tests.{neither_edition}
 use Rattle.writer.specs.Image.{watts_bytes, end_bytes}
 use Rattle.writer.specs.Laws.{watts_length, end_length}

@@ -1,4 +1,6 @@
 // The converters between the two editions of an image. Public calls. They use codes, layout, image, bytes and writer.
+#![tactic(auto)]
+
 ghost use Rattle.std.specs.Prelude.{◌≡◌, false, ◌+◌, ◌≤◌, length, take, drop};
 ghost use Rattle.std.proofs.lemmas.List.Edits.{sets};
 ghost use Rattle.codes.specs.Refusal.{refusal_of};
@@ -66,7 +68,7 @@ pub fn put_part(out: &mut [u8], to: usize, image: &[u8], from: usize, count: usi
     requires { (to + count ≤ length out.old) × (from + count ≤ length image.now) }
     ensures { out.new ≡ sets out.old to (take count (drop from image.now)) }
 {
-    bytes::copy(&mut out[to..], &image[from..], count);
+    byte_writes::copy(&mut out[to..], &image[from..], count);
 }
 
 // The raised image, where it fits.

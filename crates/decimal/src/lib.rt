@@ -1,5 +1,7 @@
 // A double's exact value, rounded to a decimal in whole numbers, and Rust's `round`, for figures within 2^43. A double has 53 binary
 // digits, and 1,000 times such a number fits in 63. It uses figures in its laws only.
+#![tactic(auto)]
+
 ghost use Rattle.std.specs.Prelude.{◌≡◌, ◌^◌, ◌<◌, ◌≤◌};
 ghost use Rattle.std.specs.Float.Ieee.Nearest.{closest};
 ghost use Rattle.decimal.specs.Decimal.{decimal_of, sign_of, half_up, round_of, decimal_rounded};
@@ -7,7 +9,7 @@ ghost use Rattle.decimal.specs.Within.{Within};
 ghost use Rattle.decimal.specs.Laws.{Parted};
 
 // A figure: its sign, its binary digits, and by how many places they are moved down.
-#[derive(Drop)]
+#[derive(Clone, Copy)]
 pub struct Parts {
     pub negative: bool,
     pub digits: u64,
@@ -15,7 +17,7 @@ pub struct Parts {
 }
 
 // A figure rounded: its sign, and how many units of its last place it has.
-#[derive(Drop)]
+#[derive(Clone, Copy)]
 pub struct Decimal {
     pub negative: bool,
     pub count: u64,

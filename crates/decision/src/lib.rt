@@ -1,5 +1,7 @@
 // The answer of the gate: its parts as enums and a struct by value, each part with its "absent". It uses codes, profile and
 // station.
+#![tactic(auto)]
+
 ghost use Rattle.std.specs.Prelude.{◌≡◌};
 ghost use Rattle.decision.specs.Decision.{finish_of, simple_of, refused_of, no_marks, no_advice};
 
@@ -22,7 +24,7 @@ pub const RULE_97_305C: u16 = 5;
 
 pub const RULE_97_307F9: u16 = 6;
 
-#[derive(Drop)]
+#[derive(Clone, Copy)]
 pub enum Verdict {
     // Permitted.
     Legal,
@@ -33,7 +35,7 @@ pub enum Verdict {
 }
 
 // The reason, for a program.
-#[derive(Drop)]
+#[derive(Clone, Copy)]
 pub enum Code {
     NoProfile,
     ProfileBroken,
@@ -63,14 +65,14 @@ pub enum Code {
     NoCode,
 }
 
-#[derive(Drop)]
+#[derive(Clone, Copy)]
 pub enum Edge {
     Lower,
     Upper,
 }
 
 // How data lies outside a segment: beyond an edge by a distance, or merely too close to an edge.
-#[derive(Drop)]
+#[derive(Clone, Copy)]
 pub enum Overshoot {
     Beyond(f64, Edge),
     TooClose(Edge),
@@ -78,7 +80,7 @@ pub enum Overshoot {
 }
 
 // What the voluntary band plan says, with the index of the plan record.
-#[derive(Drop)]
+#[derive(Clone, Copy)]
 pub enum Guidance {
     Avoid(usize),
     Inside(usize),
@@ -86,27 +88,27 @@ pub enum Guidance {
     NoGuidance,
 }
 
-#[derive(Drop)]
+#[derive(Clone, Copy)]
 pub enum BandNumber {
     Band(u8),
     NoBand,
 }
 
 // The segment that a transmission is judged against, and its rule.
-#[derive(Drop)]
+#[derive(Clone, Copy)]
 pub enum JudgedSegment {
     Segment(Range, u16),
     NoSegment,
 }
 
-#[derive(Drop)]
+#[derive(Clone, Copy)]
 pub enum MaybeRange {
     Is(Range),
     NoRange,
 }
 
 // The notes on 60 m: above the channels' watts, shared with government stations, above the segment's watts.
-#[derive(Drop)]
+#[derive(Clone, Copy)]
 pub struct SixtyNotes {
     pub channel_power: bool,
     pub shared: bool,
@@ -114,7 +116,7 @@ pub struct SixtyNotes {
 }
 
 // A decision being made: the facts, before the verdict.
-#[derive(Drop)]
+#[derive(Clone, Copy)]
 pub struct Draft {
     pub audio: Range,
     pub width: f64,
@@ -125,14 +127,14 @@ pub struct Draft {
 }
 
 // What the operator should know besides.
-#[derive(Drop)]
+#[derive(Clone, Copy)]
 pub struct Advice {
     pub guidance: Guidance,
     pub notes: [u8; 256],
     pub sixty: SixtyNotes,
 }
 
-#[derive(Drop)]
+#[derive(Clone, Copy)]
 pub struct Decision {
     pub refusal: Checked,
     pub verdict: Verdict,

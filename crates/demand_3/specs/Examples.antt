@@ -34,7 +34,7 @@ use Rattle.dials.specs.declared.DialList.{DialList}
 use Rattle.dials.specs.declared.DialList.TheVariants.{Rows}
 use Rattle.dial_rows.specs.Dials.{request_of, piece_rows, automatic_rows, cut_rows, privilege_rows, privileges_rows}
 use Rattle.dial_rows.specs.Dials.{segment_rows, data_rows, channel_found, channel_row, channel_rows, open_rows, rows_of}
-use Rattle.bytes.specs.Bytes.{little}
+use Rattle.byte_writes.specs.Bytes.{little}
 use Rattle.rows.specs.Rows.{insert_row, insert_all, figures_of, encode_row, encode_all}
 use Rattle.lists.specs.Each.{each}
 use Rattle.eighths.specs.Grid.{in_eighths}

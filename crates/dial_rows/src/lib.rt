@@ -1,6 +1,8 @@
 // The rows of a dial list, segment by segment, privilege by privilege, automatic segment by automatic segment, and then the 60 m
 // channels: searches that give one row after the other. It uses codes, profile, air, layout, table, find, automatic_97_221 and
 // rows; its laws use apart, lists, order and bit_order.
+#![tactic(auto)]
+
 ghost use Rattle.std.specs.Prelude.{◌≡◌, ◌+◌, ◌≤◌, ◌<◌, length};
 ghost use Rattle.profile.specs.Range.{holds_of};
 ghost use Rattle.layout.specs.Form.{Whole};
@@ -26,7 +28,7 @@ use table::{ChannelBand, Channels, Privilege, Segment};
 const LIMIT_BITS: u64 = 0x4270_0000_0000_0000;
 
 // What a list is made for: the signal as it is read, and what the general block says of it.
-#[derive(Drop)]
+#[derive(Clone, Copy)]
 pub struct Request {
     // The licence class's number.
     pub class: u8,
@@ -70,34 +72,34 @@ pub fn request_of(
 }
 
 // A row, or none.
-#[derive(Drop)]
+#[derive(Clone, Copy)]
 pub enum Arise {
     Row(SafeDial),
     NoRow,
 }
 
 // The first row from an index on, a cut of a piece or a channel, and the index after it; or no row.
-#[derive(Drop)]
+#[derive(Clone, Copy)]
 pub enum CutRow {
     Row(SafeDial, usize),
     NoRow,
 }
 
 // A place among the rows of a segment: the privilege, and the cut of the piece that the two share.
-#[derive(Drop)]
+#[derive(Clone, Copy)]
 pub struct Spot {
     pub privilege: usize,
     pub cut: usize,
 }
 
-#[derive(Drop)]
+#[derive(Clone, Copy)]
 pub enum SegmentRow {
     Row(SafeDial, Spot),
     NoRow,
 }
 
 // What a search for rows knows beforehand: where the tables begin and how much of each is gone through.
-#[derive(Drop)]
+#[derive(Clone, Copy)]
 pub struct Search {
     pub segments: usize,
     pub segment_count: usize,

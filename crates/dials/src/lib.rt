@@ -1,5 +1,7 @@
 // The dial list: the dials that keep a signal inside the rules, as rows in lent bytes. A public call. It uses codes, occupancy, air, station,
 // layout, table, entry, bytes, rows, nearest_rows and dial_rows; its laws use lists.
+#![tactic(auto)]
+
 ghost use Rattle.std.specs.Prelude.{◌++◌, ◌≡◌, ◌+◌, ◌*◌, ◌≤◌, length, drop};
 ghost use Rattle.rows.specs.Rows.{sorted, encode_all};
 ghost use Rattle.layout.specs.Form.{Whole};
@@ -21,14 +23,14 @@ use station::{Situation, StationRecord};
 use table::{ChannelBand, Channels};
 
 // A list of so many rows, or the number of the refusal.
-#[derive(Drop)]
+#[derive(Clone, Copy)]
 pub enum DialList {
     Rows(usize),
     Refused(u8),
 }
 
 // What was made of the rows so far: how many they are, and the nearest of them to a dial.
-#[derive(Drop)]
+#[derive(Clone, Copy)]
 pub struct Tally {
     pub count: usize,
     pub best: Best,
@@ -195,7 +197,7 @@ fn settle(
 {
     let room = count * rows::ROW_SIZE;
     if room <= own.len() {
-        bytes::copy(rows, own, room);
+        byte_writes::copy(rows, own, room);
         return;
     }
     gather(image, &mut rows[..room], q, w, band);

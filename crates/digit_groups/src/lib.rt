@@ -1,4 +1,6 @@
 // The digits of a number, three at a time, from a table of 1,000 groups. It uses nothing.
+#![tactic(auto)]
+
 ghost use Rattle.std.specs.Prelude.{◌≡◌, cond, ◌%◌, ◌<◌};
 ghost use Rattle.digit_groups.specs.Group.{entry_of, group_of};
 ghost use Rattle.digit_groups.specs.Table.{word_of, Ruled, RowRuled};
@@ -8,7 +10,7 @@ use table::Row;
 mod table;
 
 // Three digits, in ASCII.
-#[derive(Drop)]
+#[derive(Clone, Copy)]
 pub struct Group {
     pub first: u8,
     pub second: u8,

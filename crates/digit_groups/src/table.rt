@@ -1,6 +1,8 @@
 // The 1,000 groups, five to a word and four words to a row: entry n has the three digits of n, noughts in front kept, as three
 // hexadecimal digits.
-#[derive(Drop)]
+#![tactic(auto)]
+
+#[derive(Clone, Copy)]
 pub struct Row {
     pub a: u64,
     pub b: u64,

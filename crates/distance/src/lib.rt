@@ -1,10 +1,12 @@
 // The distance of a dial from the rows of a finished dial list. A public call. It uses figures, codes and rows.
+#![tactic(auto)]
+
 ghost use Rattle.std.specs.Prelude.{◌≡◌, ◌+◌, ◌*◌, ◌≤◌, length};
 ghost use Rattle.rows.specs.Rows.{low_at, high_at, row_band};
 ghost use Rattle.distance.specs.Distance.{is_outside, distance_to, counts, nearer_of, considered_at, least_up_to, distance_of};
 
 // How far a dial stands from the nearest row outside the channel band, that there is no such row, or the number of the refusal.
-#[derive(Drop)]
+#[derive(Clone, Copy)]
 pub enum Distance {
     Hertz(f64),
     NoneListed,

@@ -4,7 +4,7 @@ use Rattle.std.proofs.Common.{arith}
 use Rattle.std.proofs.Math.Decide.{dec_le}
 use Rattle.layout.specs.Bytes.{byte_at, u16_at, u32_at, u64_at}
 use Rattle.lists.specs.Laws.{Every}
-use Rattle.bytes.specs.Bytes.{little}
+use Rattle.byte_writes.specs.Bytes.{little}
 use Rattle.writer.specs.Image.{littles}
 use Rattle.alike.specs.Alike.{Alike}
 

@@ -18,7 +18,7 @@ use Rattle.layout.specs.Form.{letters, size_wrong, letter_right, letters_wrong, 
 use Rattle.layout.specs.Form.{Whole}
 use Rattle.layout.specs.Laws.{table_within}
 use Rattle.table.specs.Table.{table_of}
-use Rattle.bytes.specs.Bytes.{little}
+use Rattle.byte_writes.specs.Bytes.{little}
 use Rattle.writer.specs.Image.{littles, watts_bytes, end_bytes}
 use Rattle.writer.specs.Laws.{watts_length, end_length}
 use Rattle.convert.specs.Convert.{moved_of, raised_of, lowered_of}

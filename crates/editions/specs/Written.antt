@@ -30,8 +30,8 @@ use Rattle.table.specs.Laws.{count_in_holds, at_in}
 use Rattle.image.specs.Check.{content_tests, check_of}
 use Rattle.lists.specs.Each.{each}
 use Rattle.lists.specs.From.{from, from_each, from_step}
-use Rattle.bytes.specs.Bytes.{little}
-use Rattle.bytes.specs.Laws.{length_little, u64_little}
+use Rattle.byte_writes.specs.Bytes.{little}
+use Rattle.byte_writes.specs.Laws.{length_little, u64_little}
 use Rattle.given.specs.declared.Fields.{Fields}
 use Rattle.given.specs.Given.{Runs, count_from, before_from, record_from, general_from, count_given, record_given, table_with, table_from}
 use Rattle.given.specs.Tests.{too_many, neither_edition, overfull_from, runs_wrong, given_wrong, given_tests}

@@ -1,5 +1,7 @@
 // The front of every judging call: refusals 20 to 22 and 1 to 14 in order, and the edges as they are read. It uses figures,
 // codes, profile, occupancy, station and image.
+#![tactic(auto)]
+
 ghost use Rattle.std.specs.Prelude.{◌≡◌};
 ghost use Rattle.entry.specs.Entry.{entry_of, pair_valid, edges_valid, pair_read, edges_read};
 

@@ -1,5 +1,7 @@
 // Where a table is wrong: the general block, or the first table and record, that the check's refusal meets. A public call.
 // It uses codes, scan, layout, coded, table, find and image.
+#![tactic(auto)]
+
 ghost use Rattle.std.specs.Prelude.{◌≡◌, false, ◌<◌};
 ghost use Rattle.scan.specs.First.{first};
 ghost use Rattle.layout.specs.Layout.{segments, count_of};
@@ -14,7 +16,7 @@ use find::Question;
 use layout::General;
 use scan::Found;
 
-#[derive(Drop)]
+#[derive(Clone, Copy)]
 pub enum Fault {
     // In the general block.
     InGeneral,
@@ -24,7 +26,7 @@ pub enum Fault {
     Nowhere,
 }
 
-#[derive(Drop)]
+#[derive(Clone, Copy)]
 pub struct FaultAnswer {
     pub refusal: Checked,
     pub fault: Fault,

@@ -1,7 +1,7 @@
 -- Figures: doubles, each operation rounding once. What stands here for Rust's `min`, `max`, `abs`, `midpoint` and `total_cmp`,
 -- and document 01's size test. Equality is of values, the sign of a zero included.
-use Rattle.std.specs.Prelude.{ℕ, Bool, true, false, not, cond, ◌&&◌, ◌||◌, Float}
-use Rattle.std.specs.Float.{fin, binary64}
+use Rattle.std.specs.Prelude.{ℕ, Bool, not, cond, ◌&&◌, ◌||◌, Float}
+use Rattle.std.specs.Float.{binary64}
 use Rattle.std.specs.Float.Ieee.{add, div, neg, lt, le, eq, ne, of_bits}
 
 -- The literals of the gate. Each stands here once, by its bits.

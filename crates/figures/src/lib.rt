@@ -1,5 +1,7 @@
 // Arithmetic on figures, as the gate has them: f64, each operation rounding once. It stands for the
 // methods of Rust's f64 that the port needs, and holds document 01's size test. It uses nothing.
+#![tactic(auto)]
+
 ghost use Rattle.std.specs.Prelude.{◌≡◌};
 ghost use Rattle.figures.specs.Figure.{min_of, max_of, abs_of, midpoint_of, total_less, in_size, read_hz, figure_of};
 

@@ -1,5 +1,7 @@
 // One scan for every table: the first record that a question fits. The question is a value, so that the loop is proved
 // once. It uses figures, profile, layout, coded, table and scan.
+#![tactic(auto)]
+
 ghost use Rattle.std.specs.Prelude.{◌≡◌, ℕ, ◌+◌, ◌*◌, ◌≤◌, ◌<◌, length, false};
 ghost use Rattle.scan.specs.First.{first, some, on_found};
 ghost use Rattle.layout.specs.Layout.{record_at};
@@ -12,7 +14,7 @@ use profile::{OwnLimit, Range};
 use scan::Found;
 
 // What is asked of a record.
-#[derive(Drop)]
+#[derive(Clone, Copy)]
 pub enum Question {
     // A byte outside its values or not zero where unused, in a record of a table (5).
     Miscoded(usize),
@@ -37,7 +39,7 @@ pub enum Question {
 }
 
 // The first record of a table that a question fits, with its index.
-#[derive(Drop)]
+#[derive(Clone, Copy)]
 pub enum Pick {
     Picked(usize, Record),
     Missing,

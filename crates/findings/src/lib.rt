@@ -1,5 +1,7 @@
 // What judging can find, one function for each way: on a band, against a segment, outside the nearest one, lawful data, allowed
 // on 60 m. It uses profile, decision and part97.
+#![tactic(auto)]
+
 ghost use Rattle.std.specs.Prelude.{◌≡◌};
 ghost use Rattle.part97.specs.Part97.{warned};
 ghost use Rattle.part97.specs.Finding.{on_band, in_segment, beyond_segment, lawful_in, on_sixty};

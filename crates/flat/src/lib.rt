@@ -1,6 +1,8 @@
 // The records of the boundary to C: flat structs of numbers, read into the station record, the edges and a walk's state, and made from decisions
 // and the answers that hold one (flat_answers has the others). It uses codes, profile, occupancy, air, station, decision, numbers, ceiling, walk
 // and walk_step.
+#![tactic(auto)]
+
 ghost use Rattle.std.specs.Prelude.{◌≡◌, cond, ◌<◌};
 ghost use Rattle.ceiling.specs.Ceiling.{rung_number};
 ghost use Rattle.flat.specs.Fits.{RungFits, Indexed};
@@ -20,7 +22,7 @@ use walk_step::StepAnswer;
 
 // The station record: codes and presence bytes as document 01 numbers them, figures whatever they are.
 #[repr(C)]
-#[derive(Drop)]
+#[derive(Clone, Copy)]
 pub struct FlatStation {
     pub margin_lower_hz: f64,
     pub margin_upper_hz: f64,
@@ -38,7 +40,7 @@ pub struct FlatStation {
 
 // The edges of a signal under both readings, hertz.
 #[repr(C)]
-#[derive(Drop)]
+#[derive(Clone, Copy)]
 pub struct FlatEdges {
     pub power_low: f64,
     pub power_high: f64,
@@ -48,7 +50,7 @@ pub struct FlatEdges {
 
 // An answer. Absent parts are zero; a refusal has its number, verdict 2 and all else zero.
 #[repr(C)]
-#[derive(Drop)]
+#[derive(Clone, Copy)]
 pub struct FlatDecision {
     pub segment_low: f64,
     pub segment_high: f64,
@@ -85,7 +87,7 @@ pub struct FlatDecision {
 // A ceiling. The limit's verdict is 2 in every one: where limit_known is 0 all else of it is zero, but for the number of a refusal.
 // rung is -1 where there is none.
 #[repr(C)]
-#[derive(Drop)]
+#[derive(Clone, Copy)]
 pub struct FlatCeiling {
     pub limit: FlatDecision,
     pub rung: i32,
@@ -95,7 +97,7 @@ pub struct FlatCeiling {
 
 // The state of a walk: what its rungs have occupied, how many were judged, the image in force, whether a swap waits and a walk is open.
 #[repr(C)]
-#[derive(Drop)]
+#[derive(Clone, Copy)]
 pub struct FlatWalk {
     pub occupied: FlatEdges,
     pub place: u32,
@@ -106,7 +108,7 @@ pub struct FlatWalk {
 
 // The answer of a swap and of an opening.
 #[repr(C)]
-#[derive(Drop)]
+#[derive(Clone, Copy)]
 pub struct FlatWalkAnswer {
     pub state: FlatWalk,
     pub refusal: u8,
@@ -114,7 +116,7 @@ pub struct FlatWalkAnswer {
 
 // The answer of a step. Its refusal is the ceiling's.
 #[repr(C)]
-#[derive(Drop)]
+#[derive(Clone, Copy)]
 pub struct FlatStep {
     pub ceiling: FlatCeiling,
     pub state: FlatWalk,
@@ -122,14 +124,14 @@ pub struct FlatStep {
 }
 
 // The parts of an answer, each flat.
-#[derive(Drop)]
+#[derive(Clone, Copy)]
 pub struct FlatRange {
     pub low: f64,
     pub high: f64,
     pub known: u8,
 }
 
-#[derive(Drop)]
+#[derive(Clone, Copy)]
 pub struct FlatSegment {
     pub low: f64,
     pub high: f64,
@@ -137,26 +139,26 @@ pub struct FlatSegment {
     pub known: u8,
 }
 
-#[derive(Drop)]
+#[derive(Clone, Copy)]
 pub struct FlatOvershoot {
     pub beyond_hz: f64,
     pub edge: u8,
     pub number: u8,
 }
 
-#[derive(Drop)]
+#[derive(Clone, Copy)]
 pub struct FlatGuidance {
     pub index: u16,
     pub number: u8,
 }
 
-#[derive(Drop)]
+#[derive(Clone, Copy)]
 pub struct FlatRule {
     pub rule: u16,
     pub known: u8,
 }
 
-#[derive(Drop)]
+#[derive(Clone, Copy)]
 pub struct FlatBand {
     pub band: u8,
     pub known: u8,

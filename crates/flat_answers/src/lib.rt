@@ -1,6 +1,8 @@
 // The records of the boundary to C of the answers that hold no decision, flat structs of numbers, and the fields of a table that is written. It
 // uses fault, tidy, numbers, dials, report, census, distance, nearest, number_texts, airtime, given and writer; its definitions use codes, occupancy,
 // station, table, convert, amended and amend.
+#![tactic(auto)]
+
 ghost use Rattle.std.specs.Prelude.{◌≡◌};
 ghost use Rattle.flat_answers.specs.Fits.{FaultFits, Counted, ReportCounted};
 ghost use Rattle.flat_answers.specs.Answers.{fields_of, fault_flat, tidiness_flat, dials_flat, report_flat, image_flat, census_flat};
@@ -21,7 +23,7 @@ use writer::ImageAnswer;
 // What an image is written from, beside its records: edition, general block, and the number of records of each table. The watts of
 // edition 1 are not looked at.
 #[repr(C)]
-#[derive(Drop)]
+#[derive(Clone, Copy)]
 pub struct FlatFields {
     pub data_limit: f64,
     pub elsewhere_limit: f64,
@@ -48,7 +50,7 @@ pub struct FlatFields {
 
 // Where a table is wrong: place is 0 nowhere, 1 the general block, 2 a record. Where there is no record, table is 255 and record 65,535.
 #[repr(C)]
-#[derive(Drop)]
+#[derive(Clone, Copy)]
 pub struct FlatFault {
     pub record: u16,
     pub table: u8,
@@ -58,7 +60,7 @@ pub struct FlatFault {
 
 // The tidy question's answer: tidy is 1 only of an accepted image.
 #[repr(C)]
-#[derive(Drop)]
+#[derive(Clone, Copy)]
 pub struct FlatTidiness {
     pub tidy: u8,
     pub refusal: u8,
@@ -66,7 +68,7 @@ pub struct FlatTidiness {
 
 // A dial list: the count of its rows, or the refusal's number and count 0.
 #[repr(C)]
-#[derive(Drop)]
+#[derive(Clone, Copy)]
 pub struct FlatDials {
     pub count: u32,
     pub refusal: u8,
@@ -74,7 +76,7 @@ pub struct FlatDials {
 
 // A table report: the count of its rows, or the refusal's number and count 0.
 #[repr(C)]
-#[derive(Drop)]
+#[derive(Clone, Copy)]
 pub struct FlatReport {
     pub count: u32,
     pub refusal: u8,
@@ -82,7 +84,7 @@ pub struct FlatReport {
 
 // An image that was written: its length, or the refusal's number and length 0.
 #[repr(C)]
-#[derive(Drop)]
+#[derive(Clone, Copy)]
 pub struct FlatImage {
     pub length: u32,
     pub refusal: u8,
@@ -90,7 +92,7 @@ pub struct FlatImage {
 
 // A census: how many dials get each code, code 1 first, or the refusal's number and noughts.
 #[repr(C)]
-#[derive(Drop)]
+#[derive(Clone, Copy)]
 pub struct FlatCensus {
     pub counts: [u32; 25],
     pub refusal: u8,
@@ -98,7 +100,7 @@ pub struct FlatCensus {
 
 // The distance of a dial; where no row counts and on a refusal listed is 0 and the distance infinite.
 #[repr(C)]
-#[derive(Drop)]
+#[derive(Clone, Copy)]
 pub struct FlatDistance {
     pub distance_hz: f64,
     pub listed: u8,
@@ -107,7 +109,7 @@ pub struct FlatDistance {
 
 // Where to move the dial to. answer: 0 refused, 1 a dial, 2 none, 3 not judged; without a dial dial_hz is infinite.
 #[repr(C)]
-#[derive(Drop)]
+#[derive(Clone, Copy)]
 pub struct FlatNearest {
     pub dial_hz: f64,
     pub answer: u8,
@@ -116,7 +118,7 @@ pub struct FlatNearest {
 
 // A text's answer: the bytes written, or the refusal's number and length 0.
 #[repr(C)]
-#[derive(Drop)]
+#[derive(Clone, Copy)]
 pub struct FlatText {
     pub length: u32,
     pub refusal: u8,
@@ -124,7 +126,7 @@ pub struct FlatText {
 
 // Totals of time on the air: how many were written, or the refusal's number and count 0.
 #[repr(C)]
-#[derive(Drop)]
+#[derive(Clone, Copy)]
 pub struct FlatAirtime {
     pub count: u32,
     pub refusal: u8,

@@ -1,5 +1,7 @@
 // What an image is written from, and its refusals: 1, 3 and 4 of what is given, and 5 to 14 of the table that it makes, by the questions
 // that the image check asks of a record. Nothing is written here. It uses codes, scan, layout, coded, table, find, image and bytes.
+#![tactic(auto)]
+
 ghost use Rattle.std.specs.Prelude.{◌≡◌, false, ◌+◌, ◌*◌, ◌≤◌, ◌<◌, length, get_or};
 ghost use Rattle.std.specs.Float.{nan, binary64};
 ghost use Rattle.std.specs.Float.Ieee.{to_bits};
@@ -19,7 +21,7 @@ use scan::Found;
 pub const MOST: usize = 2045;
 
 // The edition, and the general block: figures as figures, codes and rules as numbers. The watts of edition 1 are not looked at.
-#[derive(Drop)]
+#[derive(Clone, Copy)]
 pub struct Fields {
     pub edition: u16,
     pub data_limit: f64,
@@ -48,7 +50,7 @@ fn watts_from(edition: u16, watts: f64, fixed: u64) -> u64
     ensures { result ≡ watts_from edition watts fixed }
 {
     if edition == layout::SECOND_EDITION {
-        return bytes::bits(watts);
+        return byte_writes::bits(watts);
     }
     fixed
 }
@@ -58,11 +60,11 @@ pub fn general_from(f: Fields) -> General
     ensures { result ≡ general_from f }
 {
     General {
-        data_limit: bytes::bits(f.data_limit),
-        elsewhere_limit: bytes::bits(f.elsewhere_limit),
-        channel_width: bytes::bits(f.channel_width),
-        carrier_offset: bytes::bits(f.carrier_offset),
-        carrier_tolerance: bytes::bits(f.carrier_tolerance),
+        data_limit: byte_writes::bits(f.data_limit),
+        elsewhere_limit: byte_writes::bits(f.elsewhere_limit),
+        channel_width: byte_writes::bits(f.channel_width),
+        carrier_offset: byte_writes::bits(f.carrier_offset),
+        carrier_tolerance: byte_writes::bits(f.carrier_tolerance),
         region: f.region,
         reading: f.reading,
         flags: f.flags,
@@ -87,7 +89,7 @@ fn bits_at(figures: &[f64], i: usize) -> u64
     requires { i < length figures.now }
     ensures { result ≡ to_bits binary64 (get_or figures.now i nan) }
 {
-    bytes::bits(figures[i])
+    byte_writes::bits(figures[i])
 }
 
 fn rule_at(rules: &[u16], i: usize) -> u16

@@ -1,4 +1,6 @@
 // The image check: refusals 1 to 14, in their order. A public call. It uses figures, codes, scan, layout, coded, find and plain.
+#![tactic(auto)]
+
 ghost use Rattle.std.specs.Prelude.{◌≡◌, false};
 ghost use Rattle.codes.specs.Refusal.{refusal_of};
 ghost use Rattle.layout.specs.Form.{Whole};

@@ -1,6 +1,8 @@
 // The judgement of a case under an accepted table: the band (97.301), bands closed to automatic control, 60 m, and the kind
 // of emission; and the decision from what was found. It uses codes, layout, table, find, decision, part97, findings, advice_97_313,
 // data_97_305, other_97_305 and sixty_97_303.
+#![tactic(auto)]
+
 ghost use Rattle.std.specs.Prelude.{◌≡◌};
 ghost use Rattle.layout.specs.Form.{Whole};
 ghost use Rattle.layout.specs.Layout.{general_of};
@@ -30,14 +32,14 @@ fn off_sixty(s: &[u8], g: General, c: Case, band: u8, kind: EmissionKind) -> Fin
 }
 
 // Whether a band is closed to a station, and by what rule.
-#[derive(Drop)]
+#[derive(Clone, Copy)]
 pub enum Closed {
     By(u16),
     Open,
 }
 
 // Whether a band is 60 m, with its channels.
-#[derive(Drop)]
+#[derive(Clone, Copy)]
 pub enum Sixty {
     Here(Channels),
     Elsewhere,

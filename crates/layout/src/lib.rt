@@ -1,5 +1,7 @@
 // The table image's bytes: little-endian numbers, records, the general block, the trailer, and refusals 1 to 4.
 // Every offset and size of the image stands here. It uses codes.
+#![tactic(auto)]
+
 ghost use Rattle.std.specs.Prelude.{◌≡◌, ◌+◌, ◌*◌, ◌≤◌, ◌<◌, length};
 ghost use Rattle.codes.specs.Refusal.{refusal_of};
 ghost use Rattle.layout.specs.Bytes.{byte_at, u16_at, u32_at, u64_at};
@@ -53,7 +55,7 @@ pub const PLAN_DATA: usize = 7;
 pub const PLAN_AVOID: usize = 8;
 
 // A record as it stands: f64 fields by their bits.
-#[derive(Drop)]
+#[derive(Clone, Copy)]
 pub struct Record {
     pub low: u64,
     pub high: u64,
@@ -67,7 +69,7 @@ pub struct Record {
 }
 
 // The general block as it stands.
-#[derive(Drop)]
+#[derive(Clone, Copy)]
 pub struct General {
     pub data_limit: u64,
     pub elsewhere_limit: u64,

@@ -1,5 +1,7 @@
 // Where to move the dial to: the dial nearest to the present one at which data is allowed. A public call. It uses codes, profile, occupancy,
 // air, station, layout, table, tidy, entry, verdict, dial_rows, dials, on_grid and nearest_rows; its definitions use distance and demand_3.
+#![tactic(auto)]
+
 ghost use Rattle.std.specs.Prelude.{◌≡◌, true};
 ghost use Rattle.codes.specs.declared.Policy.TheVariants.{Rules};
 ghost use Rattle.layout.specs.Form.{Whole};
@@ -23,7 +25,7 @@ use station::{Figure, Situation, StationRecord};
 use table::ChannelBand;
 
 // The dial to move to, that no dial would be allowed, that a premise fails, or the number of the refusal.
-#[derive(Drop)]
+#[derive(Clone, Copy)]
 pub enum Nearest {
     Dial(f64),
     NoneAllowed,

@@ -1,19 +1,21 @@
 // The nearest to a dial of the dials in several rows, those of the channel band left out: row by row, as a search gives them. It uses rows and
 // distance; its laws use lists.
+#![tactic(auto)]
+
 ghost use Rattle.std.specs.Prelude.{◌≡◌};
 ghost use Rattle.nearest_rows.specs.Over.{point_of, far_of, before, better_of, considered_of, nearest_over};
 
 use rows::SafeDial;
 
 // The nearest dial so far.
-#[derive(Drop)]
+#[derive(Clone, Copy)]
 pub enum Best {
     At(f64),
     Nowhere,
 }
 
 // What the rows are held against: a dial, and which band is the channel band.
-#[derive(Drop)]
+#[derive(Clone, Copy)]
 pub struct Here {
     pub dial_hz: f64,
     pub flags: u8,

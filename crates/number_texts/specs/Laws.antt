@@ -11,7 +11,7 @@ use Rattle.std.proofs.Math.ListN.{length}
 use Rattle.std.proofs.Math.Seq.{sets}
 use Rattle.std.proofs.lemmas.List.{set_comm}
 use Rattle.std.proofs.lemmas.List.Edits.{sets-eq}
-use Rattle.bytes.specs.Laws.{sets_next}
+use Rattle.byte_writes.specs.Laws.{sets_next}
 use Rattle.figures.specs.Figure.{in_size}
 use Rattle.codes.specs.Refusal.{test, refusal_of}
 use Rattle.decimal.specs.Decimal.{decimal_rounded}

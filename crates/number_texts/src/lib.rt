@@ -1,5 +1,7 @@
 // The number texts of a panel and a log, in lent bytes: the texts of the Rust's `at` and `khz`, and whole hertz. Digits are made in
 // whole numbers alone, three at a time. It uses figures, decimal and digit_groups; its definitions use codes, its laws bytes.
+#![tactic(auto)]
+
 ghost use Rattle.std.specs.Prelude.{◌≡◌, ◌+◌, ◌≤◌, ◌<◌, ◌^◌, length};
 ghost use Rattle.std.proofs.lemmas.List.Edits.{sets};
 ghost use Rattle.decimal.specs.Within.{Within};
@@ -13,7 +15,7 @@ use digit_groups::Group;
 pub const LIMIT: f64 = 8796093022208.0;
 
 // A text's answer: its length, or the refusal's number.
-#[derive(Drop)]
+#[derive(Clone, Copy)]
 pub enum TextAnswer {
     Length(u32),
     Refused(u8),

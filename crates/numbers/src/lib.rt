@@ -1,4 +1,6 @@
 // The numbers of an answer's cases, as the boundary hands them out. It uses codes and decision.
+#![tactic(auto)]
+
 ghost use Rattle.std.specs.Prelude.{◌≡◌};
 ghost use Rattle.decision.specs.Number.{verdict_number, code_number, edge_number, overshoot_number, guidance_number};
 ghost use Rattle.numbers.specs.Refusal.{refusal_number};

@@ -1,12 +1,14 @@
 // The Rust's occupancy.rs: the edges of a signal, measured elsewhere, and the readings of 97.3(a)(8).
 // It uses figures and profile.
+#![tactic(auto)]
+
 ghost use Rattle.std.specs.Prelude.{◌≡◌};
 ghost use Rattle.occupancy.specs.Edges.{hull_of, range_of, union_of};
 
 use profile::Range;
 
 // Which reading of 97.3(a)(8) turns a spectrum into a bandwidth.
-#[derive(Drop)]
+#[derive(Clone, Copy)]
 pub enum Reading {
     Power,
     Spectral,
@@ -14,7 +16,7 @@ pub enum Reading {
 }
 
 // The audio a transmission occupies, hertz, under both readings.
-#[derive(Drop)]
+#[derive(Clone, Copy)]
 pub struct Edges {
     // All but 1/398 of the power.
     pub power: Range,

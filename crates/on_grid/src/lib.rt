@@ -1,5 +1,7 @@
 // Whether hertz figures are in eighths and at most 2^38 in size, one by one and of a whole table, edges or margins. It uses figures, decimal,
 // layout, occupancy, profile and air; its definitions use eighths, scan and table.
+#![tactic(auto)]
+
 ghost use Rattle.std.specs.Prelude.{◌≡◌, eqb, ◌<◌, ◌%◌, ◌^◌};
 ghost use Rattle.decimal.specs.Within.{Within};
 ghost use Rattle.eighths.specs.Grid.{in_eighths};

@@ -1,5 +1,7 @@
 // How far data lies outside a data segment (97.305(c)): the nearest segment, and the overshoot. It uses figures, profile,
 // layout, table, decision and part97.
+#![tactic(auto)]
+
 ghost use Rattle.std.specs.Prelude.{◌≡◌};
 ghost use Rattle.layout.specs.Layout.{count_of, segments};
 ghost use Rattle.layout.specs.Form.{Whole};

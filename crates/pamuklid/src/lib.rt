@@ -1,5 +1,7 @@
 // The boundary to C: the public calls, exported, with flat structs of numbers. It uses station, image, fault, tidy, numbers, verdict,
 // ceiling, dials, report, census, distance, number_texts, airtime, writer, convert, amend, walk and flat.
+#![tactic(auto)]
+
 ghost use Rattle.std.specs.Prelude.{◌≡◌};
 ghost use Rattle.image.specs.Check.{check_of};
 ghost use Rattle.fault.specs.Fault.{fault_of};

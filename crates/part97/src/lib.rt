@@ -1,13 +1,15 @@
 // 47 CFR Part 97 as a definition: specs/Part97.antt says what the gate answers for a transmission, over what an accepted
 // table says. No code; the structs are what every judgement works from and what it finds. It uses figures, codes, profile,
 // air, table, find, decision, station and automatic_97_221.
+#![tactic(auto)]
+
 use codes::{Direction, EmissionKind, LicenseClass, Sideband};
 use decision::{BandNumber, Code, JudgedSegment, MaybeRange, Overshoot, SixtyNotes, Verdict};
 use profile::Range;
 use station::Figure;
 
 // The facts every judgement works from, once the prerequisites are met.
-#[derive(Drop)]
+#[derive(Clone, Copy)]
 pub struct Case {
     pub class: LicenseClass,
     pub sideband: Sideband,
@@ -30,7 +32,7 @@ pub struct Case {
 }
 
 // What the first privilege of the operator's class that holds a signal says of an emission.
-#[derive(Drop)]
+#[derive(Clone, Copy)]
 pub enum Privileged {
     Granted,
     Forbidden,
@@ -38,7 +40,7 @@ pub enum Privileged {
 }
 
 // The nearest data segment so far, with its overshoot.
-#[derive(Drop)]
+#[derive(Clone, Copy)]
 pub enum Nearest {
     Near(usize, f64),
     NoneNear,
@@ -46,7 +48,7 @@ pub enum Nearest {
 
 // What judging finds: all of a decision that does not stand in the case. Where the operator is to be told of power limits and
 // the plan, `over` has the range that they are asked over; they then settle the verdict.
-#[derive(Drop)]
+#[derive(Clone, Copy)]
 pub struct Finding {
     pub band: BandNumber,
     pub segment: JudgedSegment,

@@ -2,6 +2,8 @@
 // segment lies in a band. A plain figure has its sign clear and bits of at most those of 2^40, so that figures compare as their
 // bits do. A table that is not plain may be right all the same; the image check then asks test by test. It uses codes, scan,
 // layout and coded; its laws use figures, bit_order, profile, table and find.
+#![tactic(auto)]
+
 ghost use Rattle.std.specs.Prelude.{◌+◌, ◌*◌, ◌≤◌, ◌<◌, ◌≡◌, false, length};
 ghost use Rattle.scan.specs.First.{first, some, is_at};
 ghost use Rattle.layout.specs.Layout.{record_at, count_of};

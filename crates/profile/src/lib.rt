@@ -1,5 +1,7 @@
 // The Rust's profile.rs: ranges, a segment's data limit, and the lists of emissions and classes.
 // It uses figures and codes.
+#![tactic(auto)]
+
 ghost use Rattle.std.specs.Prelude.{◌≡◌};
 ghost use Rattle.profile.specs.Range.{holds_of, overlaps_of, lengthy, intersect_of, share_of, channel_range_of};
 ghost use Rattle.profile.specs.Limit.{data_limit_of, allows_of, meant_of};
@@ -7,42 +9,42 @@ ghost use Rattle.profile.specs.Limit.{data_limit_of, allows_of, meant_of};
 use codes::{EmissionKind, LicenseClass};
 
 // A frequency range, hertz, both ends inclusive.
-#[derive(Drop)]
+#[derive(Clone, Copy)]
 pub struct Range {
     pub low_hz: f64,
     pub high_hz: f64,
 }
 
 // What two ranges have in common.
-#[derive(Drop)]
+#[derive(Clone, Copy)]
 pub enum Shared {
     Stretch(Range),
     Nothing,
 }
 
 // The widest data emission allowed, and the rule that says so.
-#[derive(Drop)]
+#[derive(Clone, Copy)]
 pub struct DataLimit {
     pub max_bandwidth_hz: f64,
     pub rule: u16,
 }
 
 // A segment's own limit, where it has one.
-#[derive(Drop)]
+#[derive(Clone, Copy)]
 pub enum OwnLimit {
     Own(f64),
     General,
 }
 
 // A rule that a record may name.
-#[derive(Drop)]
+#[derive(Clone, Copy)]
 pub enum RuleName {
     Named(u16),
     Unnamed,
 }
 
 // A list of emissions or of classes, by its bits, where there is one.
-#[derive(Drop)]
+#[derive(Clone, Copy)]
 pub enum Listed {
     Only(u8),
     Every,

@@ -1,6 +1,8 @@
 // The trustee's table report: the pairs of bands, of data segments and of privileges of one class that share a stretch, and the stretches
 // of the data segments that no privilege of a class covers, as rows in lent bytes. A public call. It uses codes, profile, layout, table,
 // image, sweep, bytes and report_rows; its laws use lists and order.
+#![tactic(auto)]
+
 ghost use Rattle.std.specs.Prelude.{◌≡◌, ◌++◌, map, ◌+◌, ◌*◌, ◌-◌, ◌≤◌, ◌<◌, length, drop};
 ghost use Rattle.lists.specs.Pour.{Poured};
 ghost use Rattle.layout.specs.Form.{Whole};
@@ -19,7 +21,7 @@ use report_rows::ReportRow;
 use sweep::{Members, Ranges, Swept};
 
 // A report of so many rows, or the number of the refusal.
-#[derive(Drop)]
+#[derive(Clone, Copy)]
 pub enum TableReport {
     Rows(usize),
     Refused(u8),
@@ -186,7 +188,7 @@ fn settle(image: &[u8], rows: &mut [u8], class: u8, own: &[u8], count: usize)
 {
     let room = count * report_rows::ROW_SIZE;
     if room <= own.len() {
-        bytes::copy(rows, own, room);
+        byte_writes::copy(rows, own, room);
         return;
     }
     gather(image, rows, class);

@@ -3,8 +3,8 @@ use Rattle.std.specs.Prelude.{ℕ, suc, ◌+◌, ◌*◌, ◌-◌, ◌/◌, ◌�
 use Rattle.std.proofs.Common.{append_assoc, sym, ap, ◌∙◌, arith, length-append, length-drop, drop-drop, drop_at, take_at, lt-ltb}
 use Rattle.std.proofs.lemmas.List.Edits.{sets, sets-eq}
 use Rattle.std.proofs.Math.Seq.{drop-append-add}
-use Rattle.bytes.specs.Bytes.{little, figure_bytes}
-use Rattle.bytes.specs.Laws.{eight, length_little, sets_next}
+use Rattle.byte_writes.specs.Bytes.{little, figure_bytes}
+use Rattle.byte_writes.specs.Laws.{eight, length_little, sets_next}
 use Rattle.lists.specs.Pour.{pour}
 use Rattle.report_rows.specs.Rows.{row_size, stretch_bytes, mark_bytes, encode_row, encode_all, offer_at}
 use Rattle.report_rows.specs.declared.ReportRow.{ReportRow}

@@ -2,7 +2,7 @@
 -- the class byte (0 where none), u16 first and second index (a gap gives its segment twice), two zero bytes."
 use Rattle.std.specs.Prelude.{ℕ, ◌*◌, ◌/◌, cond, List, [], ◌∷◌, ◌++◌, ltb, length}
 use Rattle.std.proofs.lemmas.List.Edits.{sets}
-use Rattle.bytes.specs.Bytes.{little, figure_bytes}
+use Rattle.byte_writes.specs.Bytes.{little, figure_bytes}
 use Rattle.report_rows.specs.declared.ReportRow.{ReportRow}
 
 abbrev pub row_size : ℕ

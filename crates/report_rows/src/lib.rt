@@ -1,5 +1,7 @@
 // Rows of a table report in lent bytes: 24 bytes a row, one behind the other. Every offset of a row stands here. It uses profile and
 // bytes; its laws use lists.
+#![tactic(auto)]
+
 ghost use Rattle.std.specs.Prelude.{◌≡◌, ◌+◌, ◌≤◌, length};
 ghost use Rattle.std.proofs.lemmas.List.Edits.{sets};
 ghost use Rattle.report_rows.specs.Rows.{stretch_bytes, mark_bytes, encode_row, offer_at};
@@ -9,7 +11,7 @@ use profile::Range;
 pub const ROW_SIZE: usize = 24;
 
 // A stretch, what it is, its class, and the indices of the two records that share it; of a gap its segment's, twice.
-#[derive(Drop)]
+#[derive(Clone, Copy)]
 pub struct ReportRow {
     pub stretch: Range,
     pub kind: u8,
@@ -23,8 +25,8 @@ fn put_stretch(rows: &mut [u8], at: usize, x: ReportRow)
     requires { at + 16 ≤ length rows.old }
     ensures { rows.new ≡ sets rows.old at (stretch_bytes x) }
 {
-    bytes::put_figure(rows, at, x.stretch.low_hz);
-    bytes::put_figure(rows, at + 8, x.stretch.high_hz);
+    byte_writes::put_figure(rows, at, x.stretch.low_hz);
+    byte_writes::put_figure(rows, at + 8, x.stretch.high_hz);
 }
 
 // Its kind, class and indices, and the two zero bytes.
@@ -32,11 +34,11 @@ fn put_marks(rows: &mut [u8], at: usize, x: ReportRow)
     requires { at + 8 ≤ length rows.old }
     ensures { rows.new ≡ sets rows.old at (mark_bytes x) }
 {
-    bytes::put(rows, at, 1, x.kind as u64);
-    bytes::put(rows, at + 1, 1, x.class as u64);
-    bytes::put(rows, at + 2, 2, x.first as u64);
-    bytes::put(rows, at + 4, 2, x.second as u64);
-    bytes::put(rows, at + 6, 2, 0);
+    byte_writes::put(rows, at, 1, x.kind as u64);
+    byte_writes::put(rows, at + 1, 1, x.class as u64);
+    byte_writes::put(rows, at + 2, 2, x.first as u64);
+    byte_writes::put(rows, at + 4, 2, x.second as u64);
+    byte_writes::put(rows, at + 6, 2, 0);
 }
 
 // A row, in the 24 bytes from at on.

@@ -9,8 +9,8 @@ use Rattle.std.specs.Float.Ieee.{fits, is_nan, to_bits}
 use Rattle.std.specs.Float.Ieee.Bits.{of_bits-to_bits, to_bits-lt}
 use Rattle.figures.specs.Figure.{total_less, figure_of}
 use Rattle.layout.specs.Bytes.{u64_at}
-use Rattle.bytes.specs.Bytes.{figure_bytes, little}
-use Rattle.bytes.specs.Laws.{eight, figure_after, u64_drop}
+use Rattle.byte_writes.specs.Bytes.{figure_bytes, little}
+use Rattle.byte_writes.specs.Laws.{eight, figure_after, u64_drop}
 use Rattle.lists.specs.Laws.{Every}
 use Rattle.rows.specs.Rows.{row_size, insert_row, insert_all, sorted, figures_of, encode_row, encode_all, low_at}
 use Rattle.lists.specs.Pour as offered

@@ -9,8 +9,8 @@ use Rattle.std.specs.Float.{binary64}
 use Rattle.std.specs.Float.Ieee.{fits}
 use Rattle.figures.specs.Figure.{figure_of}
 use Rattle.layout.specs.Bytes.{u16_at, u64_at}
-use Rattle.bytes.specs.Bytes.{figure_bytes, little}
-use Rattle.bytes.specs.Laws.{eight, figure_after, u16_drop, u64_drop}
+use Rattle.byte_writes.specs.Bytes.{figure_bytes, little}
+use Rattle.byte_writes.specs.Laws.{eight, figure_after, u16_drop, u64_drop}
 use Rattle.lists.specs.Laws.{Every}
 use Rattle.rows.specs.Rows.{row_size, encode_row, encode_all, low_at, high_at, row_band, row_at}
 use Rattle.rows.specs.Turns.{length_row}

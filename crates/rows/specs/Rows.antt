@@ -4,7 +4,7 @@ use Rattle.std.specs.Prelude.{ℕ, zero, suc, ◌+◌, cond, List, [], ◌∷◌
 use Rattle.figures.specs.Figure.{total_less, figure_of}
 use Rattle.profile.specs.Range.{range}
 use Rattle.layout.specs.Bytes.{byte_at, u16_at, u64_at}
-use Rattle.bytes.specs.Bytes.{little, figure_bytes}
+use Rattle.byte_writes.specs.Bytes.{little, figure_bytes}
 use Rattle.rows.specs.declared.SafeDial.{SafeDial}
 
 abbrev pub row_size : ℕ

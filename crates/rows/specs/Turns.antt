@@ -8,8 +8,8 @@ use Rattle.std.proofs.lemmas.List.{set_comm}
 use Rattle.std.specs.Float.Ieee.{lt}
 use Rattle.figures.specs.Figure.{total_less}
 use Rattle.layout.specs.Bytes.{u16_at, u32_at, u64_at}
-use Rattle.bytes.specs.Bytes.{figure_bytes, little}
-use Rattle.bytes.specs.Laws.{length_little, sets_next}
+use Rattle.byte_writes.specs.Bytes.{figure_bytes, little}
+use Rattle.byte_writes.specs.Laws.{length_little, sets_next}
 use Rattle.rows.specs.Rows.{row_size, figures_of, encode_row, low_at}
 use Rattle.order.specs.Total.{above_not_less}
 use Rattle.rows.specs.declared.SafeDial.{SafeDial}

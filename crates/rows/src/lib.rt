@@ -1,5 +1,7 @@
 // Rows of a dial list in lent bytes: 36 bytes a row, in a stable order by lower dial. Every offset of a row stands here.
 // It uses figures, profile, layout and bytes; its laws use lists and order.
+#![tactic(auto)]
+
 ghost use Rattle.std.specs.Prelude.{◌≡◌, ◌+◌, ◌*◌, ◌-◌, ◌≤◌, ◌<◌, length, take, drop};
 ghost use Rattle.std.proofs.lemmas.List.Edits.{sets};
 ghost use Rattle.rows.specs.Rows.{figures_of, encode_row, low_at, high_at, row_band};
@@ -10,7 +12,7 @@ use profile::Range;
 pub const ROW_SIZE: usize = 36;
 
 // A range of dials, and the range on the air that it keeps to.
-#[derive(Drop)]
+#[derive(Clone, Copy)]
 pub struct SafeDial {
     pub band: u8,
     pub segment: Range,
@@ -24,10 +26,10 @@ fn put_figures(rows: &mut [u8], at: usize, row: SafeDial)
     requires { at + 36 ≤ length rows.old }
     ensures { rows.new ≡ sets rows.old at (figures_of row) }
 {
-    bytes::put_figure(rows, at, row.segment.low_hz);
-    bytes::put_figure(rows, at + 8, row.segment.high_hz);
-    bytes::put_figure(rows, at + 16, row.dial_low_hz);
-    bytes::put_figure(rows, at + 24, row.dial_high_hz);
+    byte_writes::put_figure(rows, at, row.segment.low_hz);
+    byte_writes::put_figure(rows, at + 8, row.segment.high_hz);
+    byte_writes::put_figure(rows, at + 16, row.dial_low_hz);
+    byte_writes::put_figure(rows, at + 24, row.dial_high_hz);
 }
 
 // A row, in the 36 bytes from at on.
@@ -38,7 +40,7 @@ fn put_row(rows: &mut [u8], at: usize, row: SafeDial)
     put_figures(rows, at, row);
     rows[at + 32] = row.band;
     rows[at + 33] = 0;
-    bytes::put(rows, at + 34, 2, row.rule as u64);
+    byte_writes::put(rows, at + 34, 2, row.rule as u64);
 }
 
 // The lower dial, the upper dial and the band of the row that begins at a place.

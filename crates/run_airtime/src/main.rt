@@ -1,6 +1,8 @@
 // A program of the gate: it asks for the totals of the runs that its input lists or makes, and writes what each call answers and every
 // total that was lent. Input and output come from tools/reference/airtime.py, which says what the bytes mean. It stops at input that is
 // malformed. It uses layout and airtime.
+#![tactic(auto)]
+
 ghost use Rattle.std.specs.Prelude.{◌+◌, ◌*◌, ◌<◌, ◌≤◌, length};
 
 use airtime::Airtime;

@@ -1,6 +1,8 @@
 // A program of the gate: it amends the images that its input describes, and writes what the call answers and every byte that was lent, or two
 // sums of them where they are many. Input and output come from tools/reference/amend.py, which says what the bytes mean. It stops at input that
 // is malformed. It uses layout, amend and told.
+#![tactic(auto)]
+
 
 // The most bytes lent, and what they hold before.
 const ROOM: usize = 65600;
@@ -11,7 +13,7 @@ const FILL: u8 = 0xa5;
 const HEAD: usize = 20;
 
 // Where the input goes on, or that it is malformed.
-#[derive(Drop)]
+#[derive(Clone, Copy)]
 enum Next {
     At(usize),
     Malformed,

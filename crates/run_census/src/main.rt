@@ -1,6 +1,8 @@
 // A program of the gate: it takes the censuses that its input describes, and writes the refusal and the counts of each. Input and output
 // come from tools/reference/census.py, which says what the bytes mean. It stops at input that is malformed. It uses
 // layout, numbers, census and asked.
+#![tactic(auto)]
+
 ghost use Rattle.std.specs.Prelude.{◌+◌, ◌≤◌, length};
 
 use census::Census;

@@ -2,6 +2,8 @@
 // that was lent, or two sums of them where they are many. Input and output come from tools/reference/editions.py, which says what the bytes
 // mean. It stops at input that is malformed. It uses figures, layout, given, writer,
 // convert and told.
+#![tactic(auto)]
+
 ghost use Rattle.std.specs.Prelude.{◌+◌, ◌≤◌, length};
 
 use given::Fields;
@@ -20,7 +22,7 @@ const RULES: usize = 4096;
 const HEAD: usize = 100;
 
 // Where the input goes on, or that it is malformed.
-#[derive(Drop)]
+#[derive(Clone, Copy)]
 enum Next {
     At(usize),
     Malformed,

@@ -2,6 +2,8 @@
 // own margins and region, with those of a caller that passes 0 and 0 itself, and with two margins that differ. The practice table's image
 // is on standard input; what it must write, the file `stdout` beside src/, is from tools/reference/fresh.py. It uses air, bytes, profile,
 // occupancy, station, verdict, dials and numbers.
+#![tactic(auto)]
+
 use air::Margins;
 use dials::DialList;
 use occupancy::Edges;
@@ -40,10 +42,10 @@ fn record(s: StationRecord) {
     number(b"plan", s.band_plan as u64);
     number(b"dial known", s.dial_known as u64);
     number(b"power known", s.power_known as u64);
-    number(b"lower margin", bytes::bits(s.margin.lower_hz));
-    number(b"upper margin", bytes::bits(s.margin.upper_hz));
-    number(b"dial", bytes::bits(s.dial_hz));
-    number(b"power", bytes::bits(s.power_w));
+    number(b"lower margin", byte_writes::bits(s.margin.lower_hz));
+    number(b"upper margin", byte_writes::bits(s.margin.upper_hz));
+    number(b"dial", byte_writes::bits(s.dial_hz));
+    number(b"power", byte_writes::bits(s.power_w));
 }
 
 // A fresh record with a region and margins.

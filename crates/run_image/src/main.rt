@@ -1,6 +1,8 @@
 // A program of the gate: it builds the images that its input describes and writes what the check and the tidy question
 // answer of each, and where the table is wrong. Input and output come from tools/reference/borders.py, which says what
 // the bytes mean. It stops at input that is malformed. It uses codes, layout, image, tidy and fault.
+#![tactic(auto)]
+
 use codes::Checked;
 use fault::Fault;
 use tidy::Tidiness;
@@ -9,7 +11,7 @@ use tidy::Tidiness;
 const LARGEST: usize = 65600;
 
 // Where the input goes on, or that it is malformed.
-#[derive(Drop)]
+#[derive(Clone, Copy)]
 enum Next {
     At(usize),
     Malformed,

@@ -1,5 +1,7 @@
 // A program of the gate: it asks for the nearest dial in the cases that its input describes, and writes each answer. Input and output come from
 // tools/reference/nearest.py, which says what the bytes mean. It stops at input that is malformed. It uses layout, nearest and asked.
+#![tactic(auto)]
+
 ghost use Rattle.std.specs.Prelude.{◌+◌, ◌≤◌, length};
 
 use nearest::Nearest;

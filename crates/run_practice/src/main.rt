@@ -1,6 +1,8 @@
 // Runs the unstarred cases of document 01's practice table, whose image is on standard input: verdict and code on 60 m for
 // a test emission, at 100 W and at 100.125 W, and the ceiling of no rungs. It uses air, profile,
 // occupancy, station, verdict, ceiling and numbers.
+#![tactic(auto)]
+
 use air::Margins;
 use ceiling::Rung;
 use occupancy::Edges;

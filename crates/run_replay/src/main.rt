@@ -4,6 +4,8 @@
 // those on 60 m that document 02, 4 changed, refusals, distances and the parts that the Rust has only as words as the papers give
 // them. compare/src/replay.rs says what the bytes mean, and makes sure that every code and every refusal of each call is there. It uses figures, layout,
 // flat and pamuklid.
+#![tactic(auto)]
+
 use flat::{FlatCeiling, FlatDecision, FlatEdges, FlatStation};
 use flat_answers::{FlatDistance, FlatText};
 
@@ -22,7 +24,7 @@ const FILL: u8 = 0xa5;
 const ROOM: usize = 24;
 
 // What a case says: whether it agrees, and where the input goes on; or that it is malformed.
-#[derive(Drop)]
+#[derive(Clone, Copy)]
 enum Told {
     Agrees(usize),
     Differs(usize),
@@ -543,7 +545,7 @@ fn report(page: u32, k: u32, call: u8) {
 }
 
 // The cases on an image: how many, how many of them differ, and whether they were well formed.
-#[derive(Drop)]
+#[derive(Clone, Copy)]
 struct Tally {
     cases: u32,
     wrong: u32,
@@ -602,7 +604,7 @@ fn page(s: &[u8], number: u32) -> Tally {
 }
 
 // The number of four bytes of the input, or that it has ended.
-#[derive(Drop)]
+#[derive(Clone, Copy)]
 enum Size {
     Is(u32),
     Ended,

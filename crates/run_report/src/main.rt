@@ -1,6 +1,8 @@
 // A program of the gate: it asks for the table reports that its input describes, and writes what each call answers and every byte that
 // was lent. Input and output come from tools/reference/report.py, which says what the bytes mean. It stops at input that is malformed.
 // It uses layout and report.
+#![tactic(auto)]
+
 use report::TableReport;
 
 // The bytes of a question.
@@ -12,7 +14,7 @@ const ROOM: usize = 2048;
 const FILL: u8 = 0xa5;
 
 // Where the input goes on, or that it is malformed.
-#[derive(Drop)]
+#[derive(Clone, Copy)]
 enum Next {
     At(usize),
     Malformed,

@@ -1,6 +1,8 @@
 // A program of the gate: it reads the station records that its input describes and writes the refusal of each, or what
 // it is read as. Input and output come from tools/reference/borders.py, which says what the bytes mean. It stops at
 // input that is malformed. It uses figures, codes, air, layout and station.
+#![tactic(auto)]
+
 ghost use Rattle.std.specs.Prelude.{◌+◌, ◌≤◌, length};
 
 use air::Margins;

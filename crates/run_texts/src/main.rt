@@ -1,6 +1,8 @@
 // A program of the gate: it asks for the number texts that its input describes, and writes what each call answers and every byte that
 // was lent. Input and output come from tools/reference/texts.py, which says what the bytes mean. It stops at input that is malformed.
 // It uses figures, layout, flat and pamuklid.
+#![tactic(auto)]
+
 use flat_answers::FlatText;
 
 // The size of a case.

@@ -1,6 +1,8 @@
 // A program of the gate: it makes the calls that its input describes, of walks and swaps, and writes the answer and the state of each.
 // Input and output come from tools/reference/walk.py, which says what the bytes mean. What is not in its input reads as nought. It uses
 // figures, profile, occupancy, air, station, layout, numbers, ceiling and walk.
+#![tactic(auto)]
+
 ghost use Rattle.std.specs.Prelude.{◌≤◌};
 
 use air::Margins;

@@ -1,5 +1,7 @@
 // The rungs that a ceiling is asked for, as they are lent: a run of figures, four a rung, with a floor byte each; the edges of a rung with its
 // control frame, and what refuses a call. It uses figures, codes, profile, occupancy, station, layout and entry; its definitions use scan too.
+#![tactic(auto)]
+
 ghost use Rattle.std.specs.Prelude.{◌+◌, ◌*◌, ◌<◌, ◌≡◌, length};
 ghost use Rattle.codes.specs.Refusal.{refusal_of};
 ghost use Rattle.rungs.specs.Rungs.{figure_at, rung_of, control_edges, burst_of, any_unsized, any_unmarked, bad_edges, bad_rungs, ceiling_tests};

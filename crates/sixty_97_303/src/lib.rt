@@ -1,6 +1,8 @@
 // The 60 m band: its discrete channels, its segment, and the emissions allowed there (97.303(h)(3), 97.305(c),
 // 97.307(f)(14), 97.313(i)). It uses figures, codes, profile, station, layout, table, find, decision, part97,
 // advice_97_313, findings and privileges_97_301.
+#![tactic(auto)]
+
 ghost use Rattle.std.specs.Prelude.{◌≡◌, ◌&&◌, ℕ, List};
 ghost use Rattle.std.specs.Float.Ieee.{lt};
 ghost use Rattle.layout.specs.Form.{Whole};

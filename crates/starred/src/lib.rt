@@ -1,1 +1,3 @@
 // The starred cases of document 01's practice table. No code.
+#![tactic(auto)]
+

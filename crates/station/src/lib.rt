@@ -1,5 +1,7 @@
 // The station record: as it arrives, its refusals 20 to 22, and as it is read. The fresh record is a public call.
 // It uses figures, codes and air.
+#![tactic(auto)]
+
 ghost use Rattle.std.specs.Prelude.{◌≡◌};
 ghost use Rattle.codes.specs.Refusal.{refusal_of};
 ghost use Rattle.codes.specs.Read.{control_valid, license_valid, sideband_valid};
@@ -10,7 +12,7 @@ use air::Margins;
 use codes::{Checked, Control, License, Policy, SidebandSet};
 
 // The record as it arrives: document 01's numbers, and figures whatever they are.
-#[derive(Drop)]
+#[derive(Clone, Copy)]
 pub struct StationRecord {
     pub policy: u8,
     pub control: u8,
@@ -26,14 +28,14 @@ pub struct StationRecord {
 }
 
 // A figure that may be absent.
-#[derive(Drop)]
+#[derive(Clone, Copy)]
 pub enum Figure {
     Known(f64),
     Absent,
 }
 
 // The record as it is read.
-#[derive(Drop)]
+#[derive(Clone, Copy)]
 pub struct Situation {
     pub policy: Policy,
     pub control: Control,

@@ -1,6 +1,8 @@
 // The ranges of one table against a window: the first record from an index on that shares a stretch of positive length with it, for
 // whichever table and class it is given. The overlaps and the gaps of a table report both go by it. It uses profile, layout and
 // table; its laws use apart and lists.
+#![tactic(auto)]
+
 ghost use Rattle.std.specs.Prelude.{◌≡◌, ◌<◌};
 ghost use Rattle.layout.specs.Form.{Whole};
 ghost use Rattle.table.specs.Table.{table_of};
@@ -10,7 +12,7 @@ use layout::Record;
 use profile::{Range, Shared};
 
 // One table of an image: its number, where its records begin, and how many it has.
-#[derive(Drop)]
+#[derive(Clone, Copy)]
 pub struct Ranges {
     pub table: usize,
     pub start: usize,
@@ -18,14 +20,14 @@ pub struct Ranges {
 }
 
 // The records of a table that count: all, or those of a licence class.
-#[derive(Drop)]
+#[derive(Clone, Copy)]
 pub enum Members {
     All,
     OfClass(u8),
 }
 
 // The record that shares a stretch with the window, and the stretch; or none.
-#[derive(Drop)]
+#[derive(Clone, Copy)]
 pub enum Swept {
     Shares(usize, Range),
     NoMore,

@@ -1,5 +1,7 @@
 // What an accepted image says: one function for each part, from its record or the general block. It uses figures, codes,
 // profile, occupancy and layout.
+#![tactic(auto)]
+
 ghost use Rattle.std.specs.Prelude.{◌≡◌, ◌+◌, ◌*◌, ◌≤◌, ◌<◌, length};
 ghost use Rattle.layout.specs.Layout.{count_of};
 ghost use Rattle.layout.specs.Form.{Whole};
@@ -14,14 +16,14 @@ use occupancy::Reading;
 use profile::{DataLimit, Listed, OwnLimit, Range, RuleName};
 
 // A band, for naming a frequency.
-#[derive(Drop)]
+#[derive(Clone, Copy)]
 pub struct Band {
     pub range: Range,
     pub band: u8,
 }
 
 // A segment where data emissions are authorized (97.305(c)).
-#[derive(Drop)]
+#[derive(Clone, Copy)]
 pub struct Segment {
     pub range: Range,
     pub band: u8,
@@ -31,7 +33,7 @@ pub struct Segment {
 }
 
 // A privilege of a licence class (97.301), with the emissions it allows when they are fewer than the segments'.
-#[derive(Drop)]
+#[derive(Clone, Copy)]
 pub struct Privilege {
     pub range: Range,
     pub class: u8,
@@ -40,14 +42,14 @@ pub struct Privilege {
 }
 
 // A band where automatic control is not allowed.
-#[derive(Drop)]
+#[derive(Clone, Copy)]
 pub struct Excluded {
     pub band: u8,
     pub rule: u16,
 }
 
 // A power limit, for a reminder.
-#[derive(Drop)]
+#[derive(Clone, Copy)]
 pub struct PowerLimit {
     pub range: Range,
     pub max_w: f64,
@@ -56,28 +58,28 @@ pub struct PowerLimit {
 }
 
 // A voluntary band-plan area.
-#[derive(Drop)]
+#[derive(Clone, Copy)]
 pub struct PlanArea {
     pub range: Range,
     pub label: u16,
 }
 
 // Automatic control outside the designated segments (97.221(c)).
-#[derive(Drop)]
+#[derive(Clone, Copy)]
 pub struct Elsewhere {
     pub max_bandwidth_hz: f64,
     pub requires_response: bool,
     pub rule: u16,
 }
 
-#[derive(Drop)]
+#[derive(Clone, Copy)]
 pub enum ElsewhereRule {
     Under(Elsewhere),
     Nowhere,
 }
 
 // The 60 m discrete channels (97.303(h)(3)).
-#[derive(Drop)]
+#[derive(Clone, Copy)]
 pub struct Channels {
     pub band: u8,
     pub rule: u16,
@@ -87,14 +89,14 @@ pub struct Channels {
     pub sideband: Sideband,
 }
 
-#[derive(Drop)]
+#[derive(Clone, Copy)]
 pub enum ChannelBand {
     On(Channels),
     NoChannels,
 }
 
 // The emissions allowed on 60 m, by their bits, with the rule.
-#[derive(Drop)]
+#[derive(Clone, Copy)]
 pub enum SixtyEmissions {
     Allowed(u8, u16),
     AnyEmission,

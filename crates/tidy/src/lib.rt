@@ -1,4 +1,6 @@
 // The tidy question on an image. A public call. It uses codes, scan, layout, table, find and image.
+#![tactic(auto)]
+
 ghost use Rattle.std.specs.Prelude.{◌≡◌, ◌<◌};
 ghost use Rattle.layout.specs.Form.{Whole};
 ghost use Rattle.table.specs.Table.{table_of};
@@ -9,7 +11,7 @@ use find::Question;
 use layout::Record;
 use scan::Found;
 
-#[derive(Drop)]
+#[derive(Clone, Copy)]
 pub enum Tidiness {
     Tidy,
     Untidy,

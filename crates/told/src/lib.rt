@@ -1,5 +1,7 @@
 // What a program of the gate writes of a call that was lent bytes for an image: the answer, and every byte, or two sums of them where they are
 // many. It uses writer.
+#![tactic(auto)]
+
 ghost use Rattle.std.specs.Prelude.{◌≤◌};
 
 use writer::ImageAnswer;

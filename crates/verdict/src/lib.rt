@@ -1,5 +1,7 @@
 // The verdict: `evaluate` and `unmeasured`, public calls. It uses figures, codes, profile, occupancy, air, station, layout,
 // table, entry, decision, part97, automatic_97_221 and judge.
+#![tactic(auto)]
+
 ghost use Rattle.std.specs.Prelude.{◌≡◌};
 ghost use Rattle.codes.specs.Refusal.{refusal_of};
 ghost use Rattle.layout.specs.Form.{Whole};
@@ -20,7 +22,7 @@ use profile::Range;
 use station::{Figure, Situation, StationRecord};
 
 // What the prerequisites leave: a case to judge, or what is missing, as a reason and its rule.
-#[derive(Drop)]
+#[derive(Clone, Copy)]
 pub enum Ready {
     Met(Case),
     Missing(Code, u16),

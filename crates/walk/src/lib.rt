@@ -1,5 +1,7 @@
 // Where a station stands in a rung walk, under one of two tables: the first state, a swap of the tables, and the opening of a walk (walk_step has
 // its steps). Public calls. The state goes in and comes back by value. It uses codes, occupancy, profile and entry; its definitions use figures.
+#![tactic(auto)]
+
 ghost use Rattle.std.specs.Prelude.{◌≡◌};
 ghost use Rattle.walk.specs.Walk.{no_edges, resting, first_state, other_image, state_valid, swap_of, open_of, occupied_read};
 
@@ -8,7 +10,7 @@ use occupancy::Edges;
 use profile::Range;
 
 // Where a station stands between two calls.
-#[derive(Drop)]
+#[derive(Clone, Copy)]
 pub struct WalkState {
     // What the rungs judged so far occupy, with their control frames.
     pub occupied: Edges,
@@ -22,7 +24,7 @@ pub struct WalkState {
 }
 
 // The answer of a swap and of an opening.
-#[derive(Drop)]
+#[derive(Clone, Copy)]
 pub struct WalkAnswer {
     pub refusal: Checked,
     pub state: WalkState,

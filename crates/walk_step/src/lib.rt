@@ -1,5 +1,7 @@
 // A step of a rung walk: the ceiling's climb, a rung a step, under the one of two tables that was in force as the walk began. A public call.
 // It uses codes, occupancy, station, entry, decision, part97, ceiling and walk; its definitions use table.
+#![tactic(auto)]
+
 ghost use Rattle.std.specs.Prelude.{◌/◌, ◌<◌, ◌≡◌, length};
 ghost use Rattle.codes.specs.declared.Policy.TheVariants.{Rules};
 ghost use Rattle.layout.specs.Form.{Whole};
@@ -15,7 +17,7 @@ use station::{Situation, StationRecord};
 use walk::WalkState;
 
 // The answer of a step: the ceiling of the rungs judged so far, and whether the walk is over.
-#[derive(Drop)]
+#[derive(Clone, Copy)]
 pub struct StepAnswer {
     pub state: WalkState,
     pub over: bool,

@@ -5,7 +5,7 @@ use Rattle.layout.specs.Form.{letters}
 use Rattle.layout.specs.declared.Record.{Record}
 use Rattle.layout.specs.declared.General.{General}
 use Rattle.lists.specs.Each.{each}
-use Rattle.bytes.specs.Bytes.{little}
+use Rattle.byte_writes.specs.Bytes.{little}
 use Rattle.given.specs.Given.{Runs, count_from, before_from, record_from}
 
 -- numbers one after the other, each in its width of bytes

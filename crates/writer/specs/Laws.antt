@@ -17,8 +17,8 @@ use Rattle.layout.specs.Layout.{general_size, trailer_size, tables}
 use Rattle.layout.specs.declared.Record.{Record}
 use Rattle.layout.specs.declared.General.{General}
 use Rattle.lists.specs.Each.{each}
-use Rattle.bytes.specs.Bytes.{little}
-use Rattle.bytes.specs.Laws.{length_little, sets_next}
+use Rattle.byte_writes.specs.Bytes.{little}
+use Rattle.byte_writes.specs.Laws.{length_little, sets_next}
 use Rattle.given.specs.Given.{Runs, count_from, before_from, record_from}
 use Rattle.writer.specs.declared.ImageAnswer.{ImageAnswer}
 use Rattle.writer.specs.declared.ImageAnswer.TheVariants.{Refused as NoImage}

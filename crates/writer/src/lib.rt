@@ -1,5 +1,7 @@
 // Writing an image of either edition from fields and records. A public call. The parts of every image that is written are put here. It uses
 // codes, layout, given and bytes; its definitions use lists.
+#![tactic(auto)]
+
 ghost use Rattle.std.specs.Prelude.{◌≡◌, ◌+◌, ◌*◌, ◌≤◌, ◌<◌, length};
 ghost use Rattle.std.proofs.lemmas.List.Edits.{sets};
 ghost use Rattle.codes.specs.Refusal.{refusal_of};
@@ -16,7 +18,7 @@ use given::Fields;
 use layout::{General, Record};
 
 // The answer of a call that writes an image: its length, or the refusal's number.
-#[derive(Drop)]
+#[derive(Clone, Copy)]
 pub enum ImageAnswer {
     Length(u32),
     Refused(u8),
@@ -31,7 +33,7 @@ fn put_all(out: &mut [u8], at: usize, widths: &[usize], values: &[u64])
     let mut k: usize = 0;
     while k < widths.len() {
         let width = widths[k];
-        bytes::put(out, place, width, values[k]);
+        byte_writes::put(out, place, width, values[k]);
         place += width;
         k += 1;
     }
@@ -143,7 +145,7 @@ fn put_counts(out: &mut [u8], at: usize, counts: &[u16; 9])
 {
     let mut t: usize = 0;
     while t < layout::TABLES {
-        bytes::put(out, at + 2 * t, 2, given::count_at(counts, t) as u64);
+        byte_writes::put(out, at + 2 * t, 2, given::count_at(counts, t) as u64);
         t += 1;
     }
 }

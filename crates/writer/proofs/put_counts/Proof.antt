@@ -2,8 +2,8 @@
 use Prim.Native.Nat.{◌-◌}
 use native.Mathlib.Omega.{arith}
 use Rattle.layout.specs.Layout.{tables}
-use Rattle.bytes.specs.Bytes.{little}
-use Rattle.bytes.specs.Laws.{length_little}
+use Rattle.byte_writes.specs.Bytes.{little}
+use Rattle.byte_writes.specs.Laws.{length_little}
 use Rattle.given.specs.Given.{count_from}
 use Rattle.writer.specs.Laws.{Gathered, gathered_none, gathered_more, gathered_all}
 use Rattle.writer.proofs.put_counts.Statement.{statement}

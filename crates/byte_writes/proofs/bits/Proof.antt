@@ -1,4 +1,4 @@
--- `bytes::bits` meets its contract: what differs from itself is a NaN.
+-- `byte_writes::bits` meets its contract: what differs from itself is a NaN.
 use mathlib.Core.Bool.{Bool, true, false, not}
 use mathlib.Core.Path.{◌≡◌, sym, ◌∙◌}
 use lib.Dec.{T}
@@ -6,8 +6,8 @@ use lib.Ieee.{Float, nan, inf, fin, binary64, ne, is_nan, to_bits}
 use lib.Ieee.Compare.{differs_from_itself, nan_differs}
 use mathlib.Core.Bool.{false≢true, true≢false}
 use borrow.Author.Rules.{rules}
-use Rattle.bytes.proofs.bits.Statement.{statement}
-use Rattle.bytes.proofs.bits.Tie as tie
+use Rattle.byte_writes.proofs.bits.Statement.{statement}
+use Rattle.byte_writes.proofs.bits.Tie as tie
 
 is_t : (b : Bool) → b ≡ true → T b
 is_t true e = tt

@@ -1,9 +1,9 @@
--- `bytes::copy` meets its contract: a loop invariant, and a law for the first turn, each turn and the end.
+-- `byte_writes::copy` meets its contract: a loop invariant, and a law for the first turn, each turn and the end.
 use Prim.Native.Nat.{◌-◌}
 use native.Mathlib.Omega.{arith}
-use Rattle.bytes.specs.Laws.{Copying, copy_none, copy_step, copy_done}
-use Rattle.bytes.proofs.copy.Statement.{statement}
-use Rattle.bytes.proofs.copy.Tie as tie
+use Rattle.byte_writes.specs.Laws.{Copying, copy_none, copy_step, copy_done}
+use Rattle.byte_writes.proofs.copy.Statement.{statement}
+use Rattle.byte_writes.proofs.copy.Tie as tie
 
 abbrev invariant-loop : tie.invariant-loop
 invariant-loop out₀ from room k₀ out k = Copying out₀ from room out k

@@ -11,7 +11,7 @@ use Rattle.std.specs.Float.Ieee.{fits, to_bits}
 use Rattle.std.specs.Float.Ieee.Bits.{of_bits-to_bits, to_bits-lt}
 use Rattle.figures.specs.Figure.{figure_of}
 use Rattle.layout.specs.Bytes.{u16_at, u32_at, u64_at}
-use Rattle.bytes.specs.Bytes.{little, figure_bytes}
+use Rattle.byte_writes.specs.Bytes.{little, figure_bytes}
 
 -- ---- a number put byte by byte
 

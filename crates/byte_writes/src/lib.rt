@@ -1,11 +1,13 @@
 // Writing bytes: numbers and figures little-endian at a place, and a copy of bytes. Rows of any size and images are written by it. It
 // uses figures and layout in its laws only.
+#![tactic(auto)]
+
 ghost use Rattle.std.specs.Prelude.{◌≡◌, ◌+◌, ◌≤◌, length};
 ghost use Rattle.std.proofs.lemmas.List.Edits.{sets};
 ghost use Rattle.std.proofs.Math.Seq.{paste};
 ghost use Rattle.std.specs.Float.{binary64};
 ghost use Rattle.std.specs.Float.Ieee.{to_bits};
-ghost use Rattle.bytes.specs.Bytes.{little, figure_bytes};
+ghost use Rattle.byte_writes.specs.Bytes.{little, figure_bytes};
 
 // A figure's bits. A NaN has many: it gets those that `to_bits` says.
 pub fn bits(x: f64) -> u64

@@ -1,7 +1,7 @@
--- `bytes::put_figure` meets its contract: the bits are those that `to_bits` says.
+-- `byte_writes::put_figure` meets its contract: the bits are those that `to_bits` says.
 use borrow.Author.Rules.{rules}
-use Rattle.bytes.proofs.put_figure.Statement.{statement}
-use Rattle.bytes.proofs.put_figure.Tie as tie
+use Rattle.byte_writes.proofs.put_figure.Statement.{statement}
+use Rattle.byte_writes.proofs.put_figure.Tie as tie
 
 bits-requires : tie.Need-bits-requires
 bits-requires c κs = search rules

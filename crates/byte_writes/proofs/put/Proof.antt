@@ -1,9 +1,9 @@
--- `bytes::put` meets its contract: on each way to a return, the tests and what the calls ensure say which case of the definition holds.
+-- `byte_writes::put` meets its contract: on each way to a return, the tests and what the calls ensure say which case of the definition holds.
 use Prim.Native.Nat.{◌-◌}
 use native.Mathlib.Omega.{arith}
-use Rattle.bytes.specs.Laws.{Putting, put_none, put_step, put_done}
-use Rattle.bytes.proofs.put.Statement.{statement}
-use Rattle.bytes.proofs.put.Tie as tie
+use Rattle.byte_writes.specs.Laws.{Putting, put_none, put_step, put_done}
+use Rattle.byte_writes.proofs.put.Statement.{statement}
+use Rattle.byte_writes.proofs.put.Tie as tie
 
 abbrev invariant-loop : tie.invariant-loop
 invariant-loop out₀ at width x rest₀ k₀ out rest k = Putting out₀ at width x out rest k

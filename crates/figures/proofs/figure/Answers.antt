@@ -5,10 +5,8 @@ use mathlib.Core.Bool.{true, false≢true}
 use mathlib.Core.Path.{◌≡◌, refl, sym, ◌∙◌}
 use lib.Ieee.{Float, nan, inf, fin, binary64, div, of_bits, is_nan, nan_bits}
 use lib.Ieee.Bits.{nan_bits_is, nan_bits_above}
-use borrow.Author.Rules.{rules}
 use borrow.Author.Tests.{lt-ltb, le-ltb}
-use Rattle.figures.proofs.figure.Statement.{statement}
-use Rattle.figures.proofs.figure.Tie as tie
+use Rattle.figures.proofs.figure.Goals as goal
 
 is_nan_holds : (x : Float) → is_nan x ≡ true → x ≡ nan
 unfolding is_nan
@@ -20,14 +18,8 @@ nan_pattern : (b : ℕ) → nan_bits binary64 b ≡ true → div binary64 (of_bi
 unfolding div of_bits
 nan_pattern b e = sym (is_nan_holds (of_bits binary64 b) (sym (nan_bits_is binary64 b) ∙ e))
 
-returns : tie.Need-returns
-returns c = nan_pattern c.before.args.bits (nan_bits_above binary64 c.before.args.bits ∙ lt-ltb _ _ c.if1.true)
+pub returns-then-bits-gt9218868437227405312 : goal.returns-then-bits-gt9218868437227405312
+returns-then-bits-gt9218868437227405312 c = nan_pattern c.args.bits (nan_bits_above binary64 c.args.bits ∙ lt-ltb _ _ c.if-bits-gt9218868437227405312.true)
 
-float-from-bits-result : tie.Need-float-from-bits-result
-float-from-bits-result c = rw (nan_bits_above binary64 c.before.args.bits ∙ le-ltb _ _ c.if1.false) tt
-
-returns-2 : tie.Need-returns-2
-returns-2 c = search rules
-
-pub figure-spec : {M : Type 1} → statement M
-figure-spec = tie.close (tie.spec returns float-from-bits-result returns-2)
+pub float_from_bits-result : goal.float_from_bits-result
+float_from_bits-result c = rw (nan_bits_above binary64 c.args.bits ∙ le-ltb _ _ c.if-bits-gt9218868437227405312.false) tt
