@@ -1,6 +1,6 @@
 -- From audio to the air and back: the range that a signal covers at a dial, with its margins, and the dials that put it in a range.
 -- The margins enter here alone.
-use Rattle.std.specs.Prelude.{Bool, true, false, cond, Float}
+use Rattle.std.specs.Prelude.{Bool, cond, Float}
 use Rattle.std.specs.Float.{binary64}
 use Rattle.std.specs.Float.Ieee.{add, sub, lt, le}
 use Rattle.codes.specs.declared.Sideband.{Sideband}

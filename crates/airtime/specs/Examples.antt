@@ -1,6 +1,6 @@
 -- The totals of single runs, computed: 599 seconds count and 600 do not, the record itself and the earlier of equal starts do, other
 -- bands do not.
-use Rattle.std.specs.Prelude.{List, [], ◌∷◌, ◌≡◌, refl}
+use Rattle.std.specs.Prelude.{[], ◌∷◌, ◌≡◌, refl}
 use Rattle.lists.specs.Each.{each}
 use Rattle.airtime.specs.Airtime.{sum, total_of, totals_of}
 

@@ -1,21 +1,19 @@
 -- What the pass over a run knows at each record, and that its totals are those worked out afresh.
-use Prim.Native.Nat.{ℕ, zero, suc, ◌+◌, ◌-◌, ◌*◌, ◌<◌, ◌≤◌}
-use Rattle.std.specs.Prelude.{Bool, true, false, cond, ◌&&◌, not, ◌≡◌, eqb, leb, ltb, drop, get_or, replicate, set}
+use Prim.Native.Nat.{ℕ, zero, suc, ◌+◌, ◌-◌, ◌<◌, ◌≤◌}
+use Rattle.std.specs.Prelude.{Bool, true, false, cond, ◌&&◌, ◌≡◌, eqb, leb, ltb, drop, get_or, replicate, set}
 use mathlib.Core.List.{List, [], ◌∷◌, ◌++◌, append_assoc, append-nil}
 use Rattle.std.proofs.Math.Path.{refl, ap}
 use Rattle.std.proofs.Common.{sym, ◌∙◌, le_trans, length-append, length-set, drop_of_length-le, drop-cons, get_or-set_same, get_or-set_other}
 use Rattle.std.proofs.Math.Decide.{dec_le}
 use native.Mathlib.Omega.{arith}
-use borrow.Author.Tests.{lt-leb, le-leb, ltb-false, eq-eqb, ne_eqb, leb-true, eqb-true, eqb-false, not-false}
+use borrow.Author.Tests.{lt-leb, le-leb, ltb-false, eq-eqb, ne_eqb, leb-true, eqb-true, eqb-false}
 use Rattle.std.proofs.Math.ListN.{length}
 use Rattle.std.proofs.lemmas.List.{length-replicate, get_or-replicate, set_at}
 use Rattle.scan.specs.Laws.{some_false, and_true}
 use Rattle.lists.specs.Each.{each}
-use Rattle.codes.specs.Refusal.{refusal_of}
-use Rattle.airtime.specs.declared.Airtime.{Airtime}
 use Rattle.airtime.specs.declared.Airtime.TheVariants.{Totals, Refused as NoTotals}
 use Rattle.airtime.specs.Airtime.{sum, recent, of_band, total_of, totals_of, falls_of, runs_fit, Totalled}
-use Rattle.airtime.specs.Sum.{sum_none, sum_next, sum_grows, sum_few, sum_from}
+use Rattle.airtime.specs.Sum.{sum_next, sum_grows, sum_few, sum_from}
 
 -- ---- runs in order, of one length
 

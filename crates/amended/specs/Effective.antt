@@ -1,11 +1,11 @@
 -- Laws of the effective image: it is as long as the base, and its general block and trailer are the base's; of its records each is the
 -- amendment's that counts or the base's. So it is in form, and its table is the base's with other records.
 use Prim.Native.Nat.{ℕ, zero, suc, ◌+◌, ◌*◌, ◌-◌, ◌<◌, ◌≤◌}
-use Rattle.std.specs.Prelude.{Bool, not, ◌&&◌, ◌||◌, ◌≡◌, eqb, ltb, get_or, take, drop, set}
+use Rattle.std.specs.Prelude.{Bool, not, ◌&&◌, ◌||◌, ◌≡◌, eqb, ltb, drop, set}
 use Rattle.std.proofs.Math.Bool.{true, false, cond}
 use mathlib.Core.List.{List, [], ◌∷◌}
 use Rattle.std.proofs.Math.Path.{refl, sym, ap, ap₂}
-use Rattle.std.proofs.Common.{◌∙◌, le_refl, add-one, length-set, length-take, length-drop, length-take-le, get_or-set_same, get_or-set_other, get_or-take, get_or-drop}
+use Rattle.std.proofs.Common.{◌∙◌, length-set, length-take, length-drop, length-take-le, get_or-set_same, get_or-set_other, get_or-take, get_or-drop}
 use Rattle.std.proofs.Math.Nat.{zero-add, suc-add}
 use native.Mathlib.Omega.{arith}
 use Rattle.std.proofs.Math.ListN.{length}
@@ -15,15 +15,13 @@ use Rattle.scan.specs.Laws.{some_same}
 use Rattle.scan.specs.declared.Found.{Found}
 use Rattle.scan.specs.declared.Found.TheVariants.{At, Nothing}
 use Rattle.codes.specs.Refusal.{Test, test}
-use Rattle.layout.specs.Bytes.{byte_at, u16_at, u64_at}
-use Rattle.layout.specs.Layout.{general_size, watts_size, record_size, trailer_size, tables, trailer_of, is_second, count_of, distance_back, edition_of, letters_of}
-use Rattle.layout.specs.Layout.{records_before, tables_from, record_at, place_of, record_of, watts_at, general_of, fixed_channel_watts, fixed_segment_watts}
-use Rattle.layout.specs.Form.{letters, size_wrong, letter_right, letters_wrong, edition_wrong, overfull_at, overfull, length_wrong, distance_wrong, counts_wrong}
+use Rattle.layout.specs.Bytes.{byte_at, u64_at}
+use Rattle.layout.specs.Layout.{general_size, watts_size, record_size, trailer_size, tables, trailer_of, is_second, count_of, distance_back, edition_of}
+use Rattle.layout.specs.Layout.{records_before, tables_from, record_at, record_of, watts_at, general_of, fixed_channel_watts, fixed_segment_watts}
+use Rattle.layout.specs.Form.{letters, size_wrong, letter_right, letters_wrong, edition_wrong, overfull_at, counts_wrong}
 use Rattle.layout.specs.Form.{form_tests, Whole}
-use Rattle.layout.specs.Laws.{tables_near, records_more, table_within}
-use Rattle.layout.specs.declared.Record.{Record}
-use Rattle.alike.specs.Alike.{Alike, alike_part, byte_alike, u16_alike, u32_alike, u64_alike, record_alike, general_alike}
-use Rattle.amended.specs.Amended.{amendment_size, amendments_in, replacement_at, replacement_of, counting, slot_at, amended_to, effective_of}
+use Rattle.alike.specs.Alike.{Alike, alike_part, u16_alike, u32_alike, u64_alike, record_alike, general_alike}
+use Rattle.amended.specs.Amended.{amendments_in, replacement_at, replacement_of, counting, slot_at, amended_to, effective_of}
 use Rattle.amended.specs.Latest.{latest_below, within_list, tables_far}
 
 -- ---- stores into a list of bytes

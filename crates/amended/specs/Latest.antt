@@ -1,11 +1,11 @@
 -- Laws of the amendment that counts: what it is, and the numbers that stand for what a pass over the list has found.
-use Prim.Native.Nat.{ℕ, zero, suc, ◌+◌, ◌*◌, ◌-◌, ◌/◌, ◌%◌, ◌<◌, ◌≤◌}
-use Rattle.std.specs.Prelude.{Bool, true, false, not, cond, ◌&&◌, ◌||◌, List, ◌≡◌, refl, eqb, leb, length, get_or, set, replicate}
-use Rattle.std.proofs.Common.{true≢false, sym, ap, ◌∙◌, eq-eqb, ne_eqb, eqb-true, leb-false, le-leb, length-set, get_or-set_same, get_or-set_other}
-use Rattle.std.proofs.lemmas.Bool.{false≢true, eqb-false, lt-leb}
+use Prim.Native.Nat.{ℕ, zero, suc, ◌+◌, ◌*◌, ◌-◌, ◌%◌, ◌<◌, ◌≤◌}
+use Rattle.std.specs.Prelude.{Bool, true, false, not, cond, ◌&&◌, List, ◌≡◌, refl, eqb, leb, length, get_or, set, replicate}
+use Rattle.std.proofs.Common.{sym, ap, ◌∙◌, eq-eqb, ne_eqb, eqb-true, leb-false, le-leb, length-set, get_or-set_same, get_or-set_other}
+use Rattle.std.proofs.lemmas.Bool.{eqb-false, lt-leb}
 use native.Mathlib.Omega.{arith}
-use Rattle.scan.specs.First.{some, on_found}
-use Rattle.scan.specs.Laws.{some_false, and_true}
+use Rattle.scan.specs.First.{some}
+use Rattle.scan.specs.Laws.{some_false}
 use Rattle.scan.specs.declared.Found.{Found}
 use Rattle.scan.specs.declared.Found.TheVariants.{At, Nothing}
 use Rattle.layout.specs.Layout.{general_size, watts_size, tables, is_second, count_of, records_before, tables_from}

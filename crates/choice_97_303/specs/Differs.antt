@@ -1,10 +1,10 @@
 -- "Answers that change: blocked 24 becomes legal 25 or its warning, or too_wide; 24, legal or its warning, for a CW carrier on centre whose
 -- guarded range the channel doesn't hold becomes 25 or its warning, or too_wide." (document 02, 4) No other answer changes; and too_wide is
 -- met by data alone, never by the second change.
-use Rattle.std.specs.Prelude.{ℕ, Bool, not, cond, ◌&&◌, ◌⊎◌, ◌≡◌, eqb, Float}
+use Rattle.std.specs.Prelude.{ℕ, Bool, cond, ◌&&◌, ◌⊎◌, ◌≡◌, eqb, Float}
 use Rattle.std.proofs.Math.Bool.{true, false}
 use Rattle.std.proofs.lemmas.Bool.{false≢true}
-use Rattle.std.proofs.Common.{true≢false, sym, ap, ◌∙◌, subst}
+use Rattle.std.proofs.Common.{true≢false, sym, ◌∙◌}
 use Rattle.std.proofs.Math.Logic.{inl, inr}
 use Rattle.std.proofs.Math.Path.{refl}
 use Rattle.std.specs.Float.{binary64}
@@ -31,13 +31,10 @@ use Rattle.find.specs.declared.Question.TheVariants.{Holds, OfBand, BandHolds, C
 use Rattle.decision.specs.Decision.{simple_of, finish_of}
 use Rattle.decision.specs.Number.{§97-301}
 use Rattle.decision.specs.declared.BandNumber.TheVariants.{Band}
-use Rattle.decision.specs.declared.Draft.{Draft}
 use Rattle.decision.specs.declared.Decision.{Decision}
-use Rattle.decision.specs.declared.SixtyNotes.{SixtyNotes}
 use Rattle.decision.specs.declared.Verdict.{Verdict}
 use Rattle.decision.specs.declared.Verdict.TheVariants.{Legal, Warning, Blocked}
-use Rattle.decision.specs.declared.Code.{Code}
-use Rattle.decision.specs.declared.Code.TheVariants.{Privilege, OutOfBand, AutomaticExcluded, TooWide, SixtyEmission, SixtyOffChannel, SixtyChannel}
+use Rattle.decision.specs.declared.Code.TheVariants.{OutOfBand, AutomaticExcluded, TooWide, SixtyOffChannel, SixtyChannel}
 use Rattle.decision.specs.declared.Code.TheVariants.{SixtySegment}
 use Rattle.part97.specs.Part97.{band_at, segment_at, draft_of, draft_inside, some_privilege, general_limit, exceeds, channel_watts_of, segment_watts_of, is_data}
 use Rattle.part97.specs.Part97.{cw_on_channel, same_sideband, data_on_channel, on_channel, allowed_on_sixty, warned, sixty_channel, sixty_segment}

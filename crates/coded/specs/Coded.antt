@@ -1,6 +1,6 @@
 -- Refusal 5, record by record: "a coded byte outside its values, an unused one not zero, or a table of an absent part not empty".
 -- A figure is looked at by its bits here: an unused one is zero in all eight bytes.
-use Rattle.std.specs.Prelude.{ℕ, Bool, true, false, not, cond, ◌&&◌, ◌||◌, leb, eqb}
+use Rattle.std.specs.Prelude.{ℕ, Bool, not, cond, ◌&&◌, ◌||◌, leb, eqb}
 use Rattle.codes.specs.Code.{bit_of}
 use Rattle.layout.specs.Layout.{bands, segments, channels, privileges, automatic, excluded, power}
 use Rattle.layout.specs.declared.Record.{Record}

@@ -1,5 +1,5 @@
 -- What a double's bits say of its exact value, and the roundings by it.
-use Rattle.std.specs.Prelude.{◌≡◌, ℕ, zero, suc, ◌+◌, ◌-◌, ◌*◌, ◌/◌, ◌%◌, ◌^◌, ◌<◌, ◌≤◌, Bool, true, false, cond, not, T, ℤ, pos, ◌==◌, ◌≢◌, nat_le, to_bits, refl, Float}
+use Rattle.std.specs.Prelude.{◌≡◌, ℕ, zero, suc, ◌+◌, ◌-◌, ◌*◌, ◌/◌, ◌%◌, ◌^◌, ◌<◌, ◌≤◌, Bool, true, false, cond, not, T, pos, ◌==◌, ◌≢◌, nat_le, to_bits, refl, Float}
 use Prim.Native.Nat.{compare, Ordering}
 use Rattle.std.proofs.Common.{sym, ap, ◌∙◌, subst, le_trans, le_of_eq, mul-le-mul_right, mul-le-mul_left, mul_right_comm, mul_assoc, mul_comm, mul_left_comm, le_of_mul-le-mul_right, mod-lt, mod-eq_of_lt, add-mul, lt_irrefl, le_of_lt, lt_of_le_of_lt, div-mul-le_self, one-mul, add-one, arith, le→leb, eqb→eq, pow-add, pow_pos, pow_mono}
 use Rattle.std.proofs.Math.Nat.{eq_of_mul-eq-mul_right, div-eq_of_lt, pow-succ'}
@@ -8,7 +8,7 @@ use Rattle.std.proofs.Math.Arith.{lt→nleb, lt_of_le-ne}
 use Rattle.std.proofs.Math.Dec.{is_le, compare_is_eq, eqb_refl}
 use Rattle.std.proofs.Math.Pow.{split}
 use Rattle.std.specs.Float.{nan, inf, fin, binary64}
-use Rattle.std.specs.Float.Ieee.{fits, up, down, hid, top, ones, low, odd, of_fields, of_bits, of_int, nearest, is_nan}
+use Rattle.std.specs.Float.Ieee.{fits, up, down, hid, top, ones, odd, of_fields, of_bits, of_int, nearest, is_nan}
 use Rattle.std.specs.Float.Ieee.Bits.{of_bits-to_bits}
 use Rattle.std.specs.Float.Ieee.Exact.{HasValue, odd_sign}
 use Rattle.std.specs.Float.Ieee.Fits.{down_pos}

@@ -1,6 +1,6 @@
 -- Figures by a limit of their size, a power of two: what the size test says, and what a quotient by 1,000 and a product by 10 keep to.
 use Rattle.std.specs.Prelude.{◌≡◌, ℕ, zero, suc, ◌+◌, ◌*◌, ◌^◌, ◌<◌, ◌≤◌, Bool, true, false, cond, not, ◌&&◌, ◌||◌, T, ℤ, pos, ◌==◌, nat_lt, refl, Float}
-use Rattle.std.proofs.Common.{sym, ap, ◌∙◌, subst, le_trans, le_of_eq, le_of_lt, mul-le-mul_right, mul-one, one-mul, zero-mul, arith, ltb→lt, nltb→le, eqb→eq, pow_mono}
+use Rattle.std.proofs.Common.{sym, ap, subst, le_trans, le_of_eq, le_of_lt, mul-le-mul_right, mul-one, one-mul, zero-mul, arith, ltb→lt, nltb→le, eqb→eq, pow_mono}
 use Rattle.std.proofs.lemmas.Bool.{false≢true}
 use Rattle.std.specs.Float.{nan, inf, fin, binary64}
 use Rattle.std.specs.Float.Ieee.{low, emax, up, down, neg, lt, eq, le, div, mul, odd, units, round, of_bits, unlike}

@@ -1,12 +1,11 @@
 -- Ranges that lie apart by the bits of their ends share nothing, so a list asks no more of such a pair.
 use Rattle.std.specs.Prelude.{ℕ, ◌≤◌, Bool, true, false, cond, ◌&&◌, ◌||◌, ◌≡◌, refl, leb}
-use Rattle.std.proofs.Common.{true≢false, sym, ap, subst, ◌∙◌, arith, leb-true}
+use Rattle.std.proofs.Common.{ap, ◌∙◌, arith, leb-true}
 use Rattle.std.proofs.lemmas.Bool.{false≢true}
 use Rattle.std.specs.Float.Ieee.{le}
 use Rattle.figures.specs.Figure.{figure_of}
 use Rattle.bit_order.specs.Order.{limit_bits, bits_le}
 use Rattle.profile.specs.Range.{lengthy, common_of, intersect_of}
-use Rattle.profile.specs.declared.Range.{Range}
 use Rattle.profile.specs.declared.Shared.TheVariants.{Stretch, Nothing}
 use Rattle.layout.specs.declared.Record.{Record}
 use Rattle.table.specs.Parts.{span_of}

@@ -1,6 +1,6 @@
 -- How many rows there can be, that their dials are figures of a double and the lower one a number, and the request and its flags by cases.
-use Rattle.std.specs.Prelude.{ℕ, ◌+◌, ◌*◌, ◌≤◌, Bool, true, false, not, cond, ◌&&◌, ◌||◌, List, [], ◌∷◌, ◌++◌, ◌≡◌, refl, T, length, Float}
-use Rattle.std.proofs.Common.{ap, arith, length-append}
+use Rattle.std.specs.Prelude.{ℕ, ◌+◌, ◌*◌, ◌≤◌, Bool, true, false, cond, ◌&&◌, ◌||◌, List, [], ◌∷◌, ◌++◌, ◌≡◌, refl, T, length, Float}
+use Rattle.std.proofs.Common.{arith, length-append}
 use Rattle.std.specs.Float.{nan, inf, fin, binary64}
 use Rattle.std.specs.Float.Ieee.{fits, is_nan, add, sub, le}
 use Rattle.std.specs.Float.Ieee.Fits.{add-fits, sub-fits}

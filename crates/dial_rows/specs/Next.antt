@@ -19,7 +19,7 @@ use Rattle.profile.specs.declared.Shared.{Shared}
 use Rattle.profile.specs.declared.Shared.TheVariants.{Stretch, Nothing}
 use Rattle.layout.specs.Form.{Whole}
 use Rattle.layout.specs.Laws.{table_within}
-use Rattle.layout.specs.Layout.{record_size, trailer_size, segments, channels, privileges, automatic, record_at, count_of, start_of}
+use Rattle.layout.specs.Layout.{record_size, segments, channels, privileges, automatic, record_at, count_of, start_of}
 use Rattle.layout.specs.declared.Record.{Record}
 use Rattle.table.specs.Table.{Table, record_in, table_of}
 use Rattle.table.specs.Laws.{read_in}

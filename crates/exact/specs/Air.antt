@@ -3,10 +3,10 @@
 use Rattle.std.specs.Prelude.{ℕ, ◌+◌, ◌*◌, ◌≤◌, ◌^◌, Float}
 use Rattle.std.proofs.Common.{arith}
 use Rattle.std.specs.Float.{binary64}
-use Rattle.std.specs.Float.Ieee.{add, sub}
+use Rattle.std.specs.Float.Ieee.{sub}
 use Rattle.codes.specs.declared.Sideband.TheVariants.{Usb, Lsb}
 use Rattle.profile.specs.Range.{range}
-use Rattle.air.specs.Air.{rf_range_of, guarded_of, unguarded_of, width_of, dial_ends_of}
+use Rattle.air.specs.Air.{rf_range_of, guarded_of, width_of, dial_ends_of}
 use Rattle.air.specs.declared.Margins.{Margins}
 use Rattle.eighths.specs.Grid.{Figure, Eighths, plus_eighths, minus_eighths}
 use Rattle.eighths.specs.Laws.{add_eighths, sub_eighths}

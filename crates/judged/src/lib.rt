@@ -1,3 +1,2 @@
 // What holds of every decision that Part 97 makes: laws. No code. It uses codes, profile, scan, table, find, automatic_97_221, decision and part97.
 #![tactic(auto)]
-

@@ -1,5 +1,5 @@
 -- The texts of single figures. The paper's own examples, the largest figure, the longest text and the least figure above 0.
-use Rattle.std.specs.Prelude.{List, [], ◌∷◌, ◌≡◌, refl}
+use Rattle.std.specs.Prelude.{[], ◌∷◌, ◌≡◌, refl}
 use Rattle.std.specs.Float.{binary64}
 use Rattle.std.specs.Float.Ieee.{div, eq, lt, mul, neg, of_bits, of_int, sub}
 use Rattle.decimal.specs.Decimal.{decimal_of, round_of, sign_of}

@@ -1,8 +1,8 @@
 -- What the loops over digits know at each turn, and the parts of a text put one behind the other.
-use Prim.Native.Nat.{ℕ, zero, suc, ◌+◌, ◌-◌, ◌*◌, ◌/◌, ◌%◌, ◌^◌, ◌<◌, ◌≤◌}
+use Prim.Native.Nat.{ℕ, zero, suc, ◌+◌, ◌-◌, ◌/◌, ◌%◌, ◌^◌, ◌<◌, ◌≤◌}
 use Rattle.std.specs.Prelude.{Bool, true, false, cond, List, [], ◌∷◌, ◌++◌, ◌≡◌, eqb, ltb, Float, drop, set}
 use Rattle.std.proofs.Math.Path.{refl, sym, ap}
-use Rattle.std.proofs.Common.{◌∙◌, subst, add_assoc, zero-add, add-one, length-set, length-append}
+use Rattle.std.proofs.Common.{◌∙◌, add_assoc, zero-add, add-one, length-set, length-append}
 use native.Mathlib.Omega.{arith}
 use borrow.Author.Tests.{lt-ltb, le-ltb, ne_eqb}
 use Rattle.std.specs.Float.{binary64}
@@ -13,7 +13,7 @@ use Rattle.std.proofs.lemmas.List.{set_comm}
 use Rattle.std.proofs.lemmas.List.Edits.{sets-eq}
 use Rattle.byte_writes.specs.Laws.{sets_next}
 use Rattle.figures.specs.Figure.{in_size}
-use Rattle.codes.specs.Refusal.{test, refusal_of}
+use Rattle.codes.specs.Refusal.{refusal_of}
 use Rattle.decimal.specs.Decimal.{decimal_rounded}
 use Rattle.decimal.specs.declared.Decimal.{Decimal}
 use Rattle.digit_groups.specs.Group.{group_of}

@@ -1,5 +1,5 @@
 -- The number texts of `at` and `khz`, and whole hertz (document 02, 1): a double's exact value as a decimal, in ASCII.
-use Rattle.std.specs.Prelude.{ℕ, zero, suc, ◌+◌, ◌*◌, ◌/◌, ◌%◌, ◌^◌, Bool, cond, not, List, [], ◌∷◌, ◌++◌, ◌≡◌, eqb, ltb, Float, drop, length}
+use Rattle.std.specs.Prelude.{ℕ, zero, suc, ◌+◌, ◌/◌, ◌%◌, ◌^◌, Bool, cond, not, List, [], ◌∷◌, ◌++◌, ◌≡◌, eqb, ltb, Float, drop, length}
 use Rattle.std.specs.Float.{binary64}
 use Rattle.std.specs.Float.Ieee.{div, lt, mul, of_bits, sub}
 use Rattle.figures.specs.Figure.{abs_of, in_size}

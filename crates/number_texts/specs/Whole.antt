@@ -1,6 +1,6 @@
 -- No digit is lost: a whole number's text, read back, is the number, and a figure within the limit has no more digits than are written.
-use Rattle.std.specs.Prelude.{ℕ, zero, suc, ◌+◌, ◌-◌, ◌*◌, ◌/◌, ◌%◌, ◌^◌, ◌<◌, ◌≤◌, Bool, true, false, cond, not, List, [], ◌∷◌, ◌++◌, ◌≡◌, refl, T, ltb, Float}
-use Rattle.std.proofs.Common.{sym, ap, ◌∙◌, subst, le_trans, le_of_eq, lt_of_lt_of_le, mod-eq_of_lt, mul-le-mul_right, mul-one, mul_comm, div-one, mul_right_comm, arith, ltb→lt, nltb→le}
+use Rattle.std.specs.Prelude.{ℕ, zero, suc, ◌+◌, ◌-◌, ◌*◌, ◌/◌, ◌%◌, ◌^◌, ◌<◌, ◌≤◌, Bool, true, false, cond, List, [], ◌∷◌, ◌++◌, ◌≡◌, refl, T, ltb, Float}
+use Rattle.std.proofs.Common.{sym, ap, ◌∙◌, le_trans, le_of_eq, mod-eq_of_lt, mul-le-mul_right, mul-one, mul_comm, div-one, mul_right_comm, arith, ltb→lt}
 use Rattle.std.proofs.Math.Nat.{pow-succ', mod-one}
 use Rattle.std.proofs.Math.Arith.{mod-mul}
 use Rattle.std.specs.Float.{nan, inf, fin}

@@ -1,5 +1,4 @@
 -- The audio that a transmission occupies, under both readings of 97.3(a)(8).
-use Rattle.std.specs.Prelude.{ℕ}
 use Rattle.figures.specs.Figure.{min_of, max_of}
 use Rattle.profile.specs.Range.{range}
 use Rattle.profile.specs.declared.Range.{Range}

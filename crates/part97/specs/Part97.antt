@@ -1,14 +1,13 @@
 -- What the gate answers for a transmission under 47 CFR Part 97, as a table of an administration's rules states it. The tests stand in
 -- the order in which they are made; the last definition, `judge`, makes the first. The paragraphs are named as document 01 and the
 -- original's comments name them. After the list of names from other files stands how to read the rules.
-use Rattle.std.specs.Prelude.{ℕ, zero, suc, Bool, true, false, not, cond, ◌&&◌, ◌||◌, List, eqb, ltb, set, Float}
+use Rattle.std.specs.Prelude.{ℕ, zero, suc, Bool, true, false, not, cond, ◌&&◌, ◌||◌, List, eqb, set, Float}
 use Rattle.std.specs.Float.{binary64}
 use Rattle.std.specs.Float.Ieee.{add, sub, lt, le}
 use Rattle.figures.specs.Figure.{zero_hz, max_of, abs_of, midpoint_of, total_less, figure_of}
 use Rattle.codes.specs.Code.{kind_code, class_code, bit_of}
 use Rattle.codes.specs.declared.EmissionKind.{EmissionKind}
 use Rattle.codes.specs.declared.EmissionKind.TheVariants.{Data, Cw, Test, Nothing as NoEmission}
-use Rattle.codes.specs.declared.LicenseClass.{LicenseClass}
 use Rattle.codes.specs.declared.Sideband.{Sideband}
 use Rattle.codes.specs.declared.Sideband.TheVariants.{Usb, Lsb}
 use Rattle.profile.specs.Range.{range, holds_of, overlaps_of, channel_range_of}
@@ -16,13 +15,11 @@ use Rattle.profile.specs.Limit.{data_limit_of, allows_of, meant_of}
 use Rattle.profile.specs.declared.Range.{Range}
 use Rattle.profile.specs.declared.DataLimit.{DataLimit}
 use Rattle.air.specs.Air.{wider}
-use Rattle.scan.specs.First.{some, is_at, on_found}
+use Rattle.scan.specs.First.{on_found}
 use Rattle.scan.specs.declared.Found.{Found}
-use Rattle.scan.specs.declared.Found.TheVariants.{At, Nothing}
 use Rattle.station.specs.declared.Figure.{Figure}
 use Rattle.station.specs.declared.Figure.TheVariants.{Known, Absent}
 use Rattle.layout.specs.Layout.{bands, segments, channels, privileges, automatic, excluded, power, plan_data, plan_avoid}
-use Rattle.layout.specs.declared.General.{General}
 use Rattle.table.specs.Table.{Table}
 use Rattle.table.specs.Parts.{span_of, band_of, segment_of, centre_of, privilege_of, excluded_of, power_of, data_of, elsewhere_of, channels_of, sixty_of, has_plan}
 use Rattle.table.specs.declared.Band.{Band as BandRecord}
@@ -37,10 +34,9 @@ use Rattle.table.specs.declared.ChannelBand.TheVariants.{On, NoChannels}
 use Rattle.table.specs.declared.SixtyEmissions.{SixtyEmissions}
 use Rattle.table.specs.declared.SixtyEmissions.TheVariants.{Allowed, AnyEmission}
 use Rattle.find.specs.Question.{first_in, some_in}
-use Rattle.find.specs.declared.Question.{Question}
 use Rattle.find.specs.declared.Question.TheVariants.{Holds, Overlaps, OfBand, BandHolds, ClassHolds, ChannelOverlaps}
 use Rattle.automatic_97_221.specs.Automatic.{responds}
-use Rattle.decision.specs.Number.{no_rule, §97-301, §97-305a, §97-305b, §97-305c, §97-307f9}
+use Rattle.decision.specs.Number.{§97-301, §97-305a, §97-305b, §97-305c, §97-307f9}
 use Rattle.decision.specs.Decision.{no_notes, no_marks, no_advice, finish_of, simple_of}
 use Rattle.decision.specs.declared.Verdict.{Verdict}
 use Rattle.decision.specs.declared.Verdict.TheVariants.{Legal, Warning, Blocked}
@@ -56,9 +52,7 @@ use Rattle.decision.specs.declared.Guidance.{Guidance}
 use Rattle.decision.specs.declared.Guidance.TheVariants.{Avoid, Inside, Outside, NoGuidance}
 use Rattle.decision.specs.declared.BandNumber.{BandNumber}
 use Rattle.decision.specs.declared.BandNumber.TheVariants.{Band, NoBand}
-use Rattle.decision.specs.declared.JudgedSegment.{JudgedSegment}
 use Rattle.decision.specs.declared.JudgedSegment.TheVariants.{Segment, NoSegment}
-use Rattle.decision.specs.declared.MaybeRange.{MaybeRange}
 use Rattle.decision.specs.declared.MaybeRange.TheVariants.{Is, NoRange}
 use Rattle.decision.specs.declared.SixtyNotes.{SixtyNotes}
 use Rattle.decision.specs.declared.Draft.{Draft}

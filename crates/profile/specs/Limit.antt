@@ -1,5 +1,5 @@
 -- A segment's limit on the width of data, and which emissions and classes a list lets through.
-use Rattle.std.specs.Prelude.{ℕ, Bool, true, false, Float}
+use Rattle.std.specs.Prelude.{ℕ, Bool, true}
 use Rattle.codes.specs.Code.{kind_code, class_code, bit_of}
 use Rattle.codes.specs.declared.EmissionKind.{EmissionKind}
 use Rattle.codes.specs.declared.LicenseClass.{LicenseClass}

@@ -1,5 +1,5 @@
 -- Ranges of hertz. Low above high is a range like others: nothing here sorts.
-use Rattle.std.specs.Prelude.{Bool, true, false, ◌&&◌, cond, Float}
+use Rattle.std.specs.Prelude.{Bool, ◌&&◌, cond, Float}
 use Rattle.std.specs.Float.{binary64}
 use Rattle.std.specs.Float.Ieee.{add, sub, div, lt, le}
 use Rattle.figures.specs.Figure.{two, min_of, max_of}

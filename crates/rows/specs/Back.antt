@@ -5,8 +5,7 @@ use Rattle.std.proofs.Common.{append_assoc, sym, ap, ◌∙◌, arith, length-ap
 use Rattle.std.proofs.lemmas.List.Edits.{sets, sets-eq}
 use Rattle.std.proofs.Math.Seq.{drop-append-add}
 use Rattle.std.specs.Float.{binary64}
-use Rattle.std.specs.Float.Ieee.{fits, is_nan, to_bits}
-use Rattle.std.specs.Float.Ieee.Bits.{of_bits-to_bits, to_bits-lt}
+use Rattle.std.specs.Float.Ieee.{fits, is_nan}
 use Rattle.figures.specs.Figure.{total_less, figure_of}
 use Rattle.layout.specs.Bytes.{u64_at}
 use Rattle.byte_writes.specs.Bytes.{figure_bytes, little}

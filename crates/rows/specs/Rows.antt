@@ -1,6 +1,6 @@
 -- A dial list as a list of rows: its order, and its bytes. "A dial row is 36 bytes: segment low, high, dial low, high (f64), band byte,
 -- zero byte, u16 rule." The row's offsets stand in this crate alone.
-use Rattle.std.specs.Prelude.{ℕ, zero, suc, ◌+◌, cond, List, [], ◌∷◌, ◌++◌, Float}
+use Rattle.std.specs.Prelude.{ℕ, ◌+◌, cond, List, [], ◌∷◌, ◌++◌, Float}
 use Rattle.figures.specs.Figure.{total_less, figure_of}
 use Rattle.profile.specs.Range.{range}
 use Rattle.layout.specs.Bytes.{byte_at, u16_at, u64_at}

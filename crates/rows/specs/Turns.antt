@@ -1,13 +1,12 @@
 -- What the loops over bytes know at each turn.
-use Prim.Native.Nat.{ℕ, zero, suc, ◌+◌, ◌*◌, ◌-◌, ◌/◌, ◌%◌, ◌<◌, ◌≤◌}
+use Prim.Native.Nat.{ℕ, zero, suc, ◌+◌, ◌*◌, ◌-◌, ◌<◌, ◌≤◌}
 use Rattle.std.specs.Prelude.{Bool, true, false, cond, List, [], ◌∷◌, ◌++◌, ◌≡◌, refl, length, get_or, take, drop, set, Float}
-use Rattle.std.proofs.Common.{sym, ap, ◌∙◌, add_assoc, length-set, length-append, get_or-set_other, get_or-drop, drop-cons}
+use Rattle.std.proofs.Common.{sym, ap, ◌∙◌, length-set, length-append, get_or-set_other, drop-cons}
 use native.Mathlib.Omega.{arith}
 use Rattle.std.proofs.lemmas.List.Edits.{sets}
 use Rattle.std.proofs.lemmas.List.{set_comm}
 use Rattle.std.specs.Float.Ieee.{lt}
 use Rattle.figures.specs.Figure.{total_less}
-use Rattle.layout.specs.Bytes.{u16_at, u32_at, u64_at}
 use Rattle.byte_writes.specs.Bytes.{figure_bytes, little}
 use Rattle.byte_writes.specs.Laws.{length_little, sets_next}
 use Rattle.rows.specs.Rows.{row_size, figures_of, encode_row, low_at}

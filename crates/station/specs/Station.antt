@@ -1,5 +1,5 @@
 -- The station record as it arrives, in coded numbers and any figures, and as it is read. Refusals 20 to 22.
-use Rattle.std.specs.Prelude.{ℕ, Bool, true, false, not, cond, ◌&&◌, ◌||◌, List, [], ◌∷◌, leb, eqb, length, Float}
+use Rattle.std.specs.Prelude.{ℕ, Bool, not, cond, ◌&&◌, ◌||◌, List, [], ◌∷◌, leb, eqb, length, Float}
 use Rattle.std.specs.Float.{binary64}
 use Rattle.std.specs.Float.Ieee.{of_bits}
 use Rattle.figures.specs.Figure.{zero_hz, limit40, in_size, read_hz}
@@ -8,7 +8,6 @@ use Rattle.air.specs.declared.Margins.{Margins}
 use Rattle.codes.specs.Code.{policy_code}
 use Rattle.codes.specs.Read.{policy_valid, control_valid, license_valid, sideband_valid, policy_of, control_of, license_of, sideband_of}
 use Rattle.codes.specs.Refusal.{Test, test}
-use Rattle.codes.specs.declared.Policy.{Policy}
 use Rattle.codes.specs.declared.Policy.TheVariants.{Rules}
 use Rattle.station.specs.declared.StationRecord.{StationRecord}
 use Rattle.station.specs.declared.Situation.{Situation}

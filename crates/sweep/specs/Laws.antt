@@ -18,7 +18,6 @@ use Rattle.table.specs.Laws.{count_in_holds, read_in}
 use Rattle.sweep.specs.Sweep.{shared_with, on_shared, swept_from, sweep, gives, ranges_of}
 use Rattle.sweep.specs.declared.Members.{Members}
 use Rattle.sweep.specs.declared.Ranges.{Ranges}
-use Rattle.sweep.specs.declared.Swept.{Swept}
 use Rattle.sweep.specs.declared.Swept.TheVariants.{Shares, NoMore}
 
 pub shares_index : {i j : ℕ} {x y : Range} → Shares i x ≡ Shares j y → i ≡ j

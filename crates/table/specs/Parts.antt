@@ -1,5 +1,5 @@
 -- What an accepted image says: each record and each field of the general block as what it stands for. No offset is named here.
-use Rattle.std.specs.Prelude.{ℕ, Bool, true, false, cond, List, eqb, Float}
+use Rattle.std.specs.Prelude.{ℕ, Bool, cond, eqb, Float}
 use Rattle.figures.specs.Figure.{figure_of}
 use Rattle.codes.specs.Code.{bit_of}
 use Rattle.codes.specs.declared.Sideband.{Sideband}
@@ -23,10 +23,8 @@ use Rattle.table.specs.declared.Privilege.{Privilege}
 use Rattle.table.specs.declared.Excluded.{Excluded}
 use Rattle.table.specs.declared.PowerLimit.{PowerLimit}
 use Rattle.table.specs.declared.PlanArea.{PlanArea}
-use Rattle.table.specs.declared.Elsewhere.{Elsewhere}
 use Rattle.table.specs.declared.ElsewhereRule.{ElsewhereRule}
 use Rattle.table.specs.declared.ElsewhereRule.TheVariants.{Under, Nowhere}
-use Rattle.table.specs.declared.Channels.{Channels}
 use Rattle.table.specs.declared.ChannelBand.{ChannelBand}
 use Rattle.table.specs.declared.ChannelBand.TheVariants.{On, NoChannels}
 use Rattle.table.specs.declared.SixtyEmissions.{SixtyEmissions}

@@ -1,0 +1,12 @@
+-- `find::homeless` meets its contract: on each way to a return, the tests and what the calls ensure say which case of the definition holds.
+use Prim.Native.Nat.{◌-◌}
+use Rattle.scan.specs.Laws.{Passed}
+use Rattle.table.specs.Table.{table_of}
+use Rattle.find.specs.Question.{homeless_at}
+use Rattle.find.proofs.homeless.Given as goal
+
+abbrev pub invariant-loop-i : goal.invariant-loop-i
+invariant-loop-i l = Passed (homeless_at (table_of l.s) l.own) l.count l.i
+
+abbrev pub decreases-loop-i : goal.decreases-loop-i
+decreases-loop-i l = l.count - l.i

@@ -1,0 +1,10 @@
+-- `plain::pass_ranges` meets its contract: the loop's invariant is that the records from the first one on and before i pass.
+use Prim.Native.Nat.{◌-◌}
+use Rattle.plain.specs.Quick.{range_within, Stretch}
+use Rattle.plain.proofs.pass_ranges.Given as goal
+
+abbrev pub invariant-loop-i : goal.invariant-loop-i
+invariant-loop-i l = Stretch (range_within l.figure l.band l.lists l.rules) l.s l.start l.from l.i
+
+abbrev pub decreases-loop-i : goal.decreases-loop-i
+decreases-loop-i l = l.count - l.i
