@@ -1,11 +1,13 @@
 // A program of the gate: it asks for the totals of the runs that its input lists or makes, and writes what each call answers and every
 // total that was lent. Input and output come from tools/reference/airtime.py, which says what the bytes mean. It stops at input that is
-// malformed. It uses layout and airtime.
+// malformed. It uses layout, airtime and lines.
 #![tactic(auto)]
 
 ghost use Rattle.std.specs.Prelude.{◌+◌, ◌*◌, ◌<◌, ◌≤◌, length};
 
 use airtime::Airtime;
+use std::io;
+use std::io::Write;
 
 // The bytes that every case begins with, and those of a rule.
 const HEAD_SIZE: usize = 17;
@@ -20,9 +22,9 @@ const FILL: u64 = 0xa0a0_a0a0_a0a0_a0a0;
 
 const FOLD: u64 = 4294967291;
 
-fn number(name: &[u8], n: u64) {
-    io::write_all(1, name);
-    io::print_decimal(1, n);
+fn number(out: &mut impl Write, name: &[u8], n: u64) -> io::Result<()> {
+    out.write_all(name)?;
+    lines::decimal(out, n)
 }
 
 // ---- runs that the input lists
@@ -105,35 +107,37 @@ fn make_seconds(factor: u64, out: &mut [u16])
 
 // ---- what was answered
 
-fn answered(answer: Airtime) {
+fn answered(out: &mut impl Write, answer: Airtime) -> io::Result<()> {
     match answer {
         Airtime::Totals(n) => {
-            number(b" refusal ", 0);
-            number(b" totals ", n as u64);
+            number(out, b" refusal ", 0)?;
+            number(out, b" totals ", n as u64)?;
         }
         Airtime::Refused(n) => {
-            number(b" refusal ", n as u64);
-            number(b" totals ", 0);
+            number(out, b" refusal ", n as u64)?;
+            number(out, b" totals ", 0)?;
         }
     }
+    Ok(())
 }
 
-fn each_total(totals: &[u64]) {
+fn each_total(out: &mut impl Write, totals: &[u64]) -> io::Result<()> {
     let mut i: usize = 0;
     while i < totals.len() {
-        number(b" ", totals[i]);
+        number(out, b" ", totals[i])?;
         i += 1;
     }
+    Ok(())
 }
 
-fn folded(totals: &[u64]) {
+fn folded(out: &mut impl Write, totals: &[u64]) -> io::Result<()> {
     let mut h: u64 = 0;
     let mut i: usize = 0;
     while i < totals.len() {
         h = (h * 31 + totals[i] % FOLD) % FOLD;
         i += 1;
     }
-    number(b" folded ", h);
+    number(out, b" folded ", h)
 }
 
 // ---- a case
@@ -200,6 +204,7 @@ fn runs(
 
 // The line of a case of given runs, which are still to be read or made.
 fn line(
+    out: &mut impl Write,
     s: &[u8],
     at: usize,
     form: u8,
@@ -208,30 +213,30 @@ fn line(
     bands: &mut [u8],
     seconds: &mut [u16],
     totals: &mut [u64],
-) -> usize
+) -> io::Result<usize>
     requires { (at ≤ length s.now) × ((length starts.old ≤ 65537) × ((length bands.old ≤ 65537) × (length seconds.old ≤ 65537))) }
 {
     let next = runs(s, at, form, starts, bands, seconds);
     if next == 0 {
-        return 0;
+        return Ok(0);
     }
-    io::print_decimal(1, k as u64);
-    answered(airtime::totals(starts, bands, seconds, totals));
+    lines::decimal(out, k as u64)?;
+    answered(out, airtime::totals(starts, bands, seconds, totals))?;
     if form == 0 {
-        each_total(totals);
+        each_total(out, totals)?;
     } else {
-        folded(totals);
+        folded(out, totals)?;
     }
-    io::write_all(1, b"\n");
-    next
+    out.write_all(b"\n")?;
+    Ok(next)
 }
 
 // The line of the case at a place; the next case's place, or 0 where it is malformed.
-fn case(s: &[u8], at: usize, k: u16) -> usize
+fn case(out: &mut impl Write, s: &[u8], at: usize, k: u16) -> io::Result<usize>
     requires { at ≤ length s.now }
 {
     if s.len() - at < HEAD_SIZE {
-        return 0;
+        return Ok(0);
     }
     let form = layout::byte_at(s, at);
     let starts = layout::u32_at(s, at + 1) as usize;
@@ -239,22 +244,23 @@ fn case(s: &[u8], at: usize, k: u16) -> usize
     let seconds = layout::u32_at(s, at + 9) as usize;
     let lent = layout::u32_at(s, at + 13) as usize;
     if ROOM < starts {
-        return 0;
+        return Ok(0);
     }
     if ROOM < bands {
-        return 0;
+        return Ok(0);
     }
     if ROOM < seconds {
-        return 0;
+        return Ok(0);
     }
     if ROOM < lent {
-        return 0;
+        return Ok(0);
     }
     let mut a = [0u64; ROOM];
     let mut b = [0u8; ROOM];
     let mut c = [0u16; ROOM];
     let mut d = [FILL; ROOM];
     line(
+        out,
         s,
         at + HEAD_SIZE,
         form,
@@ -267,28 +273,30 @@ fn case(s: &[u8], at: usize, k: u16) -> usize
 }
 
 // The cases of the input, in their order.
-fn cases(s: &[u8]) {
+fn cases(out: &mut impl Write, s: &[u8]) -> io::Result<()> {
     if s.len() < 2 {
-        return;
+        return Ok(());
     }
     let count = layout::u16_at(s, 0);
     let mut at: usize = 2;
     let mut k: u16 = 0;
     while k < count {
         if s.len() < at {
-            return;
+            return Ok(());
         }
-        let next = case(s, at, k);
+        let next = case(out, s, at, k)?;
         if next == 0 {
-            return;
+            return Ok(());
         }
         at = next;
         k += 1;
     }
+    Ok(())
 }
 
-fn main() {
-    let mut input = [0u8; 16384];
-    let n = io::read_full(0, &mut input);
-    cases(&input[..n]);
+fn main(rt: HostRuntime) -> io::Result<()> {
+    let input = lines::input(&rt, 16384)?;
+    let mut out = lines::output(&rt)?;
+    cases(&mut out, &input)?;
+    out.flush()
 }

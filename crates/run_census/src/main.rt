@@ -1,39 +1,42 @@
 // A program of the gate: it takes the censuses that its input describes, and writes the refusal and the counts of each. Input and output
 // come from tools/reference/census.py, which says what the bytes mean. It stops at input that is malformed. It uses
-// layout, numbers, census and asked.
+// layout, numbers, census, asked and lines.
 #![tactic(auto)]
 
 ghost use Rattle.std.specs.Prelude.{◌+◌, ◌≤◌, length};
 
 use census::Census;
+use std::io;
+use std::io::Write;
 
 // The size of a case.
 const CASE_SIZE: usize = 98;
 
-fn number(name: &[u8], n: u64) {
-    io::write_all(1, name);
-    io::print_decimal(1, n);
+fn number(out: &mut impl Write, name: &[u8], n: u64) -> io::Result<()> {
+    out.write_all(name)?;
+    lines::decimal(out, n)
 }
 
 fn wide(n: u32) -> u64 {
     n as u64
 }
 
-fn counts(c: Census) {
+fn counts(out: &mut impl Write, c: Census) -> io::Result<()> {
     let counts = c.counts;
     let mut i: usize = 0;
     while i < 25 {
-        number(b" ", wide(counts[i]));
+        number(out, b" ", wide(counts[i]))?;
         i += 1;
     }
+    Ok(())
 }
 
-fn shown(c: Census) {
+fn shown(out: &mut impl Write, c: Census) -> io::Result<()> {
     let refusal = c.refusal;
-    number(b" refusal ", numbers::refusal_number(refusal) as u64);
-    io::write_all(1, b" counts");
-    counts(c);
-    io::write_all(1, b"\n");
+    number(out, b" refusal ", numbers::refusal_number(refusal) as u64)?;
+    out.write_all(b" counts")?;
+    counts(out, c)?;
+    out.write_all(b"\n")
 }
 
 // A signed number from its bits.
@@ -45,7 +48,7 @@ fn signed(bits: u64) -> i64 {
 }
 
 // The line of the case at a place, on an image.
-fn case_on(s: &[u8], at: usize, k: u16, image: &[u8])
+fn case_on(out: &mut impl Write, s: &[u8], at: usize, k: u16, image: &[u8]) -> io::Result<()>
     requires { at + 98 ≤ length s.now }
 {
     let r = asked::record_at(s, at);
@@ -54,48 +57,53 @@ fn case_on(s: &[u8], at: usize, k: u16, image: &[u8])
     let e = asked::edges_at(s, at + 42);
     let first = signed(layout::u64_at(s, at + 74));
     let last = signed(layout::u64_at(s, at + 82));
-    io::print_decimal(1, k as u64);
-    shown(census::census_of(r, kind, direction, e, image, first, last));
+    lines::decimal(out, k as u64)?;
+    shown(
+        out,
+        census::census_of(r, kind, direction, e, image, first, last),
+    )
 }
 
 // The case at a place; false where it is malformed.
-fn case(s: &[u8], at: usize, k: u16) -> bool
+fn case(out: &mut impl Write, s: &[u8], at: usize, k: u16) -> io::Result<bool>
     requires { at + 98 ≤ length s.now }
 {
     let from = layout::u32_at(s, at + 90) as usize;
     let size = layout::u32_at(s, at + 94) as usize;
     if s.len() < from {
-        return false;
+        return Ok(false);
     }
     if s.len() - from < size {
-        return false;
+        return Ok(false);
     }
     let end = from + size;
-    case_on(s, at, k, &s[from..end]);
-    true
+    case_on(out, s, at, k, &s[from..end])?;
+    Ok(true)
 }
 
 // The cases of the input, in their order.
-fn cases(s: &[u8]) {
+fn cases(out: &mut impl Write, s: &[u8]) -> io::Result<()> {
     if s.len() < 2 {
-        return;
+        return Ok(());
     }
     let count = layout::u16_at(s, 0);
     let mut k: u16 = 0;
     while k < count {
         let at = 2 + CASE_SIZE * k as usize;
         if s.len() < at + CASE_SIZE {
-            return;
+            return Ok(());
         }
-        if !case(s, at, k) {
-            return;
+        if !case(out, s, at, k)? {
+            return Ok(());
         }
         k += 1;
     }
+    Ok(())
 }
 
-fn main() {
-    let mut input = [0u8; 65536];
-    let n = io::read_full(0, &mut input);
-    cases(&input[..n]);
+fn main(rt: HostRuntime) -> io::Result<()> {
+    let input = lines::input(&rt, 65536)?;
+    let mut out = lines::output(&rt)?;
+    cases(&mut out, &input)?;
+    out.flush()
 }

@@ -1,12 +1,14 @@
 // A program of the gate: it writes, raises and lowers the images that its input describes, and writes what each call answers and every byte
 // that was lent, or two sums of them where they are many. Input and output come from tools/reference/editions.py, which says what the bytes
 // mean. It stops at input that is malformed. It uses figures, layout, given, writer,
-// convert and told.
+// convert, told and lines.
 #![tactic(auto)]
 
 ghost use Rattle.std.specs.Prelude.{◌+◌, ◌≤◌, length};
 
 use given::Fields;
+use std::io;
+use std::io::Write;
 
 // The most bytes lent, and what they hold before.
 const ROOM: usize = 65600;
@@ -86,6 +88,7 @@ fn fields_of(s: &[u8]) -> Fields
 
 // The writer's call, with the runs in arrays made for them.
 fn given_in(
+    out: &mut impl Write,
     s: &[u8],
     codes_at: usize,
     rules_at: usize,
@@ -93,7 +96,7 @@ fn given_in(
     figures: &mut [f64],
     rules: &mut [u16],
     lent: &mut [u8],
-)
+) -> io::Result<()>
     requires { (100 ≤ codes_at) × (codes_at ≤ rules_at) × (rules_at ≤ end) × (end ≤ length s.now) }
 {
     let mut counts = [0u16; 9];
@@ -108,32 +111,33 @@ fn given_in(
         rules,
         lent,
     );
-    told::told(a, lent);
+    told::told(out, a, lent)
 }
 
 // A writer's case; false where it is malformed.
-fn written(s: &[u8], lent: &mut [u8]) -> bool {
+fn written(out: &mut impl Write, s: &[u8], lent: &mut [u8]) -> io::Result<bool> {
     if s.len() < HEAD {
-        return false;
+        return Ok(false);
     }
     let figure_count = layout::u16_at(s, 94) as usize;
     let code_count = layout::u16_at(s, 96) as usize;
     let rule_count = layout::u16_at(s, 98) as usize;
     if FIGURES < figure_count {
-        return false;
+        return Ok(false);
     }
     if RULES < rule_count {
-        return false;
+        return Ok(false);
     }
     let codes_at = HEAD + 8 * figure_count;
     let rules_at = codes_at + code_count;
     let end = rules_at + 2 * rule_count;
     if s.len() < end {
-        return false;
+        return Ok(false);
     }
     let mut figures = [0.0f64; FIGURES];
     let mut rules = [0u16; RULES];
     given_in(
+        out,
         s,
         codes_at,
         rules_at,
@@ -141,77 +145,79 @@ fn written(s: &[u8], lent: &mut [u8]) -> bool {
         &mut figures[0..figure_count],
         &mut rules[0..rule_count],
         lent,
-    );
-    true
+    )?;
+    Ok(true)
 }
 
 // By the call: 0 writes, 1 raises, 2 lowers.
-fn asked(call: u8, body: &[u8], lent: &mut [u8]) -> bool {
+fn asked(out: &mut impl Write, call: u8, body: &[u8], lent: &mut [u8]) -> io::Result<bool> {
     match call {
-        0 => written(body, lent),
+        0 => written(out, body, lent),
         1 => {
             let a = convert::raise(body, lent);
-            told::told(a, lent);
-            true
+            told::told(out, a, lent)?;
+            Ok(true)
         }
         _ => {
             let a = convert::lower(body, lent);
-            told::told(a, lent);
-            true
+            told::told(out, a, lent)?;
+            Ok(true)
         }
     }
 }
 
-fn case(s: &[u8], at: usize, k: u16) -> Next {
+fn case(out: &mut impl Write, s: &[u8], at: usize, k: u16) -> io::Result<Next> {
     if s.len() < 9 {
-        return Next::Malformed;
+        return Ok(Next::Malformed);
     }
     if s.len() - 9 < at {
-        return Next::Malformed;
+        return Ok(Next::Malformed);
     }
     let call = layout::byte_at(s, at);
     let room = layout::u32_at(s, at + 1) as usize;
     let size = layout::u32_at(s, at + 5) as usize;
     if ROOM < room {
-        return Next::Malformed;
+        return Ok(Next::Malformed);
     }
     let start = at + 9;
     if s.len() - start < size {
-        return Next::Malformed;
+        return Ok(Next::Malformed);
     }
     let end = start + size;
-    io::print_decimal(1, k as u64);
+    lines::decimal(out, k as u64)?;
     let mut lent = [FILL; ROOM];
-    if asked(call, &s[start..end], &mut lent[0..room]) {
-        Next::At(end)
+    if asked(out, call, &s[start..end], &mut lent[0..room])? {
+        Ok(Next::At(end))
     } else {
-        Next::Malformed
+        Ok(Next::Malformed)
     }
 }
 
 // The cases of the input, in their order.
-fn cases(s: &[u8]) {
+fn cases(out: &mut impl Write, s: &[u8]) -> io::Result<()> {
     if s.len() < 2 {
-        return;
+        return Ok(());
     }
     let count = layout::u16_at(s, 0);
     let mut at: usize = 2;
     let mut k: u16 = 0;
     while k < count {
-        match case(s, at, k) {
+        match case(out, s, at, k)? {
             Next::At(next) => {
                 at = next;
             }
             Next::Malformed => {
-                return;
+                return Ok(());
             }
         }
         k += 1;
     }
+    Ok(())
 }
 
-fn main() {
-    let mut input = [0u8; 524288];
-    let n = io::read_full(0, &mut input);
-    cases(&input[..n]);
+fn main(rt: HostRuntime) -> io::Result<()> {
+    let input = lines::input(&rt, 524288)?;
+    let mut out = lines::output(&rt)?;
+    cases(&mut out, &input)?;
+    out.flush()
 }

@@ -1,7 +1,7 @@
 // A program of the gate: the fresh record, byte by byte, what it answers under Rules, and the dial lists that are drawn from it, with its
 // own margins and region, with those of a caller that passes 0 and 0 itself, and with two margins that differ. The practice table's image
-// is on standard input; what it must write, the file `stdout` beside src/, is from tools/reference/fresh.py. It uses air, bytes, profile,
-// occupancy, station, verdict, dials and numbers.
+// is on standard input; what it must write, the file `stdout` beside src/, is from tools/reference/fresh.py. It uses air, byte_writes, profile,
+// occupancy, station, verdict, dials, numbers and lines.
 #![tactic(auto)]
 
 use air::Margins;
@@ -9,6 +9,8 @@ use dials::DialList;
 use occupancy::Edges;
 use profile::Range;
 use station::StationRecord;
+use std::io;
+use std::io::Write;
 
 const LENT: usize = 144;
 
@@ -25,27 +27,27 @@ fn edges_of() -> Edges {
     }
 }
 
-fn number(name: &[u8], n: u64) {
-    io::write_all(1, name);
-    io::write_all(1, b" ");
-    io::print_decimal(1, n);
-    io::write_all(1, b"\n");
+fn number(out: &mut impl Write, name: &[u8], n: u64) -> io::Result<()> {
+    out.write_all(name)?;
+    out.write_all(b" ")?;
+    lines::decimal(out, n)?;
+    out.write_all(b"\n")
 }
 
 // Every byte of a record; figures by their bits.
-fn record(s: StationRecord) {
-    number(b"policy", s.policy as u64);
-    number(b"control", s.control as u64);
-    number(b"license", s.license as u64);
-    number(b"sideband", s.sideband as u64);
-    number(b"region", s.itu_region as u64);
-    number(b"plan", s.band_plan as u64);
-    number(b"dial known", s.dial_known as u64);
-    number(b"power known", s.power_known as u64);
-    number(b"lower margin", byte_writes::bits(s.margin.lower_hz));
-    number(b"upper margin", byte_writes::bits(s.margin.upper_hz));
-    number(b"dial", byte_writes::bits(s.dial_hz));
-    number(b"power", byte_writes::bits(s.power_w));
+fn record(out: &mut impl Write, s: StationRecord) -> io::Result<()> {
+    number(out, b"policy", s.policy as u64)?;
+    number(out, b"control", s.control as u64)?;
+    number(out, b"license", s.license as u64)?;
+    number(out, b"sideband", s.sideband as u64)?;
+    number(out, b"region", s.itu_region as u64)?;
+    number(out, b"plan", s.band_plan as u64)?;
+    number(out, b"dial known", s.dial_known as u64)?;
+    number(out, b"power known", s.power_known as u64)?;
+    number(out, b"lower margin", byte_writes::bits(s.margin.lower_hz))?;
+    number(out, b"upper margin", byte_writes::bits(s.margin.upper_hz))?;
+    number(out, b"dial", byte_writes::bits(s.dial_hz))?;
+    number(out, b"power", byte_writes::bits(s.power_w))
 }
 
 // A fresh record with a region and margins.
@@ -85,14 +87,14 @@ fn set_up(s: StationRecord, control: u8, license: u8, sideband: u8) -> StationRe
 }
 
 // Verdict and code of data.
-fn judged(name: &[u8], s: StationRecord, image: &[u8]) {
+fn judged(out: &mut impl Write, name: &[u8], s: StationRecord, image: &[u8]) -> io::Result<()> {
     let d = verdict::evaluate(s, 0, 0, edges_of(), image);
     let v = d.verdict;
     let c = d.code;
-    io::write_all(1, name);
-    number(b": verdict", numbers::verdict_number(v) as u64);
-    io::write_all(1, name);
-    number(b": code", numbers::code_number(c) as u64);
+    out.write_all(name)?;
+    number(out, b": verdict", numbers::verdict_number(v) as u64)?;
+    out.write_all(name)?;
+    number(out, b": code", numbers::code_number(c) as u64)
 }
 
 fn wide(b: u8) -> u64 {
@@ -100,39 +102,37 @@ fn wide(b: u8) -> u64 {
 }
 
 // The bytes that a list leaves.
-fn shown(rows: &[u8]) {
+fn shown(out: &mut impl Write, rows: &[u8]) -> io::Result<()> {
     let mut i: usize = 0;
     while i < rows.len() {
-        io::print_decimal(1, wide(rows[i]));
+        lines::decimal(out, wide(rows[i]))?;
         i += 1;
         if i % 36 == 0 {
-            io::write_all(1, b"\n");
+            out.write_all(b"\n")?;
         } else {
-            io::write_all(1, b" ");
+            out.write_all(b" ")?;
         }
     }
+    Ok(())
 }
 
-fn listed(name: &[u8], s: StationRecord, image: &[u8]) {
+fn listed(out: &mut impl Write, name: &[u8], s: StationRecord, image: &[u8]) -> io::Result<()> {
     let mut rows = [FILL; LENT];
-    io::write_all(1, name);
+    out.write_all(name)?;
     match dials::safe_dials(s, 0, edges_of(), image, &mut rows) {
         DialList::Rows(n) => {
-            number(b": rows", n as u64);
+            number(out, b": rows", n as u64)?;
         }
         DialList::Refused(n) => {
-            number(b": refusal", n as u64);
+            number(out, b": refusal", n as u64)?;
         }
     }
-    shown(&rows);
+    shown(out, &rows)
 }
 
-fn main() {
-    let mut input = [0u8; 1024];
-    let n = io::read_full(0, &mut input);
-    let image = &input[..n];
+fn cases(out: &mut impl Write, image: &[u8]) -> io::Result<()> {
     let fresh = station::fresh();
-    record(fresh);
+    record(out, fresh)?;
     let old = with(
         0,
         Margins {
@@ -147,24 +147,44 @@ fn main() {
             upper_hz: 450.0,
         },
     );
-    judged(b"fresh", fresh, image);
-    judged(b"fresh under Rules", set_up(fresh, 255, 255, 255), image);
+    judged(out, b"fresh", fresh, image)?;
     judged(
+        out,
+        b"fresh under Rules",
+        set_up(fresh, 255, 255, 255),
+        image,
+    )?;
+    judged(
+        out,
         b"region 0 and margin 0 under Rules",
         set_up(old, 255, 255, 255),
         image,
-    );
-    listed(b"fresh", fresh, image);
-    listed(b"fresh, set up", set_up(fresh, 0, 2, 0), image);
+    )?;
+    listed(out, b"fresh", fresh, image)?;
+    listed(out, b"fresh, set up", set_up(fresh, 0, 2, 0), image)?;
     listed(
+        out,
         b"region 0 and margin 0, set up",
         set_up(old, 0, 2, 0),
         image,
-    );
-    listed(b"margins 25 and 450, set up", set_up(apart, 0, 2, 0), image);
+    )?;
     listed(
+        out,
+        b"margins 25 and 450, set up",
+        set_up(apart, 0, 2, 0),
+        image,
+    )?;
+    listed(
+        out,
         b"margins 25 and 450, lower sideband",
         set_up(apart, 0, 2, 1),
         image,
-    );
+    )
+}
+
+fn main(rt: HostRuntime) -> io::Result<()> {
+    let input = lines::input(&rt, 1024)?;
+    let mut out = lines::output(&rt)?;
+    cases(&mut out, &input)?;
+    out.flush()
 }

@@ -1,10 +1,12 @@
 // A program of the gate: it builds the images that its input describes and writes what the check and the tidy question
 // answer of each, and where the table is wrong. Input and output come from tools/reference/borders.py, which says what
-// the bytes mean. It stops at input that is malformed. It uses codes, layout, image, tidy and fault.
+// the bytes mean. It stops at input that is malformed. It uses codes, layout, image, tidy, fault and lines.
 #![tactic(auto)]
 
 use codes::Checked;
 use fault::Fault;
+use std::io;
+use std::io::Write;
 use tidy::Tidiness;
 
 // The largest image of the input.
@@ -114,78 +116,87 @@ fn tidy_number(t: Tidiness) -> u64 {
 }
 
 // The place of a refusal: its number, and a record's table and index.
-fn print_fault(f: Fault) {
-    io::print_decimal(1, fault::fault_number(f) as u64);
+fn print_fault(out: &mut impl Write, f: Fault) -> io::Result<()> {
+    lines::decimal(out, fault::fault_number(f) as u64)?;
     if let Fault::InRecord(t, i) = f {
-        io::write_all(1, b" ");
-        io::print_decimal(1, t as u64);
-        io::write_all(1, b" ");
-        io::print_decimal(1, i as u64);
+        out.write_all(b" ")?;
+        lines::decimal(out, t as u64)?;
+        out.write_all(b" ")?;
+        lines::decimal(out, i as u64)?;
     }
+    Ok(())
 }
 
 // The line of a case.
-fn report(number: u16, image: &[u8]) {
-    io::print_decimal(1, number as u64);
-    io::write_all(1, b" check ");
-    io::print_decimal(1, checked_number(image::check(image)));
-    io::write_all(1, b" tidy ");
-    io::print_decimal(1, tidy_number(tidy::is_tidy(image)));
-    io::write_all(1, b" fault ");
+fn report(out: &mut impl Write, number: u16, image: &[u8]) -> io::Result<()> {
+    lines::decimal(out, number as u64)?;
+    out.write_all(b" check ")?;
+    lines::decimal(out, checked_number(image::check(image)))?;
+    out.write_all(b" tidy ")?;
+    lines::decimal(out, tidy_number(tidy::is_tidy(image)))?;
+    out.write_all(b" fault ")?;
     let answer = fault::fault_of(image);
     let f = answer.fault;
-    print_fault(f);
-    io::write_all(1, b"\n");
+    print_fault(out, f)?;
+    out.write_all(b"\n")
 }
 
 // One case of the input, on an image of zeros.
-fn case_on(image: &mut [u8], s: &[u8], at: usize, number: u16) -> Next {
+fn case_on(
+    out: &mut impl Write,
+    image: &mut [u8],
+    s: &[u8],
+    at: usize,
+    number: u16,
+) -> io::Result<Next> {
     if s.len() < 6 {
-        return Next::Malformed;
+        return Ok(Next::Malformed);
     }
     if s.len() - 6 < at {
-        return Next::Malformed;
+        return Ok(Next::Malformed);
     }
     let length = layout::u32_at(s, at) as usize;
     let count = layout::u16_at(s, at + 4);
     if image.len() < length {
-        return Next::Malformed;
+        return Ok(Next::Malformed);
     }
     let next = patches(&mut image[..length], s, at + 6, count);
     if let Next::At(_) = next {
-        report(number, &image[..length]);
+        report(out, number, &image[..length])?;
     }
-    next
+    Ok(next)
 }
 
-fn case(s: &[u8], at: usize, number: u16) -> Next {
+fn case(out: &mut impl Write, s: &[u8], at: usize, number: u16) -> io::Result<Next> {
     let mut image = [0u8; LARGEST];
-    case_on(&mut image, s, at, number)
+    case_on(out, &mut image, s, at, number)
 }
 
 // The cases of the input, in their order.
-fn cases(s: &[u8]) {
+fn cases(out: &mut impl Write, s: &[u8]) -> io::Result<()> {
     if s.len() < 2 {
-        return;
+        return Ok(());
     }
     let count = layout::u16_at(s, 0);
     let mut at: usize = 2;
     let mut k: u16 = 0;
     while k < count {
-        match case(s, at, k) {
+        match case(out, s, at, k)? {
             Next::At(next) => {
                 at = next;
             }
             Next::Malformed => {
-                return;
+                return Ok(());
             }
         }
         k += 1;
     }
+    Ok(())
 }
 
-fn main() {
-    let mut input = [0u8; 524288];
-    let n = io::read_full(0, &mut input);
-    cases(&input[..n]);
+fn main(rt: HostRuntime) -> io::Result<()> {
+    let input = lines::input(&rt, 524288)?;
+    let mut out = lines::output(&rt)?;
+    cases(&mut out, &input)?;
+    out.flush()
 }

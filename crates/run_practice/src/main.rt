@@ -1,6 +1,6 @@
 // Runs the unstarred cases of document 01's practice table, whose image is on standard input: verdict and code on 60 m for
 // a test emission, at 100 W and at 100.125 W, and the ceiling of no rungs. It uses air, profile,
-// occupancy, station, verdict, ceiling and numbers.
+// occupancy, station, verdict, ceiling, numbers and lines.
 #![tactic(auto)]
 
 use air::Margins;
@@ -8,6 +8,8 @@ use ceiling::Rung;
 use occupancy::Edges;
 use profile::Range;
 use station::StationRecord;
+use std::io;
+use std::io::Write;
 
 // Region 2, General, local, upper sideband, margins 50 and 50, at 5,330,550, with a power that may be absent.
 fn station_of(power_known: u8, power_w: f64) -> StationRecord {
@@ -41,20 +43,26 @@ fn edges_of() -> Edges {
 }
 
 // Verdict and code of a transmission of a kind.
-fn judged(name: &[u8], s: StationRecord, kind: u8, image: &[u8]) {
+fn judged(
+    out: &mut impl Write,
+    name: &[u8],
+    s: StationRecord,
+    kind: u8,
+    image: &[u8],
+) -> io::Result<()> {
     let d = verdict::evaluate(s, kind, 0, edges_of(), image);
     let v = d.verdict;
     let c = d.code;
-    io::write_all(1, name);
-    io::write_all(1, b" verdict ");
-    io::print_decimal(1, numbers::verdict_number(v) as u64);
-    io::write_all(1, b" code ");
-    io::print_decimal(1, numbers::code_number(c) as u64);
-    io::write_all(1, b"\n");
+    out.write_all(name)?;
+    out.write_all(b" verdict ")?;
+    lines::decimal(out, numbers::verdict_number(v) as u64)?;
+    out.write_all(b" code ")?;
+    lines::decimal(out, numbers::code_number(c) as u64)?;
+    out.write_all(b"\n")
 }
 
 // The ceiling of no rungs.
-fn no_rungs(s: StationRecord, image: &[u8]) {
+fn no_rungs(out: &mut impl Write, s: StationRecord, image: &[u8]) -> io::Result<()> {
     let rungs = [0.0f64; 1];
     let floors = [0u8; 1];
     let a = ceiling::ceiling(
@@ -67,32 +75,34 @@ fn no_rungs(s: StationRecord, image: &[u8]) {
         &floors[..0],
     );
     let rung = a.rung;
-    io::write_all(1, b"no rungs: rung ");
+    out.write_all(b"no rungs: rung ")?;
     match rung {
         Rung::Fastest(_) => {
-            io::write_all(1, b"some");
+            out.write_all(b"some")?;
         }
         Rung::NoRung => {
-            io::write_all(1, b"none");
+            out.write_all(b"none")?;
         }
     }
     if a.limited {
-        io::write_all(1, b" limit some\n");
+        out.write_all(b" limit some\n")?;
     } else {
-        io::write_all(1, b" limit none\n");
+        out.write_all(b" limit none\n")?;
     }
+    Ok(())
 }
 
-fn cases(image: &[u8]) {
-    judged(b"data at 5330550", station_of(0, 0.0), 0, image);
-    judged(b"test at 5330550", station_of(0, 0.0), 2, image);
-    judged(b"data at 100 W", station_of(1, 100.0), 0, image);
-    judged(b"data at 100.125 W", station_of(1, 100.125), 0, image);
-    no_rungs(station_of(0, 0.0), image);
+fn cases(out: &mut impl Write, image: &[u8]) -> io::Result<()> {
+    judged(out, b"data at 5330550", station_of(0, 0.0), 0, image)?;
+    judged(out, b"test at 5330550", station_of(0, 0.0), 2, image)?;
+    judged(out, b"data at 100 W", station_of(1, 100.0), 0, image)?;
+    judged(out, b"data at 100.125 W", station_of(1, 100.125), 0, image)?;
+    no_rungs(out, station_of(0, 0.0), image)
 }
 
-fn main() {
-    let mut input = [0u8; 1024];
-    let n = io::read_full(0, &mut input);
-    cases(&input[..n]);
+fn main(rt: HostRuntime) -> io::Result<()> {
+    let input = lines::input(&rt, 1024)?;
+    let mut out = lines::output(&rt)?;
+    cases(&mut out, &input)?;
+    out.flush()
 }

@@ -2,12 +2,15 @@
 // calls answer otherwise, then how many there were. The input, the file `stdin` beside src/, was written by
 // `compare/run --replay crates/run_replay/stdin --seed 1`: verdicts, ceilings, dial lists and texts as the Rust answers them, but for
 // those on 60 m that document 02, 4 changed, refusals, distances and the parts that the Rust has only as words as the papers give
-// them. compare/src/replay.rs says what the bytes mean, and makes sure that every code and every refusal of each call is there. It uses figures, layout,
-// flat and pamuklid.
+// them. compare/src/replay.rs says what the bytes mean, and makes sure that every code and every refusal of each call is there. It uses figures,
+// layout, flat, pamuklid and lines.
 #![tactic(auto)]
 
 use flat::{FlatCeiling, FlatDecision, FlatEdges, FlatStation};
 use flat_answers::{FlatDistance, FlatText};
+use std::alloc::Global;
+use std::io;
+use std::io::{Input, Read, Write};
 
 // The largest image with its cases.
 const LARGEST: usize = 163840;
@@ -534,14 +537,14 @@ fn case(s: &[u8], at: usize, image: &[u8]) -> Told {
 }
 
 // A case that differs.
-fn report(page: u32, k: u32, call: u8) {
-    io::write_all(1, b"image ");
-    io::print_decimal(1, page as u64);
-    io::write_all(1, b" case ");
-    io::print_decimal(1, k as u64);
-    io::write_all(1, b" call ");
-    io::print_decimal(1, call as u64);
-    io::write_all(1, b" differs\n");
+fn report(out: &mut impl Write, page: u32, k: u32, call: u8) -> io::Result<()> {
+    out.write_all(b"image ")?;
+    lines::decimal(out, page as u64)?;
+    out.write_all(b" case ")?;
+    lines::decimal(out, k as u64)?;
+    out.write_all(b" call ")?;
+    lines::decimal(out, call as u64)?;
+    out.write_all(b" differs\n")
 }
 
 // The cases on an image: how many, how many of them differ, and whether they were well formed.
@@ -560,47 +563,54 @@ fn stopped(cases: u32, wrong: u32) -> Tally {
     }
 }
 
-fn cases(s: &[u8], start: usize, count: u32, number: u32, image: &[u8]) -> Tally {
+fn cases(
+    out: &mut impl Write,
+    s: &[u8],
+    start: usize,
+    count: u32,
+    number: u32,
+    image: &[u8],
+) -> io::Result<Tally> {
     let mut at = start;
     let mut wrong: u32 = 0;
     let mut k: u32 = 0;
     while k < count {
         if 1000000 < wrong {
-            return stopped(k, wrong);
+            return Ok(stopped(k, wrong));
         }
         match case(s, at, image) {
             Told::Agrees(next) => {
                 at = next;
             }
             Told::Differs(next) => {
-                report(number, k, byte(s, at));
+                report(out, number, k, byte(s, at))?;
                 wrong += 1;
                 at = next;
             }
             Told::Malformed => {
-                return stopped(k, wrong);
+                return Ok(stopped(k, wrong));
             }
         }
         k += 1;
     }
-    Tally {
+    Ok(Tally {
         cases: count,
         wrong,
         sound: at == s.len(),
-    }
+    })
 }
 
 // An image, and the cases on it.
-fn page(s: &[u8], number: u32) -> Tally {
+fn page(out: &mut impl Write, s: &[u8], number: u32) -> io::Result<Tally> {
     if s.len() < 8 {
-        return stopped(0, 0);
+        return Ok(stopped(0, 0));
     }
     let n = long(s, 0) as usize;
     if s.len() - 8 < n {
-        return stopped(0, 0);
+        return Ok(stopped(0, 0));
     }
     let end = 4 + n;
-    cases(s, end + 4, long(s, end), number, &s[4..end])
+    cases(out, s, end + 4, long(s, end), number, &s[4..end])
 }
 
 // The number of four bytes of the input, or that it has ended.
@@ -610,92 +620,109 @@ enum Size {
     Ended,
 }
 
-fn size_read() -> Size {
-    let mut head = [0u8; 4];
-    let n = io::read_full(0, &mut head);
-    if n == 4 {
-        Size::Is(long(&head, 0))
+fn size_read(alloc: Global, from: &mut impl Read) -> io::Result<Size> {
+    let head = lines::read(alloc, from, 4)?;
+    if head.len() == 4 {
+        Ok(Size::Is(long(&head, 0)))
     } else {
-        Size::Ended
+        Ok(Size::Ended)
     }
 }
 
-// The next image of the input with its cases, which fill the room for them.
-fn page_in(room: &mut [u8], number: u32) -> Tally {
-    let n = io::read_full(0, room);
-    if n == room.len() {
-        page(room, number)
+// The next image of the input with its cases, which are so many bytes.
+fn page_in(
+    alloc: Global,
+    from: &mut impl Read,
+    out: &mut impl Write,
+    size: usize,
+    number: u32,
+) -> io::Result<Tally> {
+    let room = lines::read(alloc, from, size as u64)?;
+    if room.len() == size {
+        page(out, &room, number)
     } else {
-        stopped(0, 0)
+        Ok(stopped(0, 0))
     }
 }
 
-fn next_page(size: usize, number: u32) -> Tally {
+fn next_page(
+    alloc: Global,
+    from: &mut impl Read,
+    out: &mut impl Write,
+    size: usize,
+    number: u32,
+) -> io::Result<Tally> {
     if LARGEST < size {
-        return stopped(0, 0);
+        return Ok(stopped(0, 0));
     }
-    let mut input = [0u8; LARGEST];
-    page_in(&mut input[0..size], number)
+    page_in(alloc, from, out, size, number)
 }
 
-fn next(number: u32) -> Tally {
-    match size_read() {
-        Size::Is(size) => next_page(size as usize, number),
-        Size::Ended => stopped(0, 0),
+fn next(
+    alloc: Global,
+    from: &mut impl Read,
+    out: &mut impl Write,
+    number: u32,
+) -> io::Result<Tally> {
+    match size_read(alloc, from)? {
+        Size::Is(size) => next_page(alloc, from, out, size as usize, number),
+        Size::Ended => Ok(stopped(0, 0)),
     }
 }
 
 // Whether the input has ended.
-fn at_end() -> bool {
-    let mut rest = [0u8; 1];
-    io::read_full(0, &mut rest) == 0
+fn at_end(alloc: Global, from: &mut impl Read) -> io::Result<bool> {
+    let rest = lines::read(alloc, from, 1)?;
+    Ok(rest.is_empty())
 }
 
 // What the whole input says, in a line.
-fn summary(cases: u64, wrong: u64, whole: bool) {
-    io::print_decimal(1, cases);
+fn summary(out: &mut impl Write, cases: u64, wrong: u64, whole: bool) -> io::Result<()> {
+    lines::decimal(out, cases)?;
     if !whole {
-        io::write_all(1, b" cases, then the input is malformed\n");
-        return;
+        out.write_all(b" cases, then the input is malformed\n")?;
+        return Ok(());
     }
     if wrong == 0 {
-        io::write_all(1, b" cases agree\n");
-        return;
+        out.write_all(b" cases agree\n")?;
+        return Ok(());
     }
-    io::write_all(1, b" cases, of which differ ");
-    io::print_decimal(1, wrong);
-    io::write_all(1, b"\n");
+    out.write_all(b" cases, of which differ ")?;
+    lines::decimal(out, wrong)?;
+    out.write_all(b"\n")
 }
 
 // The images of the input, in their order.
-fn pages(count: u32) {
+fn pages(alloc: Global, from: &mut impl Read, out: &mut impl Write, count: u32) -> io::Result<()> {
     let mut total: u64 = 0;
     let mut wrong: u64 = 0;
     let mut k: u32 = 0;
     while k < count {
         if 1000000 < total {
-            summary(total, wrong, false);
-            return;
+            return summary(out, total, wrong, false);
         }
         if 1000000 < wrong {
-            summary(total, wrong, false);
-            return;
+            return summary(out, total, wrong, false);
         }
-        let t = next(k);
+        let t = next(alloc, from, out, k)?;
         total += t.cases as u64;
         wrong += t.wrong as u64;
         if !t.sound {
-            summary(total, wrong, false);
-            return;
+            return summary(out, total, wrong, false);
         }
         k += 1;
     }
-    summary(total, wrong, at_end());
+    let whole = at_end(alloc, from)?;
+    summary(out, total, wrong, whole)
 }
 
-fn main() {
-    match size_read() {
-        Size::Is(n) => pages(n),
-        Size::Ended => summary(0, 0, false),
+fn main(rt: HostRuntime) -> io::Result<()> {
+    let alloc = rt.alloc();
+    let mut from = rt.reader();
+    let mut out = lines::output(&rt)?;
+    match size_read(alloc, &mut from)? {
+        Size::Is(n) => pages(alloc, &mut from, &mut out, n)?,
+        Size::Ended => summary(&mut out, 0, 0, false)?,
     }
+    out.flush()
 }

@@ -1,6 +1,6 @@
 // A program of the gate: it reads the station records that its input describes and writes the refusal of each, or what
 // it is read as. Input and output come from tools/reference/borders.py, which says what the bytes mean. It stops at
-// input that is malformed. It uses figures, codes, air, layout and station.
+// input that is malformed. It uses figures, codes, air, layout, station and lines.
 #![tactic(auto)]
 
 ghost use Rattle.std.specs.Prelude.{◌+◌, ◌≤◌, length};
@@ -8,6 +8,8 @@ ghost use Rattle.std.specs.Prelude.{◌+◌, ◌≤◌, length};
 use air::Margins;
 use codes::{Checked, Control, ControlMode, Direction, License, Policy, Sideband, SidebandSet};
 use station::{Figure, Situation, StationRecord};
+use std::io;
+use std::io::Write;
 
 // The size of a case.
 const CASE_SIZE: usize = 43;
@@ -70,64 +72,77 @@ fn bits_of(x: f64) -> u64 {
     f64::to_bits(x)
 }
 
-fn print_number(name: &[u8], n: u64) {
-    io::write_all(1, name);
-    io::print_decimal(1, n);
+fn print_number(out: &mut impl Write, name: &[u8], n: u64) -> io::Result<()> {
+    out.write_all(name)?;
+    lines::decimal(out, n)
 }
 
-fn print_figure(name: &[u8], f: Figure) {
-    io::write_all(1, name);
+fn print_figure(out: &mut impl Write, name: &[u8], f: Figure) -> io::Result<()> {
+    out.write_all(name)?;
     match f {
         Figure::Known(x) => {
-            io::print_hex(1, bits_of(x), 16);
+            lines::hex(out, bits_of(x), 16)?;
         }
         Figure::Absent => {
-            io::write_all(1, b"absent");
+            out.write_all(b"absent")?;
         }
     }
+    Ok(())
 }
 
-fn print_codes(x: Situation) {
+fn print_codes(out: &mut impl Write, x: Situation) -> io::Result<()> {
     let policy = x.policy;
     let control = x.control;
     let license = x.license;
     let sideband = x.sideband;
-    print_number(b"policy ", policy_number(policy));
-    print_number(b" control ", control_number(control));
-    print_number(b" license ", license_number(license));
-    print_number(b" sideband ", sideband_number(sideband));
-    print_number(b" region ", x.itu_region as u64);
-    print_number(b" plan ", mark_number(x.band_plan));
+    print_number(out, b"policy ", policy_number(policy))?;
+    print_number(out, b" control ", control_number(control))?;
+    print_number(out, b" license ", license_number(license))?;
+    print_number(out, b" sideband ", sideband_number(sideband))?;
+    print_number(out, b" region ", x.itu_region as u64)?;
+    print_number(out, b" plan ", mark_number(x.band_plan))
 }
 
-fn print_figures(x: Situation) {
+fn print_figures(out: &mut impl Write, x: Situation) -> io::Result<()> {
     let dial = x.dial;
     let power = x.power;
-    print_figure(b" dial ", dial);
-    print_figure(b" power ", power);
-    print_figure(b" lower ", Figure::Known(x.margin.lower_hz));
-    print_figure(b" upper ", Figure::Known(x.margin.upper_hz));
+    print_figure(out, b" dial ", dial)?;
+    print_figure(out, b" power ", power)?;
+    print_figure(out, b" lower ", Figure::Known(x.margin.lower_hz))?;
+    print_figure(out, b" upper ", Figure::Known(x.margin.upper_hz))
 }
 
-fn print_beside(direction: u8, kind: u8) {
+fn print_beside(out: &mut impl Write, direction: u8, kind: u8) -> io::Result<()> {
     print_number(
+        out,
         b" direction ",
         direction_number(codes::direction_of(direction)),
-    );
-    print_number(b" kind ", codes::kind_code(codes::kind_of(kind)) as u64);
+    )?;
+    print_number(
+        out,
+        b" kind ",
+        codes::kind_code(codes::kind_of(kind)) as u64,
+    )
 }
 
 // What follows a case's number in its line.
-fn report(r: StationRecord, direction: u8, kind: u8, image: &[u8]) {
+fn report(
+    out: &mut impl Write,
+    r: StationRecord,
+    direction: u8,
+    kind: u8,
+    image: &[u8],
+) -> io::Result<()> {
     match station::refusals(r, codes::direction_valid(direction) && kind <= 3, image) {
-        Checked::Refused(n) => print_number(b"refused ", n as u64),
+        Checked::Refused(n) => print_number(out, b"refused ", n as u64)?,
         Checked::Accepted => {
             let x = station::situation_of(r);
-            print_codes(x);
-            print_figures(x);
-            print_beside(direction, kind);
+            print_codes(out, x)?;
+            print_figures(out, x)?;
+            print_beside(out, direction, kind)?;
         }
     }
+    Ok(())
 }
 
 // The station record of a case.
@@ -153,7 +168,7 @@ fn record_at(s: &[u8], at: usize) -> StationRecord
 }
 
 // The line of the case at a place; false where it is malformed.
-fn case(s: &[u8], at: usize, number: u16) -> bool
+fn case(out: &mut impl Write, s: &[u8], at: usize, number: u16) -> io::Result<bool>
     requires { at + 43 ≤ length s.now }
 {
     let r = record_at(s, at);
@@ -162,36 +177,38 @@ fn case(s: &[u8], at: usize, number: u16) -> bool
     let image = [0u8; 1];
     let n = layout::byte_at(s, at + 42) as usize;
     if 1 < n {
-        return false;
+        return Ok(false);
     }
-    io::print_decimal(1, number as u64);
-    io::write_all(1, b" ");
-    report(r, direction, kind, &image[..n]);
-    io::write_all(1, b"\n");
-    true
+    lines::decimal(out, number as u64)?;
+    out.write_all(b" ")?;
+    report(out, r, direction, kind, &image[..n])?;
+    out.write_all(b"\n")?;
+    Ok(true)
 }
 
 // The cases of the input, in their order.
-fn cases(s: &[u8]) {
+fn cases(out: &mut impl Write, s: &[u8]) -> io::Result<()> {
     if s.len() < 2 {
-        return;
+        return Ok(());
     }
     let count = layout::u16_at(s, 0);
     let mut k: u16 = 0;
     while k < count {
         let at = 2 + CASE_SIZE * k as usize;
         if s.len() < at + CASE_SIZE {
-            return;
+            return Ok(());
         }
-        if !case(s, at, k) {
-            return;
+        if !case(out, s, at, k)? {
+            return Ok(());
         }
         k += 1;
     }
+    Ok(())
 }
 
-fn main() {
-    let mut input = [0u8; 163840];
-    let n = io::read_full(0, &mut input);
-    cases(&input[..n]);
+fn main(rt: HostRuntime) -> io::Result<()> {
+    let input = lines::input(&rt, 163840)?;
+    let mut out = lines::output(&rt)?;
+    cases(&mut out, &input)?;
+    out.flush()
 }

@@ -1,6 +1,6 @@
 // A program of the gate: it makes the calls that its input describes, of walks and swaps, and writes the answer and the state of each.
 // Input and output come from tools/reference/walk.py, which says what the bytes mean. What is not in its input reads as nought. It uses
-// figures, profile, occupancy, air, station, layout, numbers, ceiling and walk.
+// figures, profile, occupancy, air, station, layout, numbers, ceiling, walk and lines.
 #![tactic(auto)]
 
 ghost use Rattle.std.specs.Prelude.{◌≤◌};
@@ -10,6 +10,8 @@ use ceiling::Rung;
 use occupancy::Edges;
 use profile::Range;
 use station::StationRecord;
+use std::io;
+use std::io::Write;
 use walk::{WalkAnswer, WalkState};
 use walk_step::StepAnswer;
 
@@ -153,9 +155,9 @@ fn lent_figures(n: u16) -> usize
 
 // ---- the output
 
-fn number(name: &[u8], n: u64) {
-    io::write_all(1, name);
-    io::print_decimal(1, n);
+fn number(out: &mut impl Write, name: &[u8], n: u64) -> io::Result<()> {
+    out.write_all(name)?;
+    lines::decimal(out, n)
 }
 
 // The bits of a figure; those of a NaN all ones.
@@ -166,115 +168,126 @@ fn bits_of(x: f64) -> u64 {
     f64::to_bits(x)
 }
 
-fn figure_shown(x: f64) {
-    io::write_all(1, b" ");
-    io::print_hex(1, bits_of(x), 16);
+fn figure_shown(out: &mut impl Write, x: f64) -> io::Result<()> {
+    out.write_all(b" ")?;
+    lines::hex(out, bits_of(x), 16)
 }
 
-fn range_shown(r: Range) {
-    figure_shown(r.low_hz);
-    figure_shown(r.high_hz);
+fn range_shown(out: &mut impl Write, r: Range) -> io::Result<()> {
+    figure_shown(out, r.low_hz)?;
+    figure_shown(out, r.high_hz)
 }
 
-fn state_shown(w: WalkState) {
+fn state_shown(out: &mut impl Write, w: WalkState) -> io::Result<()> {
     let occupied = w.occupied;
-    number(b" state ", w.place as u64);
-    number(b" ", w.image as u64);
-    number(b" ", w.waiting as u64);
-    number(b" ", w.walking as u64);
-    range_shown(occupied.power);
-    range_shown(occupied.spectral);
-    io::write_all(1, b"\n");
+    number(out, b" state ", w.place as u64)?;
+    number(out, b" ", w.image as u64)?;
+    number(out, b" ", w.waiting as u64)?;
+    number(out, b" ", w.walking as u64)?;
+    range_shown(out, occupied.power)?;
+    range_shown(out, occupied.spectral)?;
+    out.write_all(b"\n")
 }
 
-fn answer_shown(a: WalkAnswer) -> WalkState {
+fn answer_shown(out: &mut impl Write, a: WalkAnswer) -> io::Result<WalkState> {
     let refusal = a.refusal;
     let w = a.state;
-    number(b" refusal ", numbers::refusal_number(refusal) as u64);
-    state_shown(w);
-    w
+    number(out, b" refusal ", numbers::refusal_number(refusal) as u64)?;
+    state_shown(out, w)?;
+    Ok(w)
 }
 
-fn rung_shown(rung: Rung) {
+fn rung_shown(out: &mut impl Write, rung: Rung) -> io::Result<()> {
     match rung {
         Rung::Fastest(k) => {
-            number(b" rung ", k as u64);
+            number(out, b" rung ", k as u64)?;
         }
         Rung::NoRung => {
-            io::write_all(1, b" rung -");
+            out.write_all(b" rung -")?;
         }
     }
+    Ok(())
 }
 
-fn step_shown(a: StepAnswer) -> WalkState {
+fn step_shown(out: &mut impl Write, a: StepAnswer) -> io::Result<WalkState> {
     let c = a.ceiling;
     let refusal = c.refusal;
     let rung = c.rung;
     let limit = c.limit;
     let code = limit.code;
     let w = a.state;
-    number(b" refusal ", numbers::refusal_number(refusal) as u64);
-    rung_shown(rung);
+    number(out, b" refusal ", numbers::refusal_number(refusal) as u64)?;
+    rung_shown(out, rung)?;
     if c.limited {
-        number(b" limit ", numbers::code_number(code) as u64);
+        number(out, b" limit ", numbers::code_number(code) as u64)?;
     } else {
-        io::write_all(1, b" limit -");
+        out.write_all(b" limit -")?;
     }
     if a.over {
-        io::write_all(1, b" over 1");
+        out.write_all(b" over 1")?;
     } else {
-        io::write_all(1, b" over 0");
+        out.write_all(b" over 0")?;
     }
-    state_shown(w);
-    w
+    state_shown(out, w)?;
+    Ok(w)
 }
 
 // ---- the calls
 
 // A step with these rungs, and with what else the input lends it.
-fn step_on(w: WalkState, s: &[u8], call: &[u8], lent: &[u8], rungs: &[f64]) -> WalkState {
+fn step_on(
+    out: &mut impl Write,
+    w: WalkState,
+    s: &[u8],
+    call: &[u8],
+    lent: &[u8],
+    rungs: &[f64],
+) -> io::Result<WalkState> {
     let own = part(s, place(call, 4), 41);
-    step_shown(walk_step::step(
-        w,
-        station(own),
-        byte(own, 8),
-        edges(part(lent, 0, 32)),
-        edges(part(lent, 32, 32)),
-        image(s, place(call, 8)),
-        image(s, place(call, 10)),
-        rungs,
-        part(s, place(lent, 68), place(lent, 70)),
-    ))
+    step_shown(
+        out,
+        walk_step::step(
+            w,
+            station(own),
+            byte(own, 8),
+            edges(part(lent, 0, 32)),
+            edges(part(lent, 32, 32)),
+            image(s, place(call, 8)),
+            image(s, place(call, 10)),
+            rungs,
+            part(s, place(lent, 68), place(lent, 70)),
+        ),
+    )
 }
 
-fn step(w: WalkState, s: &[u8], call: &[u8]) -> WalkState {
+fn step(out: &mut impl Write, w: WalkState, s: &[u8], call: &[u8]) -> io::Result<WalkState> {
     let lent = part(s, place(call, 6), 72);
     let count = lent_figures(word(lent, 66));
     let mut rungs = [0.0f64; FIGURES];
     figures_in(&mut rungs, part(s, place(lent, 64), 8 * count));
-    step_on(w, s, call, lent, &rungs[0..count])
+    step_on(out, w, s, call, lent, &rungs[0..count])
 }
 
 // A call in a state: its line, and the state after it.
-fn called(w: WalkState, s: &[u8], call: &[u8]) -> WalkState {
+fn called(out: &mut impl Write, w: WalkState, s: &[u8], call: &[u8]) -> io::Result<WalkState> {
     match byte(call, 0) {
         0 => {
             let w = walk::first();
-            io::write_all(1, b" first");
-            state_shown(w);
-            w
+            out.write_all(b" first")?;
+            state_shown(out, w)?;
+            Ok(w)
         }
         1 => {
-            io::write_all(1, b" swap");
-            answer_shown(walk::swap(w))
+            out.write_all(b" swap")?;
+            answer_shown(out, walk::swap(w))
         }
         2 => {
-            io::write_all(1, b" open");
-            answer_shown(walk::open_walk(w))
+            out.write_all(b" open")?;
+            answer_shown(out, walk::open_walk(w))
         }
         _ => {
-            io::write_all(1, b" step");
-            step(w, s, call)
+            out.write_all(b" step")?;
+            step(out, w, s, call)
         }
     }
 }
@@ -288,20 +301,22 @@ fn given(w: WalkState, s: &[u8], call: &[u8]) -> WalkState {
 }
 
 // The calls of the input, in their order.
-fn calls(s: &[u8]) {
+fn calls(out: &mut impl Write, s: &[u8]) -> io::Result<()> {
     let count = word(s, 0);
     let mut w = walk::first();
     let mut k: u16 = 0;
     while k < count {
         let call = part(s, 2 + CALL_SIZE * k as usize, CALL_SIZE);
-        io::print_decimal(1, k as u64);
-        w = called(given(w, s, call), s, call);
+        lines::decimal(out, k as u64)?;
+        w = called(out, given(w, s, call), s, call)?;
         k += 1;
     }
+    Ok(())
 }
 
-fn main() {
-    let mut input = [0u8; 65536];
-    let n = io::read_full(0, &mut input);
-    calls(&input[..n]);
+fn main(rt: HostRuntime) -> io::Result<()> {
+    let input = lines::input(&rt, 65536)?;
+    let mut out = lines::output(&rt)?;
+    calls(&mut out, &input)?;
+    out.flush()
 }

@@ -1,17 +1,19 @@
 // What a program of the gate writes of a call that was lent bytes for an image: the answer, and every byte, or two sums of them where they are
-// many. It uses writer.
+// many. It uses writer and lines.
 #![tactic(auto)]
 
 ghost use Rattle.std.specs.Prelude.{◌≤◌};
 
+use std::io;
+use std::io::Write;
 use writer::ImageAnswer;
 
 // The most bytes of which each is written.
 const SHOWN: usize = 512;
 
-fn number(name: &[u8], n: u64) {
-    io::write_all(1, name);
-    io::print_decimal(1, n);
+fn number(out: &mut impl Write, name: &[u8], n: u64) -> io::Result<()> {
+    out.write_all(name)?;
+    lines::decimal(out, n)
 }
 
 fn wide(b: u8) -> u64
@@ -21,17 +23,18 @@ fn wide(b: u8) -> u64
 }
 
 // Each byte.
-fn shown(b: &[u8]) {
-    io::write_all(1, b" ");
+fn shown(out: &mut impl Write, b: &[u8]) -> io::Result<()> {
+    out.write_all(b" ")?;
     let mut i: usize = 0;
     while i < b.len() {
-        io::print_hex(1, wide(b[i]), 2);
+        lines::hex(out, wide(b[i]), 2)?;
         i += 1;
     }
+    Ok(())
 }
 
 // Two sums of bytes: of themselves, and of the first sum at each.
-fn summed(b: &[u8]) {
+fn summed(out: &mut impl Write, b: &[u8]) -> io::Result<()> {
     let mut one: u64 = 1;
     let mut two: u64 = 0;
     let mut i: usize = 0;
@@ -40,24 +43,24 @@ fn summed(b: &[u8]) {
         two = (two + one) % 65521;
         i += 1;
     }
-    number(b" sums ", one);
-    number(b" ", two);
+    number(out, b" sums ", one)?;
+    number(out, b" ", two)
 }
 
 // An answer, and the lent bytes after it.
-pub fn told(a: ImageAnswer, lent: &[u8]) {
+pub fn told(out: &mut impl Write, a: ImageAnswer, lent: &[u8]) -> io::Result<()> {
     match a {
         ImageAnswer::Length(n) => {
-            number(b" length ", n as u64);
+            number(out, b" length ", n as u64)?;
         }
         ImageAnswer::Refused(n) => {
-            number(b" refusal ", n as u64);
+            number(out, b" refusal ", n as u64)?;
         }
     }
     if SHOWN < lent.len() {
-        summed(lent);
+        summed(out, lent)?;
     } else {
-        shown(lent);
+        shown(out, lent)?;
     }
-    io::write_all(1, b"\n");
+    out.write_all(b"\n")
 }
