@@ -7,7 +7,7 @@
                                                  answer by rows to one that asks every dial
     python3 tools/reference/nearest.py --draw 40 1
                                                  draws 40 inputs of up to 200 cases with seed 1, and
-                                                 holds target/bin/run_nearest (rt check run_nearest)
+                                                 holds crates/run_nearest/out/run_nearest (rt run there)
                                                  to the model
 
 Input: u16 number of cases; a case is 82 bytes, the first 74 laid out as those of run_census: eight
@@ -860,8 +860,8 @@ def lines_of(cases):
 
 
 def compare(runs, seed):
-    """Drawn inputs, of what the program has room for, by target/bin/run_nearest and by the model."""
-    program = os.path.join(HERE, "../../target/bin/run_nearest")
+    """Drawn inputs, of what the program has room for, by crates/run_nearest/out/run_nearest and by the model."""
+    program = os.path.join(HERE, "../../crates/run_nearest/out/run_nearest")
     told = {}
     for run in range(runs):
         draw = random.Random("nearest %d %d" % (seed, run))

@@ -4,7 +4,7 @@
     python3 tools/reference/walk.py --list    prints each line of stdout with the name of its call
     python3 tools/reference/walk.py --draw 40 1
                                               draws 40 times 25 sequences with seed 1, and holds
-                                              target/bin/run_walk (rt check run_walk) to the model
+                                              crates/run_walk/out/run_walk (rt run there) to the model
 
 Input: u16 number of calls, then those, each of 12 bytes: u8 call (0 first, 1 swap, 2 open, 3 step),
 u8 which state it is given (0 that of the call before, 1 its own), then u16 each, counted from the
@@ -761,8 +761,8 @@ def drawn(c, count, world):
 
 
 def compare(runs, seed):
-    """Drawn runs, each of 25 sequences of 20 calls, by target/bin/run_walk and by the model."""
-    program = os.path.join(HERE, "../../target/bin/run_walk")
+    """Drawn runs, each of 25 sequences of 20 calls, by crates/run_walk/out/run_walk and by the model."""
+    program = os.path.join(HERE, "../../crates/run_walk/out/run_walk")
     answers = {}
     for run in range(runs):
         c, draw = Calls(), random.Random("%d %d" % (seed, run))

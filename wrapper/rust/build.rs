@@ -1,5 +1,5 @@
 //! Says where `libpamuklid.a` is: in the folder `PAMUKLID_LIB_DIR`, by default `target/staticlib` of the
-//! repository, where `rt staticlib pamuklid` puts it. A relative folder counts from where cargo is
+//! repository, where `tools/library` puts it. A relative folder counts from where cargo is
 //! called, whichever crate is built.
 //!
 //! A crate that depends on this one has, in its build script, `DEP_PAMUKLID_FAULT`: 1 where the library
@@ -33,7 +33,7 @@ fn main() {
         Ok(bytes) => bytes,
         Err(why) => stop(&[
             format!("{LIBRARY} is missing; looked for in {} ({why})", folder.display()),
-            "build it with `rt staticlib pamuklid` in the repository, which takes minutes"
+            "build it with `tools/library` in the repository, which proves it first: that takes long"
                 .to_owned(),
             format!(
                 "or name its folder in {FOLDER} (a relative one counts from where cargo is called)"
@@ -47,7 +47,7 @@ fn main() {
                 "{} is older than this crate, {version}: no pamuklid_version",
                 library.display()
             ),
-            "build it again with `rt staticlib pamuklid` in the repository".to_owned(),
+            "build it again with `tools/library` in the repository".to_owned(),
         ]);
     }
     println!("cargo:fault={}", u8::from(names(&bytes, "pamuklid_fault_of")));

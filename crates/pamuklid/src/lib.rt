@@ -1,4 +1,4 @@
-// The boundary to C: the public calls, exported, with flat structs of numbers. It uses station, image, fault, tidy, numbers, verdict,
+// The boundary to C: the public calls, with flat structs of numbers. pamuklid_c exports them. It uses station, image, fault, tidy, numbers, verdict,
 // ceiling, dials, report, census, distance, number_texts, airtime, writer, convert, amend, walk and flat.
 #![tactic(auto)]
 
@@ -30,44 +30,39 @@ use flat_answers::{
     FlatNearest, FlatReport, FlatText, FlatTidiness,
 };
 
-// The version of this boundary: 0.13.0.
+// The version of this boundary: 0.14.0.
 pub const VERSION: u32 = 1400;
 
 // The version of this boundary, that of the header: 10,000 times the first number, 100 times the second, and the third.
-#[unsafe(no_mangle)]
-pub extern "C" fn pamuklid_version() -> u32
+pub fn pamuklid_version() -> u32
     ensures { result ≡ version_number }
 {
     VERSION
 }
 
 // Whether an image is accepted: 0, or the number of its first refusal, 1 to 14.
-#[unsafe(no_mangle)]
-pub extern "C" fn pamuklid_check(image: &[u8]) -> u8
+pub fn pamuklid_check(image: &[u8]) -> u8
     ensures { result ≡ refusal_number (check_of image.now) }
 {
     numbers::refusal_number(image::check(image))
 }
 
 // The same refusal, and where the table is wrong.
-#[unsafe(no_mangle)]
-pub extern "C" fn pamuklid_fault_of(image: &[u8]) -> FlatFault
+pub fn pamuklid_fault_of(image: &[u8]) -> FlatFault
     ensures { result ≡ fault_flat (fault_of image.now) }
 {
     flat_answers::fault_flat(fault::fault_of(image))
 }
 
 // Whether an image's table is tidy, or the image's refusal.
-#[unsafe(no_mangle)]
-pub extern "C" fn pamuklid_tidy(image: &[u8]) -> FlatTidiness
+pub fn pamuklid_tidy(image: &[u8]) -> FlatTidiness
     ensures { result ≡ tidiness_flat (tidy_of image.now) }
 {
     flat_answers::tidiness_flat(tidy::is_tidy(image))
 }
 
 // What an image's table has of overlaps, and of gaps for a licence class, as rows of 24 bytes.
-#[unsafe(no_mangle)]
-pub extern "C" fn pamuklid_report_of(image: &[u8], license: u8, rows: &mut [u8]) -> FlatReport
+pub fn pamuklid_report_of(image: &[u8], license: u8, rows: &mut [u8]) -> FlatReport
     ensures { FlatReported image.now license rows.old rows.new result }
 {
     flat_answers::report_flat(report::report_of(image, license, rows))
@@ -75,8 +70,7 @@ pub extern "C" fn pamuklid_report_of(image: &[u8], license: u8, rows: &mut [u8])
 
 // The image of these fields and records, into the bytes lent: three figures, four codes and two rules for each record, the nine tables one
 // after the other.
-#[unsafe(no_mangle)]
-pub extern "C" fn pamuklid_write(
+pub fn pamuklid_write(
     f: FlatFields,
     figures: &[f64],
     codes: &[u8],
@@ -91,24 +85,21 @@ pub extern "C" fn pamuklid_write(
 }
 
 // Edition 2 of an image of edition 1, into the bytes lent.
-#[unsafe(no_mangle)]
-pub extern "C" fn pamuklid_raise(image: &[u8], out: &mut [u8]) -> FlatImage
+pub fn pamuklid_raise(image: &[u8], out: &mut [u8]) -> FlatImage
     ensures { FlatRaised image.now out.old out.new result }
 {
     flat_answers::image_flat(convert::raise(image, out))
 }
 
 // Edition 1 of an image of edition 2 whose watts are those of edition 1, into the bytes lent.
-#[unsafe(no_mangle)]
-pub extern "C" fn pamuklid_lower(image: &[u8], out: &mut [u8]) -> FlatImage
+pub fn pamuklid_lower(image: &[u8], out: &mut [u8]) -> FlatImage
     ensures { FlatLowered image.now out.old out.new result }
 {
     flat_answers::image_flat(convert::lower(image, out))
 }
 
 // The effective image of a day: the base image with the amendments of the list that are in force, into the bytes lent.
-#[unsafe(no_mangle)]
-pub extern "C" fn pamuklid_amend(image: &[u8], list: &[u8], day: u32, out: &mut [u8]) -> FlatImage
+pub fn pamuklid_amend(image: &[u8], list: &[u8], day: u32, out: &mut [u8]) -> FlatImage
     ensures { FlatAmended image.now list.now day out.old out.new result }
 {
     flat_answers::image_flat(amend::amend(image, list, day, out))
@@ -118,16 +109,14 @@ pub extern "C" fn pamuklid_amend(image: &[u8], list: &[u8], day: u32, out: &mut 
 // for the first finds no such symbol. The header and the Rust crate name them without it.
 
 // A fresh station record: region 2, margins 50 and 50, and nothing else known.
-#[unsafe(no_mangle)]
-pub extern "C" fn pamuklid_fresh_2() -> FlatStation
+pub fn pamuklid_fresh_2() -> FlatStation
     ensures { result ≡ station_of fresh_of }
 {
     flat::station_out(station::fresh())
 }
 
 // Judge a transmission.
-#[unsafe(no_mangle)]
-pub extern "C" fn pamuklid_evaluate_2(
+pub fn pamuklid_evaluate_2(
     s: FlatStation,
     kind: u8,
     direction: u8,
@@ -142,8 +131,7 @@ pub extern "C" fn pamuklid_evaluate_2(
 }
 
 // The refusal of a transmission whose spectrum is not known.
-#[unsafe(no_mangle)]
-pub extern "C" fn pamuklid_unmeasured_2(s: FlatStation, image: &[u8]) -> FlatDecision
+pub fn pamuklid_unmeasured_2(s: FlatStation, image: &[u8]) -> FlatDecision
     ensures { result ≡ flat_of (unmeasured_of (station_record_of s) image.now) }
 {
     let record = flat::station_in(s);
@@ -151,8 +139,7 @@ pub extern "C" fn pamuklid_unmeasured_2(s: FlatStation, image: &[u8]) -> FlatDec
 }
 
 // The fastest rung that may be sent, and the answer on the first that may not.
-#[unsafe(no_mangle)]
-pub extern "C" fn pamuklid_ceiling_of_2(
+pub fn pamuklid_ceiling_of_2(
     s: FlatStation,
     direction: u8,
     ordinary: FlatEdges,
@@ -180,32 +167,28 @@ pub extern "C" fn pamuklid_ceiling_of_2(
 }
 
 // The first state of a walk.
-#[unsafe(no_mangle)]
-pub extern "C" fn pamuklid_walk_first() -> FlatWalk
+pub fn pamuklid_walk_first() -> FlatWalk
     ensures { result ≡ walk_flat first_state }
 {
     flat::walk_out(walk::first())
 }
 
 // A change to the other image: at once, or at the end of the walk that is open.
-#[unsafe(no_mangle)]
-pub extern "C" fn pamuklid_walk_swap(w: FlatWalk) -> FlatWalkAnswer
+pub fn pamuklid_walk_swap(w: FlatWalk) -> FlatWalkAnswer
     ensures { result ≡ walk_answer_flat (swap_of (walk_of w)) }
 {
     flat::walk_answer_flat(walk::swap(flat::walk_in(w)))
 }
 
 // A walk is opened, under the image in force.
-#[unsafe(no_mangle)]
-pub extern "C" fn pamuklid_walk_open(w: FlatWalk) -> FlatWalkAnswer
+pub fn pamuklid_walk_open(w: FlatWalk) -> FlatWalkAnswer
     ensures { result ≡ walk_answer_flat (open_of (walk_of w)) }
 {
     flat::walk_answer_flat(walk::open_walk(flat::walk_in(w)))
 }
 
 // The rung at the walk's place, judged.
-#[unsafe(no_mangle)]
-pub extern "C" fn pamuklid_walk_step(
+pub fn pamuklid_walk_step(
     w: FlatWalk,
     s: FlatStation,
     direction: u8,
@@ -238,8 +221,7 @@ pub extern "C" fn pamuklid_walk_step(
 }
 
 // The dials that keep a signal of these edges inside the rules, as rows of 36 bytes.
-#[unsafe(no_mangle)]
-pub extern "C" fn pamuklid_safe_dials_2(
+pub fn pamuklid_safe_dials_2(
     s: FlatStation,
     direction: u8,
     e: FlatEdges,
@@ -255,8 +237,7 @@ pub extern "C" fn pamuklid_safe_dials_2(
 }
 
 // How many whole-hertz dials from a first to a last get each code, each taken as the record's dial.
-#[unsafe(no_mangle)]
-pub extern "C" fn pamuklid_census_of(
+pub fn pamuklid_census_of(
     s: FlatStation,
     kind: u8,
     direction: u8,
@@ -273,8 +254,7 @@ pub extern "C" fn pamuklid_census_of(
 }
 
 // Where to move the dial to: the dial nearest to the record's own at which data is allowed, outside the channel band.
-#[unsafe(no_mangle)]
-pub extern "C" fn pamuklid_nearest_dial(
+pub fn pamuklid_nearest_dial(
     s: FlatStation,
     direction: u8,
     e: FlatEdges,
@@ -289,8 +269,7 @@ pub extern "C" fn pamuklid_nearest_dial(
 
 // How far a dial stands from the nearest of the first count rows of a list, those of the channel band left out. flags and channel_band
 // are bytes 42 and 43 of the list's image.
-#[unsafe(no_mangle)]
-pub extern "C" fn pamuklid_distance_of(
+pub fn pamuklid_distance_of(
     dial_hz: f64,
     flags: u8,
     channel_band: u8,
@@ -309,32 +288,28 @@ pub extern "C" fn pamuklid_distance_of(
 }
 
 // The text of a frequency in kilohertz, with three decimals.
-#[unsafe(no_mangle)]
-pub extern "C" fn pamuklid_text_at(hz: f64, text: &mut [u8]) -> FlatText
+pub fn pamuklid_text_at(hz: f64, text: &mut [u8]) -> FlatText
     ensures { FlatTexted hz (at_text hz) text.old text.new result }
 {
     flat_answers::text_flat(number_texts::at(hz, text))
 }
 
 // The text of a frequency in kilohertz, with as many decimals as it needs.
-#[unsafe(no_mangle)]
-pub extern "C" fn pamuklid_text_khz(hz: f64, text: &mut [u8]) -> FlatText
+pub fn pamuklid_text_khz(hz: f64, text: &mut [u8]) -> FlatText
     ensures { FlatTexted hz (khz_text hz) text.old text.new result }
 {
     flat_answers::text_flat(number_texts::khz(hz, text))
 }
 
 // The text of a figure in whole hertz.
-#[unsafe(no_mangle)]
-pub extern "C" fn pamuklid_text_hertz(hz: f64, text: &mut [u8]) -> FlatText
+pub fn pamuklid_text_hertz(hz: f64, text: &mut [u8]) -> FlatText
     ensures { FlatTexted hz (hertz_text hz) text.old text.new result }
 {
     flat_answers::text_flat(number_texts::hertz(hz, text))
 }
 
 // Of each record of a log the seconds of its band over itself and the earlier records that start at most 599 seconds before it.
-#[unsafe(no_mangle)]
-pub extern "C" fn pamuklid_airtime_of(
+pub fn pamuklid_airtime_of(
     starts: &[u64],
     bands: &[u8],
     seconds: &[u16],

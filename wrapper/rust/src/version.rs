@@ -51,7 +51,7 @@ fn agree(linked: Version) {
     assert!(
         linked == VERSION,
         "the crate pamuklid is written for libpamuklid.a {VERSION}, and {linked} is linked: build \
-         the library again (`rt staticlib pamuklid`), or take the crate that came with it"
+         the library again (`tools/library`), or take the crate that came with it"
     );
 }
 

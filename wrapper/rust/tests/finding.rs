@@ -76,7 +76,7 @@ fn missing() {
     fs::create_dir(&empty).unwrap();
     let output = check(&root, &root, empty.to_str().unwrap());
     let looked = format!("libpamuklid.a is missing; looked for in {} (", empty.display());
-    fails(&output, &[&looked, "build it with `rt staticlib pamuklid`", FOLDER]);
+    fails(&output, &[&looked, "build it with `tools/library`", FOLDER]);
     // then it is there
     library(&empty, "\0pamuklid_version\0");
     let output = check(&root, &root, empty.to_str().unwrap());

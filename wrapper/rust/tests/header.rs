@@ -1,5 +1,5 @@
 //! The declarations agree: the C header (include/pamuklid.h), this crate (src/raw.rs) and the library's
-//! own source (crates/flat/src, crates/flat_answers/src, crates/pamuklid/src). Structs field by field, calls argument by argument, and the
+//! own source (crates/flat/src, crates/flat_answers/src, crates/pamuklid_c/src). Structs field by field, calls argument by argument, and the
 //! header's numbers by their names.
 
 use std::collections::{BTreeMap, BTreeSet};
@@ -456,7 +456,7 @@ fn of_rust(source: &str) -> (Structs, Calls) {
 fn library() -> String {
     let crates = Path::new(env!("CARGO_MANIFEST_DIR")).join("../../crates");
     let source = |name| fs::read_to_string(crates.join(name).join("src/lib.rt"));
-    ["flat", "flat_answers", "pamuklid"]
+    ["flat", "flat_answers", "pamuklid_c"]
         .map(|name| source(name).expect("the library's source"))
         .concat()
 }
