@@ -1,9 +1,9 @@
 -- The answer case by case, as the code comes to it.
-use Rattle.std.specs.Prelude.{ℕ, suc, ◌+◌, ◌*◌, ◌/◌, ◌<◌, ◌≤◌, Bool, true, false, not, List, [], ◌∷◌, ◌++◌, ◌≡◌, length, get_or, set, take, drop}
+use Rattle.std.specs.Prelude.{ℕ, ◌+◌, ◌*◌, ◌/◌, ◌<◌, ◌≤◌, Bool, true, false, not, List, [], ◌∷◌, ◌++◌, ◌≡◌, length, take, drop}
 use Rattle.std.proofs.Math.Bool.{cond}
-use Rattle.std.proofs.Common.{append-nil, sym, ◌∙◌, arith, length-set, length-take-le, take_at, lt-ltb, le-ltb}
+use Rattle.std.proofs.Common.{append-nil, sym, ◌∙◌, arith, length-take-le, take_at, lt-ltb, le-ltb}
 use Rattle.std.proofs.Math.Path.{refl, ap}
-use Rattle.std.proofs.Math.Seq.{drop-length, paste, paste-zero, paste-suc}
+use Rattle.std.proofs.Math.Seq.{drop-length, paste}
 use Rattle.codes.specs.Read.{direction_valid, direction_of}
 use Rattle.codes.specs.Refusal.{Test, test, refusal_of}
 use Rattle.codes.specs.Laws.{refusal_next, refusal_stays}

@@ -1,24 +1,23 @@
 -- How many rows a report has at most. Each gap of a piece but the lowest begins where a record ends inside the piece, so there is at most
 -- one more than there are records.
 use Prim.Native.Nat.{ℕ, zero, suc, ◌+◌, ◌*◌, ◌-◌, ◌<◌, ◌≤◌}
-use Rattle.std.specs.Prelude.{Bool, false, cond, ◌&&◌, List, [], ◌∷◌, ◌++◌, map, ◌≡◌, Float}
+use Rattle.std.specs.Prelude.{Bool, false, cond, ◌&&◌, List, [], ◌∷◌, ◌++◌, ◌≡◌, Float}
 use Rattle.std.proofs.Math.Bool.{true}
-use Rattle.std.proofs.Common.{true≢false, sym, ap, ◌∙◌, mul-le-mul, length-append}
-use Rattle.std.proofs.lemmas.Bool.{false≢true}
+use Rattle.std.proofs.Common.{sym, ap, ◌∙◌, length-append}
 use Rattle.std.proofs.Math.Path.{refl}
 use native.Mathlib.Omega.{arith}
 use Rattle.std.proofs.Math.ListN.{length}
 use Rattle.std.proofs.lemmas.List.{length-map}
 use Rattle.std.specs.Float.Ieee.{lt, ne}
-use Rattle.figures.specs.Figure.{min_of, max_of}
+use Rattle.figures.specs.Figure.{min_of}
 use Rattle.order.specs.Total.{lt_number, lt_trans, lt_not, not_lt, lt_both}
 use Rattle.order.specs.Greater.{max_second, min_second}
-use Rattle.profile.specs.Range.{lengthy, common_of, intersect_of}
+use Rattle.profile.specs.Range.{lengthy, common_of}
 use Rattle.profile.specs.declared.Range.{Range}
 use Rattle.profile.specs.declared.Shared.{Shared}
 use Rattle.profile.specs.declared.Shared.TheVariants.{Stretch, Nothing}
 use Rattle.lists.specs.Each.{each}
-use Rattle.lists.specs.From.{stretch, from}
+use Rattle.lists.specs.From.{stretch}
 use Rattle.lists.specs.Laws.{each_few}
 use Rattle.scan.specs.Laws.{and_true}
 use Rattle.layout.specs.Form.{Whole}
@@ -30,7 +29,6 @@ use Rattle.table.specs.Laws.{count_in_holds}
 use Rattle.sweep.specs.Sweep.{is_member, shared_with, on_shared, gives}
 use Rattle.sweep.specs.declared.Members.{Members}
 use Rattle.sweep.specs.declared.Members.TheVariants.{OfClass}
-use Rattle.report_rows.specs.declared.ReportRow.{ReportRow}
 use Rattle.report.specs.Gaps.{below, above, of_part, left_from}
 use Rattle.report.specs.Report.{pair_members, pair_class, overlap_row, pair_rows, pair_rows_at, overlap_rows, gap_row, gaps_in, gaps_at, gap_rows, report_rows}
 

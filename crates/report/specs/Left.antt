@@ -1,5 +1,5 @@
 -- What is left of a piece, told by the sweep; and rows told by what the sweep gives.
-use Prim.Native.Nat.{ℕ, zero, suc, ◌+◌, ◌-◌, ◌<◌, ◌≤◌}
+use Prim.Native.Nat.{ℕ, zero, suc, ◌+◌, ◌-◌}
 use Rattle.std.specs.Prelude.{true, false, ◌≡◌}
 use mathlib.Core.List.{List, [], ◌∷◌, ◌++◌, map, map-append}
 use Rattle.std.proofs.Math.Path.{refl}
@@ -14,7 +14,6 @@ use Rattle.layout.specs.declared.Record.{Record}
 use Rattle.sweep.specs.Sweep.{shared_with, on_shared, swept_from, sweep}
 use Rattle.sweep.specs.Laws.{shares_index, shares_range, shares_not, swept_below}
 use Rattle.sweep.specs.declared.Members.{Members}
-use Rattle.sweep.specs.declared.Swept.{Swept}
 use Rattle.sweep.specs.declared.Swept.TheVariants.{Shares, NoMore}
 use Rattle.report_rows.specs.Rows.{offer_at}
 use Rattle.report_rows.specs.declared.ReportRow.{ReportRow}

@@ -1,5 +1,5 @@
 -- What the loops over a table's records know, from an image's bytes.
-use Rattle.std.specs.Prelude.{ℕ, ◌+◌, ◌*◌, ◌-◌, ◌<◌, ◌≡◌, refl, length}
+use Rattle.std.specs.Prelude.{ℕ, ◌+◌, ◌*◌, ◌-◌, ◌<◌, ◌≡◌, length}
 use mathlib.Core.List.{List, map}
 use Rattle.std.proofs.Common.{sym, ◌∙◌, arith}
 use Rattle.std.proofs.Math.Path.{ap}
@@ -14,7 +14,6 @@ use Rattle.sweep.specs.Sweep.{ranges_of}
 use Rattle.sweep.specs.Laws.{ranges_count, ranges_read}
 use Rattle.sweep.specs.declared.Members.TheVariants.{OfClass}
 use Rattle.sweep.specs.declared.Ranges.{Ranges}
-use Rattle.report_rows.specs.declared.ReportRow.{ReportRow}
 use Rattle.report.specs.Gaps.{of_part, left_from}
 use Rattle.report.specs.Report.{pair_rows, pair_rows_at, overlap_rows, gap_row, gaps_in, gaps_at, gap_rows}
 

@@ -1,5 +1,5 @@
 -- What a call that is not refused is lent.
-use Rattle.std.specs.Prelude.{ℕ, ◌/◌, ◌%◌, ◌-◌, Bool, true, false, not, ◌||◌, List, ◌≡◌, refl, eqb, ltb, length, Float}
+use Rattle.std.specs.Prelude.{ℕ, ◌/◌, ◌%◌, Bool, true, false, not, ◌||◌, List, ◌≡◌, refl, eqb, ltb, length, Float}
 use Rattle.std.proofs.Common.{true≢false, eqb-true}
 use Rattle.codes.specs.Read.{direction_valid}
 use Rattle.codes.specs.Refusal.{refusal_of}

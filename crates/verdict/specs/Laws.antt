@@ -8,7 +8,6 @@ use Rattle.codes.specs.Refusal.{Test, test, refusal_of}
 use Rattle.codes.specs.Laws.{refusal_both, refusal_next}
 use Rattle.codes.specs.declared.Checked.{Checked}
 use Rattle.codes.specs.declared.Checked.TheVariants.{Accepted}
-use Rattle.codes.specs.declared.Policy.{Policy}
 use Rattle.codes.specs.declared.Policy.TheVariants.{Unset, NoProfile as NoneApply, Rules, Broken}
 use Rattle.station.specs.Station.{situation_of}
 use Rattle.station.specs.declared.StationRecord.{StationRecord}

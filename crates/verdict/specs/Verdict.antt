@@ -1,5 +1,5 @@
 -- The verdict: refusals in order, the policy, the prerequisites in order, and then Part 97 (Rattle.part97).
-use Rattle.std.specs.Prelude.{ℕ, Bool, true, false, not, cond, ◌&&◌, List, [], ◌∷◌, ◌++◌, eqb, Float}
+use Rattle.std.specs.Prelude.{ℕ, Bool, true, not, cond, ◌&&◌, List, [], ◌∷◌, ◌++◌, eqb, Float}
 use Rattle.figures.specs.Figure.{zero_hz}
 use Rattle.codes.specs.Read.{kind_valid, direction_valid, kind_of, direction_of}
 use Rattle.codes.specs.Refusal.{Test, test, refusal_of}
@@ -22,7 +22,6 @@ use Rattle.profile.specs.Range.{range}
 use Rattle.profile.specs.declared.Range.{Range}
 use Rattle.occupancy.specs.Edges.{range_of}
 use Rattle.occupancy.specs.declared.Edges.{Edges}
-use Rattle.occupancy.specs.declared.Reading.{Reading}
 use Rattle.occupancy.specs.declared.Reading.TheVariants.{Wider}
 use Rattle.air.specs.Air.{rf_range_of, guarded_of, unguarded_of, width_of}
 use Rattle.station.specs.Station.{situation_of}

@@ -1,5 +1,5 @@
 -- A walk of rungs, a rung a step, under the one of two images that was in force as it was opened (document 02, 10).
-use Rattle.std.specs.Prelude.{ℕ, ◌-◌, Bool, not, cond, ◌&&◌, ◌||◌, List, [], ◌∷◌, eqb, ltb}
+use Rattle.std.specs.Prelude.{ℕ, Bool, not, cond, ◌&&◌, ◌||◌, List, [], ◌∷◌, eqb, ltb}
 use Rattle.figures.specs.Figure.{zero_hz}
 use Rattle.codes.specs.Refusal.{Test, test, refusal_of}
 use Rattle.codes.specs.declared.Checked.{Checked}

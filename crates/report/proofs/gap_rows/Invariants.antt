@@ -1,0 +1,17 @@
+-- `report::gap_rows` meets its contract: a loop invariant, and a law for each turn and the end.
+use Prim.Native.Nat.{◌-◌}
+use mathlib.Core.Path.{◌≡◌}
+use lib.ListN.{length}
+use Rattle.lists.specs.From.{from}
+use Rattle.lists.specs.Pour.{Pouring}
+use Rattle.table.specs.Table.{table_of}
+use Rattle.report_rows.specs.Rows.{offer_at}
+use Rattle.report.specs.Report.{gaps_at, gap_rows}
+use Rattle.report.proofs.gap_rows.Given as goal
+
+abbrev pub invariant-loop-i : goal.invariant-loop-i
+invariant-loop-i l =
+    Pouring offer_at l.initial.rows l.before (gap_rows (table_of l.image) l.class) l.rows l.n (from l.s.count (gaps_at (table_of l.image) l.class) l.i) × (length l.rows ≡ length l.initial.rows)
+
+abbrev pub decreases-loop-i : goal.decreases-loop-i
+decreases-loop-i l = l.s.count - l.i
