@@ -1,8 +1,8 @@
 -- Laws of the amending call: what the effective image keeps of an accepted base, what a scan of its table asks, and what is written.
-use Rattle.std.specs.Prelude.{ℕ, zero, suc, ◌+◌, ◌*◌, ◌-◌, ◌<◌, ◌≤◌, Bool, true, false, not, cond, ◌&&◌, ◌||◌, ◌≡◌, refl, ltb, length, take, set}
+use Rattle.std.specs.Prelude.{ℕ, suc, ◌+◌, ◌<◌, ◌≤◌, Bool, true, false, not, ◌≡◌, refl, ltb, length, take, set}
 use mathlib.Core.List.{List, [], ◌∷◌, ◌++◌}
 use Rattle.std.proofs.Math.Path.{sym, ap}
-use Rattle.std.proofs.Common.{ap₂, subst, ◌∙◌, arith, le-ltb, lt-ltb, length-set, take-append-drop, take_at, drop_at}
+use Rattle.std.proofs.Common.{subst, ◌∙◌, arith, le-ltb, lt-ltb, length-set, take-append-drop, take_at, drop_at}
 use Rattle.std.proofs.lemmas.Bool.{not-false}
 use Rattle.std.proofs.Math.ListN.{drop}
 use Rattle.std.proofs.lemmas.List.Edits.{sets}
@@ -12,16 +12,13 @@ use Rattle.codes.specs.Refusal.{Test, test, refusal_of}
 use Rattle.codes.specs.Laws.{refusal_next, refusal_stays, refusal_both, none_fails}
 use Rattle.codes.specs.declared.Checked.{Checked}
 use Rattle.codes.specs.declared.Checked.TheVariants.{Accepted, Refused}
-use Rattle.scan.specs.First.{some, first, is_at, on_found}
+use Rattle.scan.specs.First.{some, on_found}
 use Rattle.scan.specs.Laws.{some_same}
 use Rattle.scan.specs.declared.Found.{Found}
 use Rattle.scan.specs.declared.Found.TheVariants.{At, Nothing}
-use Rattle.layout.specs.Layout.{tables, bands, segments, channels, plan_data, plan_avoid, count_of, records_before, record_at, record_of, general_of}
+use Rattle.layout.specs.Layout.{tables, bands, segments, channels, plan_data, plan_avoid, count_of, records_before, record_at, general_of}
 use Rattle.layout.specs.Form.{form_tests, Whole}
 use Rattle.layout.specs.Laws.{or_false_both, table_within}
-use Rattle.layout.specs.declared.Record.{Record}
-use Rattle.layout.specs.declared.General.{General}
-use Rattle.coded.specs.Coded.{blank, coded_general}
 use Rattle.table.specs.Table.{Table, count_in, record_in, table_of}
 use Rattle.table.specs.Laws.{count_in_holds, at_in}
 use Rattle.find.specs.Question.{asks, some_in}
@@ -33,7 +30,7 @@ use Rattle.writer.specs.declared.ImageAnswer.{ImageAnswer}
 use Rattle.writer.specs.declared.ImageAnswer.TheVariants.{Length, Refused as NoImage}
 use Rattle.amended.specs.Amended.{replacement_of, counting, slot_of, slot_at, amended_to, effective_of, list_wrong}
 use Rattle.amended.specs.Effective.{amended_more, amended_length, same_length, few_bytes, slot_within, count_same, general_same, form_same, record_of_same}
-use Rattle.amend.specs.Amend.{amend_tests, Amended}
+use Rattle.amend.specs.Amend.{amend_tests}
 
 -- a question asked of the effective image's records from a place on
 abbrev pub asks_slot : List ℕ → List ℕ → ℕ → ℕ → Question → ℕ → Bool

@@ -1,5 +1,5 @@
 // Amendments with a day: the effective image of a base image, a list of amendments and a day. A public call. It uses codes, layout, table, find,
-// image, bytes, writer, convert and amended; its definitions use scan and coded.
+// image, byte_writes, writer, convert and amended; its definitions use scan and coded.
 #![tactic(auto)]
 
 ghost use Rattle.std.specs.Prelude.{◌≡◌, false, ◌++◌, ◌≤◌, ◌<◌, length, drop};

@@ -30,7 +30,6 @@ use Rattle.station.specs.Station.{situation_of, under_rules}
 use Rattle.station.specs.declared.Situation.{Situation}
 use Rattle.station.specs.declared.StationRecord.{StationRecord}
 use Rattle.layout.specs.Layout.{bands, segments, channels, automatic, excluded}
-use Rattle.layout.specs.declared.General.{General}
 use Rattle.table.specs.Table.{Table, table_of}
 use Rattle.table.specs.Parts.{reading_of, data_of, elsewhere_of, channels_of, excluded_of, span_of, centre_of, sixty_of}
 use Rattle.table.specs.declared.Segment.{Segment}
@@ -42,7 +41,7 @@ use Rattle.table.specs.declared.ElsewhereRule.TheVariants.{Under, Nowhere}
 use Rattle.table.specs.declared.ChannelBand.{ChannelBand}
 use Rattle.table.specs.declared.ChannelBand.TheVariants.{On, NoChannels}
 use Rattle.find.specs.Question.{first_in}
-use Rattle.find.specs.declared.Question.TheVariants.{Holds, BandHolds, ChannelOverlaps, OfBand}
+use Rattle.find.specs.declared.Question.TheVariants.{Holds, ChannelOverlaps, OfBand}
 use Rattle.scan.specs.First.{on_found}
 use Rattle.scan.specs.declared.Found.{Found}
 use Rattle.air.specs.Air.{wider, width_of}
@@ -75,7 +74,6 @@ use Rattle.verdict.specs.declared.Ready.{Ready}
 use Rattle.verdict.specs.declared.Ready.TheVariants.{Met, Missing}
 use Rattle.ceiling.specs.Ceiling.{judge_by, climbed, ceiling_unless_refused, ceiling_of}
 use Rattle.rungs.specs.Rungs.{burst_of, ceiling_tests}
-use Rattle.ceiling.specs.declared.CeilingAnswer.{CeilingAnswer}
 use Rattle.dial_rows.specs.Dials.{request_of, rows_of}
 use Rattle.rows.specs.declared.SafeDial.{SafeDial}
 use Rattle.dials.specs.List.{rows_with_sideband, rows_with_license, rows_with_control, known_rows, situation_rows, list_rows, lent_tests, Listed, SafeDials}

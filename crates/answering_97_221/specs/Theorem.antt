@@ -2,7 +2,7 @@
 use Rattle.std.specs.Prelude.{ℕ, Bool, cond, ◌&&◌, List, ◌≡◌, eqb, Float}
 use Rattle.std.proofs.Math.Bool.{true, false, not}
 use Rattle.std.proofs.lemmas.Bool.{false≢true}
-use Rattle.std.proofs.Common.{true≢false, sym, ◌∙◌, subst}
+use Rattle.std.proofs.Common.{sym, ◌∙◌, subst}
 use Rattle.std.proofs.Math.Path.{refl, ap}
 use Rattle.scan.specs.First.{on_found, is_at}
 use Rattle.scan.specs.Laws.{and_true}
@@ -15,14 +15,12 @@ use Rattle.codes.specs.declared.Checked.TheVariants.{Accepted, Refused}
 use Rattle.codes.specs.declared.Policy.{Policy}
 use Rattle.codes.specs.declared.Policy.TheVariants.{Unset, NoProfile, Rules, Broken}
 use Rattle.codes.specs.declared.ControlMode.{ControlMode}
-use Rattle.codes.specs.declared.ControlMode.TheVariants.{Automatic}
 use Rattle.codes.specs.declared.Direction.TheVariants.{RespondToAutomatic}
 use Rattle.codes.specs.declared.EmissionKind.TheVariants.{Data}
 use Rattle.profile.specs.declared.Range.{Range}
 use Rattle.occupancy.specs.declared.Edges.{Edges}
 use Rattle.station.specs.Station.{situation_of}
 use Rattle.station.specs.declared.Figure.{Figure}
-use Rattle.station.specs.declared.Figure.TheVariants.{Known}
 use Rattle.station.specs.declared.Situation.{Situation}
 use Rattle.station.specs.declared.StationRecord.{StationRecord}
 use Rattle.layout.specs.Layout.{bands, segments, automatic, excluded}
@@ -40,7 +38,6 @@ use Rattle.decision.specs.declared.Draft.{Draft}
 use Rattle.decision.specs.declared.Decision.{Decision}
 use Rattle.decision.specs.declared.Verdict.TheVariants.{Blocked}
 use Rattle.decision.specs.declared.Code.TheVariants.{Permitted, AutomaticSegment, AutomaticBandwidth, AutomaticOriginate, AutomaticResponse, OutOfBand}
-use Rattle.decision.specs.declared.BandNumber.TheVariants.{Band}
 use Rattle.decision.specs.Number.{§97-301}
 use Rattle.air.specs.Air.{wider}
 use Rattle.part97.specs.Part97.{limit_for, band_at, segment_at, draft_of, draft_inside, draft_automatic, privileged_of, under_privilege, advised}
@@ -49,10 +46,10 @@ use Rattle.part97.specs.Part97.{judge_data, off_sixty, judge_in_band, touching, 
 use Rattle.part97.specs.declared.Case.{Case}
 use Rattle.part97.specs.declared.Privileged.{Privileged}
 use Rattle.part97.specs.declared.Privileged.TheVariants.{Granted, Forbidden, Unheld}
-use Rattle.verdict.specs.Verdict.{case_of, under_rules_of, decide_of, evaluate_tests, unless_refused, evaluate_of}
-use Rattle.demand_3.specs.Words.{audio_of, rules_in_force}
+use Rattle.verdict.specs.Verdict.{case_of, decide_of, evaluate_tests, unless_refused, evaluate_of}
+use Rattle.demand_3.specs.Words.{audio_of}
 use Rattle.demand_3.specs.Judged.{OffChannels, on_band_holds, in_band}
-use Rattle.demand_3.specs.Exactly.{Prerequisites, ruling, off_channels}
+use Rattle.demand_3.specs.Exactly.{ruling, off_channels}
 use Rattle.answering_97_221.specs.Words.{band_passes, segment_passes, is_granted, passes_before, outside_automatic, asks_response}
 use Rattle.answering_97_221.specs.Words.{robot_case, Answering, Answered}
 

@@ -2,4 +2,3 @@
 // "respond to automatic" answers is what Originate answers, and where the elsewhere rule asks for a response it is blocked with code 20.
 // No code. It uses verdict, ceiling, dials and what these use; of demand_3 the channel band's definition, of starred the practice table.
 #![tactic(auto)]
-

@@ -3,7 +3,7 @@ use Rattle.std.specs.Prelude.{◌≡◌, ℕ, not, List, [], ◌∷◌, ◌++◌
 use Rattle.std.proofs.Math.Path.{sym}
 use Rattle.std.proofs.Common.{ap, ◌∙◌}
 use Rattle.codes.specs.Read.{kind_of, direction_of}
-use Rattle.codes.specs.Refusal.{Test, test, refusal_of}
+use Rattle.codes.specs.Refusal.{test, refusal_of}
 use Rattle.codes.specs.Laws.{refusal_both}
 use Rattle.codes.specs.declared.Checked.{Checked}
 use Rattle.codes.specs.declared.Checked.TheVariants.{Accepted, Refused}

@@ -1,4 +1,4 @@
-// The converters between the two editions of an image. Public calls. They use codes, layout, image, bytes and writer.
+// The converters between the two editions of an image. Public calls. They use codes, layout, image, byte_writes and writer.
 #![tactic(auto)]
 
 ghost use Rattle.std.specs.Prelude.{◌≡◌, false, ◌+◌, ◌≤◌, length, take, drop};

@@ -6,7 +6,7 @@ use Rattle.std.proofs.Common.{true≢false, sym, ◌∙◌, arith}
 use Rattle.std.proofs.lemmas.Bool.{false≢true}
 use Rattle.std.proofs.Math.Path.{refl}
 use Rattle.std.specs.Float.Ieee.{le}
-use Rattle.profile.specs.Range.{range, holds_of, lengthy, common_of, intersect_of}
+use Rattle.profile.specs.Range.{holds_of, lengthy, common_of, intersect_of}
 use Rattle.profile.specs.declared.Range.{Range}
 use Rattle.profile.specs.declared.Shared.TheVariants.{Stretch, Nothing}
 use Rattle.air.specs.Air.{rf_range_of, guarded_of, dial_ends_of}

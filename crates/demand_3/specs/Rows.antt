@@ -15,7 +15,6 @@ use Rattle.table.specs.Table.{Table}
 use Rattle.table.specs.Parts.{span_of, segment_of, privilege_of, channels_of, centre_of}
 use Rattle.table.specs.declared.Segment.{Segment}
 use Rattle.table.specs.declared.Channels.{Channels}
-use Rattle.eighths.specs.Grid.{Figure}
 use Rattle.lists.specs.Each.{each}
 use Rattle.lists.specs.Laws.{Every, every_append, every_map}
 use Rattle.rows.specs.Order.{any_row, any_append}

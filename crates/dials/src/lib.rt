@@ -1,5 +1,5 @@
 // The dial list: the dials that keep a signal inside the rules, as rows in lent bytes. A public call. It uses codes, occupancy, air, station,
-// layout, table, entry, bytes, rows, nearest_rows and dial_rows; its laws use lists.
+// layout, table, entry, byte_writes, rows, nearest_rows and dial_rows; its laws use lists.
 #![tactic(auto)]
 
 ghost use Rattle.std.specs.Prelude.{◌++◌, ◌≡◌, ◌+◌, ◌*◌, ◌≤◌, length, drop};

@@ -27,10 +27,8 @@ use Rattle.station.specs.Station.{codes_valid, figures_valid, situation_of, unde
 use Rattle.station.specs.declared.Figure.{Figure}
 use Rattle.station.specs.declared.Situation.{Situation}
 use Rattle.station.specs.declared.StationRecord.{StationRecord}
-use Rattle.layout.specs.declared.General.{General}
 use Rattle.table.specs.Parts.{channels_of, reading_of}
 use Rattle.table.specs.Table.{Table, table_of}
-use Rattle.table.specs.declared.Channels.{Channels}
 use Rattle.table.specs.declared.ChannelBand.{ChannelBand}
 use Rattle.table.specs.declared.ChannelBand.TheVariants.{On, NoChannels}
 use Rattle.entry.specs.Entry.{image_tests, entry_tests, edges_valid, edges_read}
@@ -49,8 +47,8 @@ use Rattle.dial_rows.specs.declared.Request.{Request}
 use Rattle.dials.specs.List.{rows_with_sideband, rows_with_license, rows_with_control, situation_rows, list_rows, lent_tests, Listed, SafeDials}
 use Rattle.dials.specs.declared.DialList.{DialList}
 use Rattle.equal_margins.specs.Before.{guarded_before, unguarded_before, dial_ends_before, figures_before, entry_before, case_before, ready_before}
-use Rattle.equal_margins.specs.Before.{decide_before, evaluate_before, unmeasured_before, judge_before, ceiling_before, channels_with, rows_with}
-use Rattle.equal_margins.specs.Before.{piece_before, channel_before, rows_before, list_before, SafeDialsBefore}
+use Rattle.equal_margins.specs.Before.{decide_before, evaluate_before, unmeasured_before, ceiling_before, channels_with, rows_with}
+use Rattle.equal_margins.specs.Before.{piece_before, rows_before, list_before, SafeDialsBefore}
 
 -- a station record, and a station as it is read, with the same margin on both sides
 abbrev pub equal : StationRecord → Float → StationRecord

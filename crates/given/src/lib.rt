@@ -1,5 +1,5 @@
 // What an image is written from, and its refusals: 1, 3 and 4 of what is given, and 5 to 14 of the table that it makes, by the questions
-// that the image check asks of a record. Nothing is written here. It uses codes, scan, layout, coded, table, find, image and bytes.
+// that the image check asks of a record. Nothing is written here. It uses codes, scan, layout, coded, table, find, image and byte_writes.
 #![tactic(auto)]
 
 ghost use Rattle.std.specs.Prelude.{◌≡◌, false, ◌+◌, ◌*◌, ◌≤◌, ◌<◌, length, get_or};

@@ -40,7 +40,7 @@ use Rattle.verdict.specs.Laws.{evaluate_accepted}
 use Rattle.layout.specs.Layout.{segments, channels, automatic, excluded, bands}
 use Rattle.table.specs.Table.{Table, table_of}
 use Rattle.verdict.specs.declared.Ready.{Ready}
-use Rattle.verdict.specs.declared.Ready.TheVariants.{Met, Missing}
+use Rattle.verdict.specs.declared.Ready.TheVariants.{Missing}
 use Rattle.table.specs.Parts.{span_of, excluded_of, reading_of, channels_of, sixty_of, elsewhere_of, centre_of}
 use Rattle.table.specs.declared.Segment.{Segment}
 use Rattle.table.specs.declared.Channels.{Channels}
@@ -66,19 +66,17 @@ use Rattle.decision.specs.declared.SixtyNotes.{SixtyNotes}
 use Rattle.automatic_97_221.specs.Automatic.{responds}
 use Rattle.profile.specs.Range.{holds_of, channel_range_of}
 use Rattle.occupancy.specs.Edges.{range_of}
-use Rattle.decision.specs.declared.BandNumber.{BandNumber}
 use Rattle.decision.specs.declared.JudgedSegment.{JudgedSegment}
 use Rattle.decision.specs.declared.Draft.{Draft}
 use Rattle.decision.specs.declared.Decision.{Decision}
 use Rattle.part97.specs.Part97.{band_at, segment_at, general_limit, limit_for, automatic_rule_of, exceeds, channel_watts_of, segment_watts_of}
 use Rattle.part97.specs.Part97.{on_channel, is_data, some_privilege, privileged_of, under_privilege, draft_of, draft_inside}
-use Rattle.part97.specs.Part97.{draft_automatic, advised, automatic_elsewhere, automatic_data, considered, nearest_up_to, on_nearest}
+use Rattle.part97.specs.Part97.{draft_automatic, advised, automatic_elsewhere, automatic_data, considered, nearest_up_to}
 use Rattle.part97.specs.Part97.{outside_segments, inside_segment, judge_data, allowed_on_sixty, sixty_channel, sixty_segment}
 use Rattle.part97.specs.Part97.{in_sixty_segment, sixty_overlap, sixty_place}
 use Rattle.part97.specs.Part97.{sixty_emission, sixty_kind, sixty, off_sixty, judge_on_band, judge_in_band, touching, judge}
 use Rattle.part97.specs.declared.Case.{Case}
 use Rattle.part97.specs.declared.Nearest.{Nearest}
-use Rattle.part97.specs.declared.Nearest.TheVariants.{Near, NoneNear}
 use Rattle.part97.specs.declared.Privileged.{Privileged}
 use Rattle.part97.specs.declared.Privileged.TheVariants.{Granted, Forbidden, Unheld}
 

@@ -1,5 +1,5 @@
 // The number texts of a panel and a log, in lent bytes: the texts of the Rust's `at` and `khz`, and whole hertz. Digits are made in
-// whole numbers alone, three at a time. It uses figures, decimal and digit_groups; its definitions use codes, its laws bytes.
+// whole numbers alone, three at a time. It uses figures, decimal and digit_groups; its definitions use codes, its laws byte_writes.
 #![tactic(auto)]
 
 ghost use Rattle.std.specs.Prelude.{◌≡◌, ◌+◌, ◌≤◌, ◌<◌, ◌^◌, length};

@@ -1,6 +1,6 @@
 // The trustee's table report: the pairs of bands, of data segments and of privileges of one class that share a stretch, and the stretches
 // of the data segments that no privilege of a class covers, as rows in lent bytes. A public call. It uses codes, profile, layout, table,
-// image, sweep, bytes and report_rows; its laws use lists and order.
+// image, sweep, byte_writes and report_rows; its laws use lists and order.
 #![tactic(auto)]
 
 ghost use Rattle.std.specs.Prelude.{◌≡◌, ◌++◌, map, ◌+◌, ◌*◌, ◌-◌, ◌≤◌, ◌<◌, length, drop};

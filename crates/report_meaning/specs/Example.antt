@@ -1,6 +1,6 @@
 -- The report of the practice table: its bands, segments and privileges share nothing. A General's privilege on 20 m begins 25 kHz above the
 -- segment, and covers the whole segment on 60 m; an Extra has no privilege there at all, so that both segments are gaps.
-use Rattle.std.specs.Prelude.{List, [], ◌∷◌, ◌≡◌, refl}
+use Rattle.std.specs.Prelude.{[], ◌∷◌, ◌≡◌, refl}
 use Rattle.profile.specs.Range.{range}
 use Rattle.table.specs.Table.{table_of}
 use Rattle.starred.specs.Practice.{hz, practice}

@@ -3,15 +3,13 @@ use Prim.Native.Nat.{ℕ, zero, suc, ◌+◌, ◌<◌, ◌≤◌}
 use Rattle.std.specs.Prelude.{Bool, false, cond, ◌⊎◌, ◌≡◌, Float}
 use Rattle.std.proofs.Math.Bool.{true}
 use Rattle.std.proofs.Common.{true≢false, inr, sym, ap, subst, ◌∙◌, arith}
-use Rattle.std.proofs.lemmas.Bool.{false≢true}
 use mathlib.Core.List.{List, [], ◌∷◌, ◌++◌}
 use Rattle.std.proofs.Math.Logic.{inl}
 use Rattle.std.proofs.Math.Path.{refl}
-use Rattle.std.specs.Float.Ieee.{lt, le, is_nan}
-use Rattle.figures.specs.Figure.{min_of, max_of}
-use Rattle.order.specs.Total.{lt_number, lt_trans, lt_not, not_lt, lt_both, not_lt_trans, not_above_le}
+use Rattle.std.specs.Float.Ieee.{lt, is_nan}
+use Rattle.order.specs.Total.{lt_not, not_lt, lt_both, not_lt_trans, not_above_le}
 use Rattle.order.specs.Greater.{max_first, max_second, min_first, min_second}
-use Rattle.profile.specs.Range.{range, holds_of, lengthy, common_of, share_of}
+use Rattle.profile.specs.Range.{holds_of, lengthy, common_of, share_of}
 use Rattle.profile.specs.declared.Range.{Range}
 use Rattle.profile.specs.declared.Shared.{Shared}
 use Rattle.profile.specs.declared.Shared.TheVariants.{Stretch, Nothing}
@@ -86,6 +84,7 @@ shared_nothing m p r k e = go (lengthy (common_of (span_of r) p)) refl (ap (λ (
 -- ---- members of lists
 
 pub in_left : {A : Type 0} (x : A) (xs ys : List A) → In x xs → In x (xs ++ ys)
+in_left x [] ys i = elim i [ ]
 in_left x (y ∷ xs) ys (inl e) = inl e
 in_left x (y ∷ xs) ys (inr i) = inr (in_left x xs ys i)
 
@@ -103,6 +102,7 @@ in_either x (y ∷ xs) ys (inr i) = go (in_either x xs ys i)
     go (inr i) = inr i
 
 pub in_every : {A : Type 0} (P : A → Type 0) (x : A) (xs : List A) → Every P xs → In x xs → P x
+in_every P x [] e i = elim i [ ]
 in_every P x (y ∷ xs) e (inl q) = subst P (sym q) e.0
 in_every P x (y ∷ xs) e (inr i) = in_every P x xs e.1 i
 

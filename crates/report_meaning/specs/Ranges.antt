@@ -1,9 +1,9 @@
 -- Orders among ranges of positive length, whose ends are therefore numbers. Here x ≤ y is told as "y is not below x".
 use Rattle.std.specs.Prelude.{Bool, true, false, cond, ◌&&◌, ◌≡◌, refl, Float}
-use Rattle.std.proofs.Common.{true≢false, sym, ap, ◌∙◌}
+use Rattle.std.proofs.Common.{true≢false, sym, ◌∙◌}
 use Rattle.std.specs.Float.Ieee.{lt, le, is_nan, ne}
 use Rattle.figures.specs.Figure.{min_of, max_of}
-use Rattle.order.specs.Total.{lt_number, lt_trans, lt_not, not_lt, lt_both, lt_one_way, not_lt_trans, le_not_above, not_above_le}
+use Rattle.order.specs.Total.{lt_number, lt_not, not_lt, lt_both, lt_one_way, not_lt_trans, le_not_above, not_above_le}
 use Rattle.order.specs.Greater.{le_number, max_first, max_second, min_first, min_second}
 use Rattle.profile.specs.Range.{holds_of, lengthy, common_of, share_of}
 use Rattle.profile.specs.declared.Range.{Range}

@@ -1,7 +1,7 @@
 -- What the rows of a report mean, over the definition that the call's promise cites, for the table of an accepted image.
-use Rattle.std.specs.Prelude.{ℕ, zero, suc, ◌+◌, ◌-◌, ◌<◌, ◌≤◌, Bool, true, false, not, cond, List, [], ◌∷◌, ◌++◌, map, ◌⊎◌, ◌≡◌, refl, Float}
-use Rattle.std.proofs.Common.{true≢false, inl, inr, sym, ap, subst, ◌∙◌, arith}
-use Rattle.std.proofs.lemmas.Bool.{false≢true, not-false}
+use Rattle.std.specs.Prelude.{ℕ, zero, suc, ◌+◌, ◌-◌, ◌<◌, ◌≤◌, Bool, true, false, cond, List, [], ◌∷◌, ◌++◌, map, ◌⊎◌, ◌≡◌, refl, Float}
+use Rattle.std.proofs.Common.{inl, inr, sym, subst, ◌∙◌, arith}
+use Rattle.std.proofs.lemmas.Bool.{not-false}
 use Rattle.std.proofs.Math.Decide.{dec_le}
 use Rattle.std.specs.Float.Ieee.{lt, is_nan}
 use Rattle.codes.specs.Laws.{refusal_both, none_fails}
@@ -9,11 +9,9 @@ use Rattle.codes.specs.declared.Checked.TheVariants.{Accepted}
 use Rattle.order.specs.Total.{lt_both, lt_not, not_lt}
 use Rattle.profile.specs.Range.{holds_of, lengthy, common_of, share_of}
 use Rattle.profile.specs.declared.Range.{Range}
-use Rattle.profile.specs.declared.Shared.{Shared}
 use Rattle.profile.specs.declared.Shared.TheVariants.{Stretch, Nothing}
 use Rattle.lists.specs.Each.{each}
-use Rattle.lists.specs.From.{stretch, from}
-use Rattle.lists.specs.Laws.{Every}
+use Rattle.lists.specs.From.{stretch}
 use Rattle.scan.specs.First.{some}
 use Rattle.scan.specs.Laws.{some_false, from_here}
 use Rattle.layout.specs.Form.{form_tests}
@@ -30,7 +28,7 @@ use Rattle.sweep.specs.declared.Members.TheVariants.{OfClass}
 use Rattle.report_rows.specs.declared.ReportRow.{ReportRow}
 use Rattle.report.specs.Gaps.{of_part, left_from}
 use Rattle.report.specs.Report.{pair_members, pair_class, overlap_row, pair_rows, pair_rows_at, overlap_rows, gap_row, gaps_in, gaps_at}
-use Rattle.report_meaning.specs.Words.{In, Pair, share, Clear, Bare, Gap, lies, below, Apart, InGap, HeldBy}
+use Rattle.report_meaning.specs.Words.{In, Pair, share, Bare, Gap, below, Apart, InGap, HeldBy}
 use Rattle.report_meaning.specs.Ranges.{low_number, high_number, held_low, held_high, holds_trans}
 use Rattle.report_meaning.specs.Left.{in_left, in_right, in_either, in_every, InRange, left_sound, left_covers, left_longest, left_apart}
 
@@ -66,6 +64,7 @@ pub record Gathered {A : Type 0} (f : ℕ → List A) (i n : ℕ) (x : A) : Type
 
 each_member : {A : Type 0} (f : ℕ → List A) (n : ℕ) (x : A) → In x (each n f) → Gathered f 0 n x
 unfolding each
+each_member f zero x h = elim h [ ]
 each_member f (suc n) x h = go (each_member f n x) (in_either x (each n f) (f n) h)
   where
     go : (In x (each n f) → Gathered f 0 n x) → In x (each n f) ⊎ In x (f n) → Gathered f 0 (suc n) x
@@ -85,6 +84,7 @@ member_each f (suc n) k x h m = go (λ b. member_each f n k x b m) (dec_le (suc 
 
 stretch_member : {A : Type 0} (f : ℕ → List A) (k i : ℕ) (x : A) → In x (stretch k i f) → Gathered f i (i + k) x
 unfolding stretch
+stretch_member f zero i x h = elim h [ ]
 stretch_member f (suc k) i x h = go (stretch_member f k (suc i) x) (in_either x (f i) (stretch k (suc i) f) h)
   where
     go : (In x (stretch k (suc i) f) → Gathered f (suc i) (suc i + k) x) → In x (f i) ⊎ In x (stretch k (suc i) f) → Gathered f i (i + suc k) x
@@ -122,7 +122,10 @@ given_one m w r y x h = go (is_member m r) (lengthy (common_of (span_of r) w)) h
     go :
         (a b : Bool) → In x (on_shared (cond a (cond b (Stretch (common_of (span_of r) w)) Nothing) Nothing) (λ s. y s ∷ []) [])
         → (a ≡ true) × (b ≡ true) × (x ≡ y (common_of (span_of r) w))
+    go false b i = elim i [ ]
+    go true false i = elim i [ ]
     go true true (inl e) = (refl, refl, e)
+    go true true (inr i) = elim i [ ]
 
 one_given : {A : Type 0} (m : Members) (w : Range) (r : Record) (y : Range → A) → is_member m r ≡ true → share_of (span_of r) w ≡ true
     → In (y (common_of (span_of r) w)) (on_shared (shared_with m w r) (λ s. y s ∷ []) [])
@@ -170,6 +173,7 @@ gaps_rows table class i = refl
 
 -- of gaps that lie apart, one that lies in another is that one
 apart_same : (gs : List Range) (g h : Range) → Apart gs → In g gs → In h gs → lengthy g ≡ true → lengthy h ≡ true → holds_of h g ≡ true → h ≡ g
+apart_same [] g h A i _ G H o = elim i [ ]
 apart_same (k ∷ gs) g h A (inl e) (inl f) G H o = f ∙ sym e
 apart_same (k ∷ gs) g h A (inl e) (inr f) G H o =
     let b : lt g.high_hz h.low_hz ≡ true = subst (λ (r : Range). below r h) (sym e) (in_every (below k) h gs A.0 f) in

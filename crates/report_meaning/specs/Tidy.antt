@@ -1,14 +1,13 @@
 -- A table is tidy exactly if its report has no overlap row and every data segment lies in a band of its number.
-use Rattle.std.specs.Prelude.{ℕ, ◌+◌, ◌<◌, Bool, not, cond, ◌&&◌, ◌⊎◌, ◌≡◌, eqb}
+use Rattle.std.specs.Prelude.{ℕ, ◌<◌, Bool, not, cond, ◌&&◌, ◌≡◌, eqb}
 use Rattle.std.proofs.Math.Bool.{true, false, true≢false}
-use Rattle.std.proofs.lemmas.Bool.{false≢true, not-true}
-use mathlib.Core.List.{List, [], ◌∷◌, ◌++◌}
-use Rattle.std.proofs.Common.{inl, inr, sym, ap, ◌∙◌, arith, eq-eqb, eqb-true}
+use Rattle.std.proofs.lemmas.Bool.{not-true}
+use mathlib.Core.List.{List, [], ◌∷◌}
+use Rattle.std.proofs.Common.{inl, sym, ◌∙◌, arith, eq-eqb, eqb-true}
 use Rattle.std.proofs.Math.Path.{refl}
 use Rattle.codes.specs.declared.Checked.{Checked}
 use Rattle.codes.specs.declared.Checked.TheVariants.{Accepted, Refused}
 use Rattle.profile.specs.Range.{lengthy, share_of}
-use Rattle.scan.specs.First.{some}
 use Rattle.scan.specs.Laws.{some_false, some_all, and_true}
 use Rattle.layout.specs.Layout.{bands, segments, privileges}
 use Rattle.table.specs.Parts.{span_of}
@@ -16,15 +15,14 @@ use Rattle.table.specs.Table.{Table, table_of}
 use Rattle.find.specs.Question.{asks, homeless_of}
 use Rattle.image.specs.Check.{check_of}
 use Rattle.tidy.specs.Tidy.{pair_question, shares_earlier, two_share, tidy_table, tidiness_of, tidy_of}
-use Rattle.tidy.specs.declared.Tidiness.{Tidiness}
-use Rattle.tidy.specs.declared.Tidiness.TheVariants.{Tidy, Untidy}
+use Rattle.tidy.specs.declared.Tidiness.TheVariants.{Tidy}
 use Rattle.sweep.specs.Sweep.{is_member}
 use Rattle.sweep.specs.declared.Members.TheVariants.{All, OfClass}
-use Rattle.report.specs.Report.{pair_members, overlap_rows, report_rows, gap_rows}
+use Rattle.report.specs.Report.{pair_members, overlap_rows}
 use Rattle.report_rows.specs.declared.ReportRow.{ReportRow}
 use Rattle.report_meaning.specs.Words.{In, Pair, share}
 use Rattle.report_meaning.specs.Ranges.{share_turned, and_of}
-use Rattle.report_meaning.specs.Theorem.{Ranged, accepted_ranged, overlap_only, overlap_listed}
+use Rattle.report_meaning.specs.Theorem.{accepted_ranged, overlap_only, overlap_listed}
 
 -- ---- a pair of the report and a pair of the tidy question
 

@@ -2,4 +2,3 @@
 // its report has no overlap and every data segment lies in a band of its number. It has no code. It uses the crates whose definitions it
 // speaks of.
 #![tactic(auto)]
-

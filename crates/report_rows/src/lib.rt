@@ -1,5 +1,5 @@
 // Rows of a table report in lent bytes: 24 bytes a row, one behind the other. Every offset of a row stands here. It uses profile and
-// bytes; its laws use lists.
+// byte_writes; its laws use lists.
 #![tactic(auto)]
 
 ghost use Rattle.std.specs.Prelude.{◌≡◌, ◌+◌, ◌≤◌, length};

@@ -1,5 +1,5 @@
 // Rows of a dial list in lent bytes: 36 bytes a row, in a stable order by lower dial. Every offset of a row stands here.
-// It uses figures, profile, layout and bytes; its laws use lists and order.
+// It uses figures, profile, layout and byte_writes; its laws use lists and order.
 #![tactic(auto)]
 
 ghost use Rattle.std.specs.Prelude.{◌≡◌, ◌+◌, ◌*◌, ◌-◌, ◌≤◌, ◌<◌, length, take, drop};

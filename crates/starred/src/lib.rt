@@ -1,3 +1,2 @@
 // The starred cases of document 01's practice table. No code.
 #![tactic(auto)]
-

@@ -6,10 +6,9 @@ use Rattle.std.proofs.Math.Path.{refl, ap}
 use Rattle.codes.specs.declared.Checked.TheVariants.{Accepted}
 use Rattle.occupancy.specs.declared.Edges.{Edges}
 use Rattle.scan.specs.Laws.{and_true}
-use Rattle.decision.specs.Decision.{is_blocked}
 use Rattle.decision.specs.declared.Decision.{Decision}
 use Rattle.part97.specs.declared.Finding.{Finding}
-use Rattle.ceiling.specs.Ceiling.{no_decision, joined_of, climb_after, went_on, Stepped, rung_judged, ended_of as climb_ended}
+use Rattle.ceiling.specs.Ceiling.{no_decision, climb_after, went_on, Stepped, rung_judged, ended_of as climb_ended}
 use Rattle.ceiling.specs.declared.Rung.{Rung}
 use Rattle.ceiling.specs.declared.Rung.TheVariants.{Fastest}
 use Rattle.ceiling.specs.declared.Step.{Step}

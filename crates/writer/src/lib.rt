@@ -1,5 +1,5 @@
 // Writing an image of either edition from fields and records. A public call. The parts of every image that is written are put here. It uses
-// codes, layout, given and bytes; its definitions use lists.
+// codes, layout, given and byte_writes; its definitions use lists.
 #![tactic(auto)]
 
 ghost use Rattle.std.specs.Prelude.{◌≡◌, ◌+◌, ◌*◌, ◌≤◌, ◌<◌, length};

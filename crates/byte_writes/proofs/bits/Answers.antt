@@ -1,4 +1,4 @@
--- `bytes::bits` meets its contract: what differs from itself is a NaN.
+-- `byte_writes::bits` meets its contract: what differs from itself is a NaN.
 use mathlib.Core.Bool.{Bool, true, false, not}
 use mathlib.Core.Path.{◌≡◌, sym, ◌∙◌}
 use lib.Dec.{T}

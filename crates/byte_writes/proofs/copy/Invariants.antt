@@ -1,4 +1,4 @@
--- `bytes::copy` meets its contract: a loop invariant, and a law for the first turn, each turn and the end.
+-- `byte_writes::copy` meets its contract: a loop invariant, and a law for the first turn, each turn and the end.
 use Prim.Native.Nat.{◌-◌}
 use Rattle.byte_writes.specs.Laws.{Copying}
 use Rattle.byte_writes.proofs.copy.Given as goal

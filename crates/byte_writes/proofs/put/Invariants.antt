@@ -1,4 +1,4 @@
--- `bytes::put` meets its contract: on each way to a return, the tests and what the calls ensure say which case of the definition holds.
+-- `byte_writes::put` meets its contract: on each way to a return, the tests and what the calls ensure say which case of the definition holds.
 use Prim.Native.Nat.{◌-◌}
 use Rattle.byte_writes.specs.Laws.{Putting}
 use Rattle.byte_writes.proofs.put.Given as goal

@@ -1,0 +1,25 @@
+-- The tests in turn: the dial's mark, the verdict's, the stretch's.
+use Rattle.std.proofs.Common.{not, [], ◌∷◌, ℤ, ap, ◌∙◌, w64, to_z, of_z}
+use mir.ValLaws.{to_z-of_z}
+use Rattle.codes.specs.Refusal.{test, refusal_of}
+use Rattle.station.specs.Station.{mark_valid}
+use Rattle.station.specs.declared.StationRecord.{StationRecord}
+use Rattle.verdict.specs.Verdict.{evaluate_tests}
+use Rattle.census.specs.Census.{undialled, stretch_tests}
+use Rattle.census.specs.Lifted.{in_turn, in_turns}
+use Rattle.census.proofs.census_refusals.Goals as goal
+
+pub returns : goal.returns
+returns c =
+    let a = c.args in
+    c.in_turn-2.ensures
+    ∙ ap (in_turn c.mark_refusal-mark.result) c.in_turn.ensures
+    ∙ in_turns (test 20 (not (mark_valid a.r.dial_known)) ∷ []) (evaluate_tests (undialled a.r) a.kind a.direction a.e a.image.now)
+    (stretch_tests a.first a.last) _ _ _
+    c.mark_refusal-mark.ensures
+    (c.evaluate_refusals-front.ensures
+    ∙ ap (λ (q : StationRecord). refusal_of (evaluate_tests q a.kind a.direction a.e a.image.now))
+    c.without_dial.ensures)
+    (c.stretch_refusals-stretch.ensures
+    ∙ ap (λ (z : ℤ). refusal_of (stretch_tests z (to_z w64 (of_z w64 a.last)))) (to_z-of_z w64 a.first c.ranges.first)
+    ∙ ap (λ (z : ℤ). refusal_of (stretch_tests a.first z)) (to_z-of_z w64 a.last c.ranges.last))
