@@ -280,13 +280,13 @@ module _ (table : Table) (s : Situation) (kind : EmissionKind) (audio : Range) (
       → judged_of table signal (from_control RespondToAutomatic control license set dial) ≡ judged_of table signal
       (from_control Originate control license set dial)
   at_control_holds (ControlIs mode) license set dial = at_license_holds mode license set dial
-  at_control_holds ControlAbsent license set dial = refl
+  at_control_holds ControlAbsent l set dial = refl
 
   at_region : (b : Bool) (control : Control) (license : License) (set : SidebandSet) (dial : Figure)
       → judged_of table signal (cond b (from_control RespondToAutomatic control license set dial) (Missing Region §97-301))
       ≡ judged_of table signal (cond b (from_control Originate control license set dial) (Missing Region §97-301))
   at_region true control license set dial = at_control_holds control license set dial
-  at_region false control license set dial = refl
+  at_region false k l set dial = refl
 
 -- the verdict under a table, at a dial
 rules_same : (table : Table) (s : Situation) (dial : Figure) (kind : EmissionKind) (audio : Range)

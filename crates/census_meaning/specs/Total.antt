@@ -1,5 +1,5 @@
 -- "Their total is last − first + 1."
-use Rattle.std.specs.Prelude.{ℕ, zero, suc, ◌+◌, ◌<◌, ◌≤◌, Bool, true, false, cond, List, [], ◌∷◌, ◌≡◌, refl, eqb, ℤ, pos, negsuc, ◌+ℤ◌, ◌-ℤ◌}
+use Rattle.std.specs.Prelude.{ℕ, zero, suc, ◌+◌, ◌<◌, ◌≤◌, Bool, cond, List, [], ◌∷◌, ◌≡◌, refl, eqb, ℤ, pos, negsuc, ◌+ℤ◌, ◌-ℤ◌}
 use Rattle.std.proofs.Common.{sym, ap, ◌∙◌, arith, eq-eqb, ne_eqb}
 use Rattle.std.proofs.Math.Decide.{ℕ_discrete}
 use Rattle.codes.specs.Refusal.{refusal_of}
@@ -11,7 +11,7 @@ use Rattle.census.specs.Census.{dials_by, dials_of, many, listed, counts_of, cen
 use Rattle.census.specs.Lifted.{stretch_accepted}
 use Rattle.census.specs.Counts.{Numbered}
 use Rattle.census.specs.Coded.{code_numbered}
-use Rattle.census.specs.Front.{counts_in, census_counted, front_stretch}
+use Rattle.census.specs.Front.{census_counted, front_stretch}
 
 unfoldable pub total : List ℕ → ℕ
 total [] = 0

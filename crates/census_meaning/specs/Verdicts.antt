@@ -1,11 +1,9 @@
 -- "each is the number of dials in that stretch whose code is that one": the code that a dial is counted under is the one that the call
 -- `evaluate` gives with that dial as the record's own.
-use Rattle.std.specs.Prelude.{ℕ, zero, suc, ◌+◌, ◌-◌, ◌<◌, ◌≤◌, Bool, true, false, not, cond, List, [], ◌∷◌, ◌++◌, ◌≡◌, Float, ℤ, pos, negsuc, nat_abs, ◌+ℤ◌}
+use Rattle.std.specs.Prelude.{ℕ, zero, suc, ◌+◌, ◌-◌, ◌<◌, ◌≤◌, Bool, true, cond, List, ◌≡◌, Float, ℤ, pos, negsuc, nat_abs, ◌+ℤ◌}
 use Rattle.std.proofs.Math.Path.{refl}
 use Rattle.std.proofs.Common.{sym, ap, ◌∙◌, arith, lt-ltb, le-ltb}
 use Rattle.std.proofs.Math.Decide.{dec_lt}
-use Rattle.std.specs.Float.{binary64}
-use Rattle.std.specs.Float.Ieee.{of_int}
 use Rattle.std.proofs.Math.IntN.{pos-ne-negsuc}
 use Rattle.figures.specs.Figure.{limit40, in_size, read_hz}
 use Rattle.codes.specs.Read.{kind_of, direction_of, policy_of}
@@ -28,9 +26,9 @@ use Rattle.decision.specs.declared.Decision.{Decision}
 use Rattle.verdict.specs.Verdict.{case_of, ready_of, under_rules_of, unruled_of, decide_of, evaluate_tests, unless_refused, evaluate_of}
 use Rattle.census.specs.declared.Census.{Census}
 use Rattle.census.specs.Census.{farthest, dial_at, dials_of, code_at, counts_of, dialled, undialled, census_tests, census_of}
-use Rattle.census.specs.Lifted.{Stretch, stretch_accepted}
+use Rattle.census.specs.Lifted.{stretch_accepted}
 use Rattle.census.specs.Signed.{one_up}
-use Rattle.census.specs.Front.{counts_in, census_counted, front_verdict, front_stretch}
+use Rattle.census.specs.Front.{census_counted, front_verdict, front_stretch}
 use Rattle.census_meaning.specs.Split.{counts_same, behind}
 use Rattle.census_meaning.specs.Whole.{whole_in_size, whole_read}
 

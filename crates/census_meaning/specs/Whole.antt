@@ -1,8 +1,8 @@
 -- A whole number of hertz up to 2^40 in size is a figure that no test refuses, and reads as it is.
-use Rattle.std.specs.Prelude.{ℕ, zero, suc, ◌+◌, ◌*◌, ◌^◌, ◌≤◌, Bool, true, false, cond, ◌≡◌, refl, ltb, leb, eqb, Float, ℤ, pos, negsuc, nat_abs}
-use Rattle.std.proofs.Common.{sym, ap, subst, ◌∙◌, arith, lt-ltb, le-ltb, le-leb, ne_eqb}
+use Rattle.std.specs.Prelude.{ℕ, zero, suc, ◌+◌, ◌*◌, ◌^◌, ◌≤◌, Bool, true, false, cond, ◌≡◌, refl, ℤ, pos, negsuc, nat_abs}
+use Rattle.std.proofs.Common.{ap, subst, ◌∙◌, arith, lt-ltb, le-ltb, le-leb, ne_eqb}
 use Rattle.std.specs.Float.{binary64}
-use Rattle.std.specs.Float.Ieee.{of_bits, of_int, round, sum, neg, lt, le, eq}
+use Rattle.std.specs.Float.Ieee.{of_bits, of_int, round, sum, neg, le, eq}
 use Rattle.figures.specs.Figure.{zero_hz, limit40, in_size, read_hz}
 use Rattle.eighths.specs.Grid.{Value, Eighths}
 use Rattle.eighths.specs.Steps.{summed}

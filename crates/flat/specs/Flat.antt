@@ -183,7 +183,7 @@ flat_of d =
       notes = d.advice.notes;
     }
 
--- a ceiling: a rung is below 256 (Fits); its limit is blocked where it is absent or refused too (Run, `limit_blocked` of Rattle.ceiling)
+-- a ceiling: a rung is below 256 (Fits); its limit is blocked where it is absent or refused too (Laws, limit-blocked of Rattle.ceiling)
 unfoldable pub ceiling_flat : CeilingAnswer → FlatCeiling
 ceiling_flat a =
     record {

@@ -142,7 +142,7 @@ module _ (table : Table) (c : Case) where
       → concluded table c (beyond_segment band segment own overshoot)
       ≡ finish_of (draft_inside c band segment own) Blocked OutsideDataSegment own overshoot no_advice
   unfolding concluded concluded_over draft_at beyond_segment draft_inside no_advice
-  beyond_segment_holds band segment own overshoot = refl
+  beyond_segment_holds band segment own over = refl
 
   pub lawful_in_holds : (band : ℕ) (segment : Range) (own : ℕ) (r : Range) (code : Code) (rule : ℕ)
       → concluded table c (lawful_in band segment own NoRange r code rule) ≡ advised table c r (draft_inside c band segment own) code rule

@@ -55,7 +55,7 @@ use Rattle.verdict.specs.declared.Ready.TheVariants.{Met, Missing}
 unfoldable pub air_of : Figure → SidebandSet → Range → MaybeRange
 air_of (Known dial) (SidebandIs sideband) audio = Is (rf_range_of dial sideband audio)
 air_of (Known dial) SidebandAbsent audio = NoRange
-air_of Absent sideband audio = NoRange
+air_of Absent _ audio = NoRange
 
 -- the signal, before any test: its audio edges and width always, its edges on the air where dial and sideband are known
 unfoldable pub signal_of : Figure → SidebandSet → Range → Draft
