@@ -1,9 +1,8 @@
 -- No number of an answer is cut at the boundary: a rung is below 256, a dial list has at most 256 * 256 * 256 + 256 rows, and the place of
 -- a refusal has a table below 9 and a record below 256.
-use Rattle.std.specs.Prelude.{ℕ, zero, suc, ◌+◌, ◌*◌, ◌/◌, ◌%◌, ◌<◌, ◌≤◌, Bool, true, false, not, cond, ◌&&◌, ◌||◌, List, [], ◌∷◌, ◌++◌, ◌≡◌, refl, eqb, ltb, length, Float}
-use Rattle.std.proofs.Common.{true≢false, sym, subst, arith, ltb-false, length-append, SFits}
+use Rattle.std.specs.Prelude.{ℕ, zero, suc, ◌/◌, ◌%◌, ◌<◌, ◌≤◌, Bool, true, false, not, cond, ◌||◌, List, [], ◌∷◌, ◌≡◌, refl, eqb, ltb, length, Float}
+use Rattle.std.proofs.Common.{true≢false, sym, subst, arith, ltb-false}
 use Rattle.std.proofs.Math.Path.{ap}
-use Rattle.std.specs.Int.{w32}
 use Rattle.codes.specs.Read.{direction_valid, direction_of}
 use Rattle.codes.specs.Refusal.{test, refusal_of}
 use Rattle.codes.specs.Laws.{refusal_both, none_fails}
@@ -24,16 +23,11 @@ use Rattle.station.specs.Station.{under_rules, situation_of}
 use Rattle.station.specs.declared.StationRecord.{StationRecord}
 use Rattle.station.specs.declared.Situation.{Situation}
 use Rattle.layout.specs.Form.{Whole}
-use Rattle.layout.specs.Layout.{channels, general_of, count_of}
-use Rattle.table.specs.Table.{record_in, table_of}
-use Rattle.table.specs.Parts.{centre_of, channels_of}
-use Rattle.table.specs.declared.Channels.{Channels}
-use Rattle.table.specs.declared.ChannelBand.{ChannelBand}
-use Rattle.table.specs.declared.ChannelBand.TheVariants.{On, NoChannels}
+use Rattle.layout.specs.Layout.{general_of, count_of}
+use Rattle.table.specs.Table.{table_of}
+use Rattle.table.specs.Parts.{channels_of}
 use Rattle.fault.specs.Fault.{fault_of}
 use Rattle.fault.specs.Laws.{named}
-use Rattle.fault.specs.declared.Fault.{Fault}
-use Rattle.fault.specs.declared.Fault.TheVariants.{InRecord}
 use Rattle.entry.specs.Entry.{entry_tests, entry_of, edges_valid, edges_read}
 use Rattle.entry.specs.Laws.{entry_whole}
 use Rattle.rows.specs.declared.SafeDial.{SafeDial}
@@ -41,13 +35,11 @@ use Rattle.dial_rows.specs.Dials.{rows_of}
 use Rattle.dial_rows.specs.Laws.{gathered_few}
 use Rattle.dial_rows.specs.declared.Request.{Request}
 use Rattle.dials.specs.List.{rows_with_sideband, rows_with_license, rows_with_control, known_rows, situation_rows, list_rows, lent_tests, list_tests, answer_of}
-use Rattle.dials.specs.declared.DialList.{DialList}
-use Rattle.dials.specs.declared.DialList.TheVariants.{Rows}
-use Rattle.ceiling.specs.Ceiling.{rung_number, judge_by, climbed, ceiling_unless_refused, ceiling_of}
+use Rattle.ceiling.specs.Ceiling.{judge_by, climbed, ceiling_unless_refused, ceiling_of}
 use Rattle.rungs.specs.Rungs.{burst_of, any_unmarked, bad_rungs, rung_tests, ceiling_tests}
 use Rattle.ceiling.specs.Run.{rung_below, ceiling_run}
 use Rattle.ceiling.specs.declared.Rung.{Rung}
-use Rattle.ceiling.specs.declared.Rung.TheVariants.{Fastest, NoRung}
+use Rattle.ceiling.specs.declared.Rung.TheVariants.{NoRung}
 use Rattle.flat.specs.Fits.{RungFits}
 use Rattle.flat_answers.specs.Fits.{most_rows, Counted, FaultFits}
 

@@ -2,12 +2,12 @@
 use Rattle.std.specs.Prelude.{ℕ, suc, ◌/◌, ◌<◌, ◌≤◌, Bool, cond, ◌&&◌, List, ◌≡◌, eqb, length, Float}
 use Rattle.std.proofs.Math.Bool.{true, false, not}
 use Rattle.std.proofs.Math.Path.{refl, ap}
-use Rattle.std.proofs.Common.{sym, subst, ◌∙◌}
+use Rattle.std.proofs.Common.{sym, subst}
 use native.Mathlib.Omega.{arith}
 use Rattle.std.proofs.Math.Decide.{dec_le}
 use Rattle.std.specs.Float.Ieee.{lt}
 use Rattle.codes.specs.Read.{direction_valid, kind_of, direction_of}
-use Rattle.codes.specs.Refusal.{Test, refusal_of}
+use Rattle.codes.specs.Refusal.{refusal_of}
 use Rattle.codes.specs.declared.Checked.{Checked}
 use Rattle.codes.specs.declared.Checked.TheVariants.{Accepted, Refused}
 use Rattle.codes.specs.declared.Policy.{Policy}
@@ -29,7 +29,7 @@ use Rattle.profile.specs.Range.{range, holds_of, channel_range_of}
 use Rattle.profile.specs.declared.Range.{Range}
 use Rattle.occupancy.specs.Edges.{range_of}
 use Rattle.occupancy.specs.declared.Edges.{Edges}
-use Rattle.scan.specs.First.{first_from, first, on_found}
+use Rattle.scan.specs.First.{on_found}
 use Rattle.scan.specs.Laws.{first_at}
 use Rattle.scan.specs.declared.Found.{Found}
 use Rattle.scan.specs.declared.Found.TheVariants.{At, Nothing}
@@ -59,7 +59,6 @@ use Rattle.decision.specs.Number.{no_rule, §97-301, §97-109}
 use Rattle.decision.specs.declared.Code.{Code}
 use Rattle.decision.specs.declared.Code.TheVariants.{Region, NoControl, NoLicense, NoSideband, NoDial}
 use Rattle.decision.specs.declared.Overshoot.{Overshoot}
-use Rattle.decision.specs.declared.Guidance.{Guidance}
 use Rattle.decision.specs.declared.Guidance.TheVariants.{Avoid, Inside, Outside, NoGuidance}
 use Rattle.decision.specs.declared.SixtyNotes.{SixtyNotes}
 use Rattle.decision.specs.declared.Draft.{Draft}
@@ -68,7 +67,7 @@ use Rattle.part97.specs.Part97.{plan_says, wants_plan, guidance_of, advice_of, a
 use Rattle.part97.specs.Part97.{automatic_data, on_nearest, outside_segments, inside_segment, judge_data}
 use Rattle.automatic_97_221.specs.Automatic.{responds}
 use Rattle.part97.specs.Part97.{general_limit, privileged_of, some_privilege, on_channel, is_data, limit_for, nearest_up_to}
-use Rattle.part97.specs.Part97.{emitted, keyed, off_sixty, allowed_on_sixty, sixty_channel, sixty_segment}
+use Rattle.part97.specs.Part97.{off_sixty, allowed_on_sixty, sixty_channel, sixty_segment}
 use Rattle.part97.specs.Part97.{in_sixty_segment, sixty_overlap, sixty_place, sixty_emission, sixty_kind, sixty, judge_on_band, judge_in_band, judge}
 use Rattle.part97.specs.declared.Case.{Case}
 use Rattle.part97.specs.declared.Nearest.{Nearest}
@@ -79,7 +78,7 @@ use Rattle.verdict.specs.Verdict.{signal_of, with_control, with_license, with_si
 use Rattle.verdict.specs.Verdict.{unruled_of, decide_of, beside_valid, edge_tests, evaluate_tests, unless_refused, evaluate_of, unmeasured_of}
 use Rattle.verdict.specs.Laws.{rules_whole}
 use Rattle.verdict.specs.declared.Ready.{Ready}
-use Rattle.verdict.specs.declared.Ready.TheVariants.{Met, Missing}
+use Rattle.verdict.specs.declared.Ready.TheVariants.{Missing}
 use Rattle.ceiling.specs.Ceiling.{judge_by, climbed, ceiling_unless_refused, ceiling_of}
 use Rattle.rungs.specs.Rungs.{rung_tests, ceiling_tests}
 use Rattle.ceiling.specs.Run.{Run, judging, bursts, ceiling_run}

@@ -18,7 +18,6 @@ use Rattle.decision.specs.Decision.{is_blocked, refused_of}
 use Rattle.decision.specs.Number.{verdict_number}
 use Rattle.decision.specs.declared.Verdict.{Verdict}
 use Rattle.decision.specs.declared.Verdict.TheVariants.{Legal, Warning, Blocked}
-use Rattle.decision.specs.declared.Decision.{Decision}
 use Rattle.verdict.specs.Verdict.{beside_valid, edge_tests, evaluate_tests, unless_refused, evaluate_of}
 use Rattle.ceiling.specs.Ceiling.{ceiling_of}
 use Rattle.ceiling.specs.Run.{limit_blocked}

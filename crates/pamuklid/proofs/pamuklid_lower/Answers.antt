@@ -1,0 +1,11 @@
+-- By the calls: the answer flat, the bytes as the call leaves them.
+use mathlib.Core.Path.{◌∙◌, ap}
+use Rattle.flat_answers.specs.Answers.{image_flat}
+use Rattle.pamuklid.proofs.pamuklid_lower.Goals as goal
+
+pub returns : goal.returns
+returns c =
+    record {
+      answered = c.image_flat.ensures ∙ ap image_flat c.lower.ensures.answered;
+      bytes = c.lower.ensures.bytes;
+    }
