@@ -1,64 +1,43 @@
--- The search by its laws, and the premises as the code asks them.
-use Rattle.std.specs.Prelude.{ℕ, Bool, false, not, ◌&&◌, ◌||◌, List, ◌≡◌, refl, Float}
+-- The search by its laws, the premises that the code asks, and that figures that meet them are in eighths.
+use Rattle.std.specs.Prelude.{ℕ, Bool, false, not, ◌&&◌, ◌||◌, ◌≡◌, refl, Float}
 use Rattle.std.proofs.Math.Bool.{true, cond}
 use Rattle.std.proofs.lemmas.Bool.{false≢true, not-true}
-use Rattle.std.proofs.Math.Path.{sym, ap}
+use Rattle.std.proofs.Math.Path.{ap}
 use Rattle.std.proofs.Common.{◌∙◌}
 use Rattle.std.proofs.Math.Dec.{eqb}
 use Rattle.figures.specs.Figure.{figure_of, in_size}
-use Rattle.codes.specs.Code.{policy_code}
-use Rattle.codes.specs.Read.{policy_of, direction_of}
-use Rattle.codes.specs.Refusal.{refusal_of}
-use Rattle.codes.specs.Laws.{refusal_both}
-use Rattle.codes.specs.declared.Checked.{Checked}
-use Rattle.codes.specs.declared.Checked.TheVariants.{Accepted, Refused}
-use Rattle.codes.specs.declared.Control.TheVariants.{ControlIs, NoControl}
 use Rattle.codes.specs.declared.ControlMode.{ControlMode}
-use Rattle.codes.specs.declared.License.TheVariants.{LicenseIs, NoLicense}
 use Rattle.codes.specs.declared.LicenseClass.{LicenseClass}
-use Rattle.codes.specs.declared.SidebandSet.TheVariants.{SidebandIs, NoSideband}
 use Rattle.codes.specs.declared.Sideband.{Sideband}
 use Rattle.codes.specs.declared.Direction.{Direction}
-use Rattle.codes.specs.declared.Policy.{Policy}
-use Rattle.codes.specs.declared.Policy.TheVariants.{Unset, NoProfile, Rules, Broken}
 use Rattle.profile.specs.declared.Range.{Range}
 use Rattle.occupancy.specs.declared.Edges.{Edges}
 use Rattle.scan.specs.First.{some}
 use Rattle.scan.specs.Laws.{and_true, some_false, some_all}
-use Rattle.station.specs.Station.{under_rules, situation_of}
-use Rattle.station.specs.declared.Figure.TheVariants.{Known, Absent}
 use Rattle.station.specs.declared.Situation.{Situation}
-use Rattle.station.specs.declared.StationRecord.{StationRecord}
-use Rattle.layout.specs.Form.{form_tests}
 use Rattle.layout.specs.Layout.{tables, power}
 use Rattle.layout.specs.declared.General.{General}
 use Rattle.layout.specs.declared.Record.{Record}
-use Rattle.table.specs.Table.{Table, table_of}
+use Rattle.table.specs.Table.{Table}
 use Rattle.table.specs.Parts.{channels_of}
-use Rattle.image.specs.Check.{content_tests, check_of}
-use Rattle.entry.specs.Entry.{entry_tests, entry_of, edges_read}
-use Rattle.entry.specs.Laws.{entry_accepted}
-use Rattle.verdict.specs.Verdict.{beside_valid, edge_tests}
 use Rattle.dial_rows.specs.Dials.{data_rows, band_rows, rows_of}
 use Rattle.dial_rows.specs.declared.Request.{Request}
 use Rattle.dials.specs.List.{known_rows}
-use Rattle.dials.specs.Answer.{all_known}
 use Rattle.tidy.specs.Tidy.{tidy_table}
 use Rattle.eighths.specs.Grid.{in_eighths}
 use Rattle.on_grid.specs.Within.{limit38, figure_met, record_met, block_met, unmet_at, unmet_in, figures_met, range_met, edges_met, margins_met}
-use Rattle.demand_3.specs.Words.{record_in_eighths, block_in_eighths, off_grid_at, off_grid_in, table_in_eighths, edges_in_eighths, dial_in_eighths}
-use Rattle.demand_3.specs.Words.{station_in_eighths, audio_of, accepted, rules_in_force, unrefused, has_control, has_license, has_sideband}
-use Rattle.demand_3.specs.Words.{has_dial, prerequisites_met, positive_width, table_met, station_met, signal_met}
-use Rattle.demand_3.specs.Tests.{and_both, all_three, same}
+use Rattle.demand_3.specs.Words.{record_in_eighths, block_in_eighths, off_grid_at, off_grid_in, table_in_eighths, edges_in_eighths}
+use Rattle.demand_3.specs.Words.{audio_of}
+use Rattle.demand_3.specs.Words.{positive_width}
+use Rattle.demand_3.specs.Tests.{and_both, all_three}
 use Rattle.demand_3.specs.Rows.{band_rows_holds}
-use Rattle.nearest.specs.Nearest.{dial_met, within38, judged_of, answer_of, nearest_from, nearest_in, nearest_tests}
+use Rattle.nearest.specs.Nearest.{answer_of}
 use Rattle.nearest_rows.specs.Over.{nearest_over}
-use Rattle.nearest.specs.Nearest.{nearest_unless_refused, nearest_of}
 use Rattle.nearest_rows.specs.Laws.{over_append, over_channels}
 use Rattle.nearest_rows.specs.declared.Best.{Best}
 use Rattle.nearest_rows.specs.declared.Best.TheVariants.{Nowhere}
 use Rattle.nearest.specs.declared.Nearest.{Nearest}
-use Rattle.nearest.specs.declared.Nearest.TheVariants.{NotJudged, Refused as NoAnswer}
+use Rattle.nearest.specs.declared.Nearest.TheVariants.{NotJudged}
 
 -- the premises that are left where Rules are in force and the prerequisites met
 unfoldable pub premises_of : Table → Situation → Edges → Float → Range → Bool
@@ -87,14 +66,14 @@ rows_over table q dial best =
 
 -- ---- figures at most 2^38 in size and in eighths are in eighths
 
-grid_of : (x : Float) → figure_met x ≡ true → in_eighths x ≡ true
+pub grid_of : (x : Float) → figure_met x ≡ true → in_eighths x ≡ true
 unfolding figure_met
 grid_of x h = (and_true (in_size limit38 x) (in_eighths x) h).1
 
-pair_of : (x y : Float) → (figure_met x && figure_met y) ≡ true → (in_eighths x && in_eighths y) ≡ true
+pub pair_of : (x y : Float) → (figure_met x && figure_met y) ≡ true → (in_eighths x && in_eighths y) ≡ true
 pair_of x y h = let p = and_true (figure_met x) (figure_met y) h in and_both _ _ (grid_of x p.0) (grid_of y p.1)
 
-edges_of_holds : (e : Edges) → edges_met e ≡ true → edges_in_eighths e ≡ true
+pub edges_of_holds : (e : Edges) → edges_met e ≡ true → edges_in_eighths e ≡ true
 unfolding edges_met edges_in_eighths
 edges_of_holds e h =
     let p = and_true (range_met e.power) (range_met e.spectral) h in
@@ -123,7 +102,7 @@ not_of true b f h = refl
 not_of false true f h = absurd (false≢true (f refl))
 not_of false false f h = h
 
-table_of_holds : (table : Table) → figures_met table ≡ true → table_in_eighths table ≡ true
+pub table_of_holds : (table : Table) → figures_met table ≡ true → table_in_eighths table ≡ true
 unfolding figures_met table_in_eighths
 table_of_holds table h =
     let p = and_true (block_met table.general) (not (some (unmet_in table) tables)) h in
@@ -136,152 +115,3 @@ table_of_holds table h =
     (λ i hi.
     not_of (record_in_eighths t (table.at t i)) (record_met t (table.at t i)) (record_of_holds t (table.at t i))
     (some_false (unmet_at table t) (table.count t) (some_false (unmet_in table) tables none t ht) i hi)))))
-
--- ---- the premises
-
-and_left : (a b : Bool) → a ≡ false → (a && b) ≡ false
-and_left a b e = rw e
-
-and_right : (a b : Bool) → b ≡ false → (a && b) ≡ false
-and_right true b e = e
-and_right false b e = refl
-
-module _ (table : Table) (s : Situation) (direction : Direction) (e : Edges) where
-  -- a prerequisite that is missing
-  missing : prerequisites_met table s ≡ false → NotJudged ≡ nearest_in table s direction e
-  unfolding nearest_in judged_of station_met
-  missing h =
-      sym
-      (ap (λ (b : Bool). cond b (answer_of (nearest_from table s direction e s.dial)) NotJudged)
-      (and_left _ (signal_met table s e && (table_met table && within38 table s e))
-      (and_right (rules_in_force s) _ (and_left _ (station_in_eighths s) h))))
-
-  abbrev region : Bool
-  region = eqb s.itu_region table.general.region
-
-  abbrev last : Bool
-  last = has_sideband s.sideband && has_dial s.dial
-
-  abbrev most : Bool
-  most = has_license s.license && last
-
-  pub no_region : region ≡ false → NotJudged ≡ nearest_in table s direction e
-  unfolding prerequisites_met
-  no_region h = missing (and_left region (has_control s.control && most) h)
-
-  pub no_control : s.control ≡ NoControl → NotJudged ≡ nearest_in table s direction e
-  unfolding prerequisites_met
-  no_control h = missing (and_right region (has_control s.control && most) (and_left (has_control s.control) most (ap has_control h)))
-
-  after_control : most ≡ false → NotJudged ≡ nearest_in table s direction e
-  unfolding prerequisites_met
-  after_control h = missing (and_right region (has_control s.control && most) (and_right (has_control s.control) most h))
-
-  pub no_license : s.license ≡ NoLicense → NotJudged ≡ nearest_in table s direction e
-  no_license h = after_control (and_left (has_license s.license) last (ap has_license h))
-
-  pub no_sideband : s.sideband ≡ NoSideband → NotJudged ≡ nearest_in table s direction e
-  no_sideband h =
-      after_control (and_right (has_license s.license) last (and_left (has_sideband s.sideband) (has_dial s.dial) (ap has_sideband h)))
-
-  pub no_dial : s.dial ≡ Absent → NotJudged ≡ nearest_in table s direction e
-  no_dial h =
-      after_control (and_right (has_license s.license) last (and_right (has_sideband s.sideband) (has_dial s.dial) (ap has_dial h)))
-
-  -- all of them met
-  module _
-      (rules : s.policy ≡ Rules) (ok : unrefused table ≡ true) (here : eqb s.itu_region table.general.region ≡ true)
-      (control : ControlMode) (c : s.control ≡ ControlIs control) (license : LicenseClass) (l : s.license ≡ LicenseIs license)
-      (sideband : Sideband) (b : s.sideband ≡ SidebandIs sideband) (dial : Float) (d : s.dial ≡ Known dial)
-    where
-      abbrev audio : Range
-      audio = audio_of table e
-
-      met : prerequisites_met table s ≡ true
-      unfolding prerequisites_met
-      met = and_both _ _ here (and_both _ _ (ap has_control c) (and_both _ _ (ap has_license l) (and_both _ _ (ap has_sideband b) (ap has_dial d))))
-
-      judged_to : judged_of table s e ≡ true → premises_of table s e dial audio ≡ true
-      unfolding judged_of premises_of signal_met table_met within38
-      judged_to h =
-          let p = all_three (station_met table s) (signal_met table s e) _ h in
-          let g = and_true (edges_in_eighths e) (positive_width s audio) p.1 in
-          let t = and_true (table_met table) (within38 table s e) p.2 in
-          let u = all_three (unrefused table) (tidy_table table) (table_in_eighths table) t.0 in
-          let w = all_three (figures_met table) (edges_met e) (margins_met s.margin && dial_met s.dial) t.1 in
-          let m = and_true (margins_met s.margin) (dial_met s.dial) w.2 in
-          and_both _ _ (ap dial_met (sym d) ∙ m.1)
-          (and_both _ _ m.0 (and_both _ _ w.1 (and_both _ _ g.1 (and_both _ _ w.0 u.1))))
-
-      judged_from : premises_of table s e dial audio ≡ true → judged_of table s e ≡ true
-      unfolding judged_of premises_of signal_met table_met within38 station_met station_in_eighths
-      judged_from h =
-          let p = all_three (figure_met dial) (margins_met s.margin) _ h in
-          let q = all_three (edges_met e) (positive_width s audio) (figures_met table && tidy_table table) p.2 in
-          let t = and_true (figures_met table) (tidy_table table) q.2 in
-          let dm : dial_met s.dial ≡ true = ap dial_met d ∙ p.0 in
-          let de : dial_in_eighths s.dial ≡ true = ap dial_in_eighths d ∙ grid_of dial p.0 in
-          and_both _ _
-          (and_both _ _ (ap (λ (x : Policy). eqb (policy_code x) (policy_code Rules)) rules)
-          (and_both _ _ met (and_both _ _ (pair_of s.margin.lower_hz s.margin.upper_hz p.1) de)))
-          (and_both _ _ (and_both _ _ (edges_of_holds e q.0) q.1)
-          (and_both _ _ (and_both _ _ ok (and_both _ _ t.1 (table_of_holds table t.0)))
-          (and_both _ _ t.0 (and_both _ _ q.0 (and_both _ _ p.1 dm)))))
-
-      pub known_nearest_holds : known_nearest table s direction e sideband license control dial ≡ nearest_in table s direction e
-      unfolding nearest_in known_nearest
-      known_nearest_holds =
-          let flags = table.general.flags in
-          let channel = table.general.channel_band in
-          ap (λ (k : Bool). cond k (answer_of (nearest_over dial flags channel Nowhere (known_rows table s direction e sideband license control))) NotJudged)
-          (same (premises_of table s e dial audio) (judged_of table s e) judged_from judged_to)
-          ∙ ap (λ (x : Best). cond (judged_of table s e) (answer_of x) NotJudged)
-          (ap (nearest_over dial flags channel Nowhere) (sym (all_known table s direction e sideband license control b l c))
-          ∙ ap (nearest_from table s direction e) (sym d))
-
--- ---- the call
-
-module _ (r : StationRecord) (direction : ℕ) (e : Edges) (l : List ℕ) where
-  pub dial_refused : (n : ℕ) → refusal_of (nearest_tests r direction e l) ≡ Refused n → NoAnswer n ≡ nearest_of r direction e l
-  unfolding nearest_of
-  dial_refused n h =
-      sym (ap (λ (x : Checked). nearest_unless_refused x (nearest_in (table_of l) (situation_of r) (direction_of direction) (edges_read e))) h)
-
-  pub dial_judged :
-      refusal_of (nearest_tests r direction e l) ≡ Accepted
-      → nearest_in (table_of l) (situation_of r) (direction_of direction) (edges_read e) ≡ nearest_of r direction e l
-  unfolding nearest_of
-  dial_judged h =
-      sym (ap (λ (x : Checked). nearest_unless_refused x (nearest_in (table_of l) (situation_of r) (direction_of direction) (edges_read e))) h)
-
-  -- no Rules in force
-  not_rules : (n : ℕ) → eqb n 2 ≡ false → eqb (policy_code (policy_of n)) (policy_code Rules) ≡ false
-  not_rules n h = go (eqb n 0) (eqb n 1) (eqb n 2) h
-    where
-      go :
-          (a b c : Bool) → c ≡ false
-          → eqb (policy_code (cond a Unset (cond b NoProfile (cond c Rules Broken)))) (policy_code Rules) ≡ false
-      go true b c h = refl
-      go false true c h = refl
-      go false false true h = absurd (false≢true (sym h))
-      go false false false h = refl
-
-  pub dial_free : refusal_of (nearest_tests r direction e l) ≡ Accepted → eqb r.policy 2 ≡ false → NotJudged ≡ nearest_of r direction e l
-  unfolding nearest_in judged_of station_met situation_of
-  dial_free h p =
-      let table = table_of l in
-      let s = situation_of r in
-      let rest = prerequisites_met table s && station_in_eighths s in
-      let more = signal_met table s (edges_read e) && (table_met table && within38 table s (edges_read e)) in
-      sym
-      (ap (λ (b : Bool). cond b (answer_of (nearest_from table s (direction_of direction) (edges_read e) s.dial)) NotJudged)
-      (and_left (rules_in_force s && rest) more (and_left (rules_in_force s) rest (not_rules r.policy p))))
-      ∙ dial_judged h
-
-  -- Rules in force: the table is refused by no check
-  pub dial_unrefused : refusal_of (nearest_tests r direction e l) ≡ Accepted → under_rules r ≡ true → unrefused (table_of l) ≡ true
-  unfolding entry_of check_of
-  dial_unrefused h u =
-      ap accepted
-      (refusal_both (form_tests l) (content_tests (table_of l))
-      (entry_accepted r (beside_valid 0 direction) l (refusal_both (entry_tests r (beside_valid 0 direction) l) (edge_tests e) h).0 u)).1

@@ -9,7 +9,7 @@ use Rattle.table.specs.Table.{table_of}
 use Rattle.verdict.specs.Verdict.{beside_valid, edge_tests}
 use Rattle.verdict.specs.Laws.{rules_whole}
 use Rattle.nearest.specs.Nearest.{nearest_in}
-use Rattle.nearest.specs.Laws.{dial_refused, dial_judged, dial_free, dial_unrefused}
+use Rattle.nearest.proofs.Premises.{dial_refused, dial_judged, dial_free, dial_unrefused}
 use Rattle.nearest.proofs.nearest_dial.Goals as goal
 
 pub nearest_in-requires : goal.nearest_in-requires

@@ -4,7 +4,7 @@ use lib.Dec.{eqb}
 use borrow.Author.Tests.{eq-eqb, ne_eqb}
 use Rattle.layout.specs.declared.General.{General}
 use Rattle.table.specs.Table.{table_of}
-use Rattle.nearest.specs.Laws.{no_region, no_control, no_license, no_sideband, no_dial, known_nearest_holds}
+use Rattle.nearest.proofs.Premises.{no_region, no_control, no_license, no_sideband, no_dial, known_nearest_holds}
 use Rattle.nearest.proofs.nearest_in.Goals as goal
 
 pub returns-then-s-g : goal.returns-then-s-g
