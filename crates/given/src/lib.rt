@@ -265,6 +265,7 @@ fn is_homeless(counts: &[u16; 9], figures: &[f64], codes: &[u8], rules: &[u16]) 
 }
 
 // Refusals 5 to 14 of the table of what is given, in their order.
+#[tactic(auto, unfolding(image::specs::Check::bare))]
 fn content(g: General, counts: &[u16; 9], figures: &[f64], codes: &[u8], rules: &[u16]) -> Checked
     requires { Held (runs figures.now codes.now rules.now) (before_from counts.now 9) }
     ensures { result ≡ refusal_of (content_tests (table_with g counts.now
