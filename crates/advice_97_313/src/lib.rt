@@ -1,41 +1,34 @@
 // What an operator is told of a lawful data transmission: power limits (97.313) and the voluntary band plan. It uses
-// profile, station, scan, layout, table, find, decision, part97 and findings.
+// profile, layout, table, find, decision, part97 and findings.
 #![tactic(auto)]
 
-ghost use Rattle.std.specs.Prelude.{◌≡◌, ◌||◌};
+ghost use Rattle.std.specs.Prelude.{◌≡◌};
 ghost use Rattle.layout.specs.Layout.{count_of, general_of, power};
 ghost use Rattle.layout.specs.Form.{Whole};
 ghost use Rattle.table.specs.Table.{Table, table_of};
-ghost use Rattle.part97.specs.Part97.{exceeds, noted, note_at, notes_up_to, any_note, wants_plan, plan_says, guidance_of, plan_warns, advice_of, advice_warns, advised};
+ghost use Rattle.part97.specs.Part97.{exceeds, noted, note_at, notes_up_to, any_note, wants_plan, plan_says, guidance_of, plan_warns, advised};
 
-use decision::{Advice, Code, Decision, Draft, Guidance, Overshoot};
+use decision::{Advice, Code, Decision, Draft, Guidance};
 use find::Question;
 use layout::General;
 use part97::Case;
 use profile::Range;
-use scan::Found;
-use station::Figure;
 use table::PowerLimit;
 
 // Whether a known power is above a limit.
-pub fn above(watts: Figure, most: f64) -> bool
+pub fn above(watts: Option<f64>, most: f64) -> bool
     ensures { result ≡ exceeds watts most }
 {
-    match watts {
-        Figure::Known(w) => most < w,
-        Figure::Absent => false,
-    }
+    watts.is_some_and(|w| most < w)
 }
 
 // Whether a power record has a note.
+#[tactic(auto, unfolding(part97::specs::Part97::noted))]
 fn is_noted(c: Case, r: Range, limit: PowerLimit) -> bool
     ensures { result ≡ noted c r limit }
 {
-    let range = limit.range;
-    let classes = limit.classes;
-    let class = c.class;
-    let power = c.power;
-    range.overlaps(r) && (profile::meant_for(classes, class) && above(power, limit.max_w))
+    limit.range.overlaps(r)
+        && (profile::meant_for(limit.classes, c.class) && above(c.power, limit.max_w))
 }
 
 // A mark for each power record that has a note, and whether one has.
@@ -45,6 +38,7 @@ pub struct Notes {
     pub any: bool,
 }
 
+#[tactic(auto, using(layout::specs::Laws::table_within, table::specs::Laws::read_in, part97::specs::Laws::notes_more, part97::specs::Laws::any_more), unfolding(part97::specs::Part97::notes_up_to, part97::specs::Part97::any_note))]
 fn notes_of(s: &[u8], c: Case, r: Range) -> Notes
     requires { Whole s.now }
     ensures { (result.marks ≡ notes_up_to (note_at (table_of s.now) c r) (count_of s.now power))
@@ -54,19 +48,18 @@ fn notes_of(s: &[u8], c: Case, r: Range) -> Notes
     let count = layout::count_of(s, layout::POWER) as usize;
     let mut marks = [0u8; 256];
     let mut any = false;
-    let mut i: usize = 0;
-    while i < count {
+    for i in 0..count {
         let limit = table::power_limit_of(layout::record_at(s, start + layout::RECORD_SIZE * i));
         if is_noted(c, r, limit) {
             marks[i] = 1;
             any = true;
         }
-        i += 1;
     }
     Notes { marks, any }
 }
 
 // Whether the plan is asked, and there is one.
+#[tactic(auto, unfolding(part97::specs::Part97::wants_plan))]
 fn wants_plan(g: General, c: Case) -> bool
     ensures { (table : Table) → g ≡ table.general → result ≡ wants_plan table c }
 {
@@ -74,49 +67,41 @@ fn wants_plan(g: General, c: Case) -> bool
 }
 
 // What the plan says of a range.
+#[tactic(auto, unfolding(part97::specs::Part97::plan_says))]
 fn plan_says(s: &[u8], r: Range) -> Guidance
     requires { Whole s.now }
     ensures { result ≡ plan_says (table_of s.now) r }
 {
     match find::find_in(s, layout::PLAN_AVOID, Question::Overlaps(r)) {
-        Found::At(i) => Guidance::Avoid(i),
-        Found::Nothing => match find::find_in(s, layout::PLAN_DATA, Question::Holds(r)) {
-            Found::At(k) => Guidance::Inside(k),
-            Found::Nothing => Guidance::Outside,
+        Some(i) => Guidance::Avoid(i),
+        None => match find::find_in(s, layout::PLAN_DATA, Question::Holds(r)) {
+            Some(k) => Guidance::Inside(k),
+            None => Guidance::Outside,
         },
     }
 }
 
 // The voluntary plan, where it is asked.
-fn guidance_of(s: &[u8], g: General, c: Case, r: Range) -> Guidance
+#[tactic(auto, unfolding(part97::specs::Part97::guidance_of))]
+fn guidance_of(s: &[u8], g: General, c: Case, r: Range) -> Option<Guidance>
     requires { (Whole s.now) × (g ≡ general_of s.now) }
     ensures { result ≡ guidance_of (table_of s.now) c r }
 {
     if wants_plan(g, c) {
-        plan_says(s, r)
+        Some(plan_says(s, r))
     } else {
-        Guidance::NoGuidance
+        None
     }
 }
 
-fn plan_warns(g: Guidance) -> bool
+fn plan_warns(g: Option<Guidance>) -> bool
     ensures { result ≡ plan_warns g }
 {
-    match g {
-        Guidance::Avoid(_) => true,
-        Guidance::Inside(_) => false,
-        Guidance::Outside => true,
-        Guidance::NoGuidance => false,
-    }
-}
-
-fn either(a: bool, b: bool) -> bool
-    ensures { result ≡ (a || b) }
-{
-    a || b
+    matches!(g, Some(Guidance::Avoid(_) | Guidance::Outside))
 }
 
 // A lawful data transmission over a range, with what the operator should know.
+#[tactic(auto, unfolding(part97::specs::Part97::advised, part97::specs::Part97::advice_warns, part97::specs::Part97::advice_of))]
 pub fn advise(
     s: &[u8],
     g: General,
@@ -129,21 +114,20 @@ pub fn advise(
     requires { (Whole s.now) × (g ≡ general_of s.now) }
     ensures { result ≡ advised (table_of s.now) c r draft code rule }
 {
-    let n = notes_of(s, c, r);
-    let marks = n.marks;
+    let notes = notes_of(s, c, r);
+    let marks = notes.marks;
     let guidance = guidance_of(s, g, c, r);
-    let warn = either(n.any, plan_warns(guidance));
-    let advice = Advice {
-        guidance,
-        notes: marks,
-        sixty: decision::no_marks(),
-    };
+    let warn = notes.any || plan_warns(guidance);
     decision::finish(
         draft,
         findings::warned_if(warn),
         code,
         rule,
-        Overshoot::NoOvershoot,
-        advice,
+        None,
+        Advice {
+            guidance,
+            notes: marks,
+            sixty: decision::no_marks(),
+        },
     )
 }

@@ -1,6 +1,6 @@
 -- From audio to the air and back: the range that a signal covers at a dial, with its margins, and the dials that put it in a range.
 -- The margins enter here alone.
-use Rattle.std.specs.Prelude.{Bool, cond, Float}
+use Rattle.std.specs.Prelude.{Bool, cond, Float, Option, Some, None}
 use Rattle.std.specs.Float.{binary64}
 use Rattle.std.specs.Float.Ieee.{add, sub, lt, le}
 use Rattle.codes.specs.declared.Sideband.{Sideband}
@@ -8,8 +8,6 @@ use Rattle.codes.specs.declared.Sideband.TheVariants.{Usb, Lsb}
 use Rattle.profile.specs.Range.{range}
 use Rattle.profile.specs.declared.Range.{Range}
 use Rattle.air.specs.declared.Margins.{Margins}
-use Rattle.air.specs.declared.DialRange.{DialRange}
-use Rattle.air.specs.declared.DialRange.TheVariants.{Dials, NoDial}
 
 -- "Upper sideband: dial + low to dial + high. Lower: dial − high to dial − low."
 abbrev pub rf_range_of : Float → Sideband → Range → Range
@@ -46,8 +44,8 @@ dial_ends_of piece Lsb audio margin =
     (sub binary64 (add binary64 piece.high_hz audio.low_hz) margin.upper_hz)
 
 -- "`dial_range` low ≤ high"
-abbrev pub dials_between : Range → DialRange
-dials_between ends = cond (le ends.low_hz ends.high_hz) (Dials ends) NoDial
+abbrev pub dials_between : Range → Option Range
+dials_between ends = cond (le ends.low_hz ends.high_hz) (Some ends) None
 
-abbrev pub dial_range_of : Range → Sideband → Range → Margins → DialRange
+abbrev pub dial_range_of : Range → Sideband → Range → Margins → Option Range
 dial_range_of piece sideband audio margin = dials_between (dial_ends_of piece sideband audio margin)

@@ -15,13 +15,6 @@ pub struct Margins {
     pub upper_hz: f64,
 }
 
-// The dials that put a signal inside a range, if any does.
-#[derive(Clone, Copy)]
-pub enum DialRange {
-    Dials(Range),
-    NoDial,
-}
-
 // The range on the air that an audio range covers on a dial and a sideband.
 pub fn rf_range(dial_hz: f64, sideband: Sideband, audio: Range) -> Range
     ensures { result ≡ rf_range_of dial_hz sideband audio }
@@ -82,13 +75,9 @@ pub fn dial_ends(piece: Range, sideband: Sideband, audio: Range, margin: Margins
 }
 
 // The dial range that puts an audio range inside a piece with each margin to spare on its side, if any does.
-pub fn dial_range(piece: Range, sideband: Sideband, audio: Range, margin: Margins) -> DialRange
+pub fn dial_range(piece: Range, sideband: Sideband, audio: Range, margin: Margins) -> Option<Range>
     ensures { result ≡ dial_range_of piece sideband audio margin }
 {
     let ends = dial_ends(piece, sideband, audio, margin);
-    if ends.low_hz <= ends.high_hz {
-        DialRange::Dials(ends)
-    } else {
-        DialRange::NoDial
-    }
+    (ends.low_hz <= ends.high_hz).then_some(ends)
 }

@@ -1,12 +1,10 @@
 -- Time on the air (document 02, 12), of a run of records: start seconds, bands and seconds on the air, each a run of numbers.
-use Rattle.std.specs.Prelude.{ℕ, zero, suc, ◌+◌, ◌-◌, Bool, cond, not, ◌&&◌, List, [], ◌∷◌, ◌≡◌, eqb, leb, ltb, get_or, length}
+use Rattle.std.specs.Prelude.{ℕ, zero, suc, ◌+◌, ◌-◌, Bool, cond, not, ◌&&◌, List, [], ◌∷◌, ◌≡◌, eqb, leb, ltb, get_or, length, Result, Ok, Err}
+use Rattle.codes.specs.declared.Refusal.TheVariants as refusal
+use Rattle.codes.specs.Refusal.{Checked, Test, test, refusal_of}
+use Rattle.codes.specs.declared.Refusal.{Refusal}
 use Rattle.scan.specs.First.{some}
 use Rattle.lists.specs.Each.{each}
-use Rattle.codes.specs.Refusal.{Test, test, refusal_of}
-use Rattle.codes.specs.declared.Checked.{Checked}
-use Rattle.codes.specs.declared.Checked.TheVariants.{Accepted, Refused}
-use Rattle.airtime.specs.declared.Airtime.{Airtime}
-use Rattle.airtime.specs.declared.Airtime.TheVariants.{Totals, Refused as NoTotals}
 
 -- ---- one record's total
 
@@ -44,23 +42,23 @@ runs_fit starts bands seconds lent = leb starts 65536 && (eqb bands starts && (e
 -- "It refuses (31) .. and (32, next) .., output untouched."
 abbrev pub airtime_tests : List ℕ → List ℕ → List ℕ → List ℕ → List Test
 airtime_tests starts bands seconds lent =
-    test 31 (falls_of starts) ∷ test 32 (not (runs_fit (length starts) (length bands) (length seconds) (length lent))) ∷ []
+    test refusal.Starts (falls_of starts) ∷ test refusal.Runs (not (runs_fit (length starts) (length bands) (length seconds) (length lent))) ∷ []
 
-abbrev pub airtime_answer : Checked → ℕ → Airtime
-airtime_answer Accepted n = Totals n
-airtime_answer (Refused k) n = NoTotals k
+abbrev pub airtime_answer : Checked → ℕ → Result ℕ Refusal
+airtime_answer (Ok tt) n = Ok n
+airtime_answer (Err k) n = Err k
 
 -- each element of the output is its record's total; with a refusal, what was lent
 abbrev pub airtime_left : Checked → List ℕ → List ℕ → List ℕ
-airtime_left Accepted totals lent = totals
-airtime_left (Refused k) totals lent = lent
+airtime_left (Ok tt) totals lent = totals
+airtime_left (Err k) totals lent = lent
 
 -- an answer and the elements that were left
-pub record Left (c : Checked) (n : ℕ) (totals lent left : List ℕ) (answer : Airtime) : Type 0 where
+pub record Left (c : Checked) (n : ℕ) (totals lent left : List ℕ) (answer : Result ℕ Refusal) : Type 0 where
   pub answered : answer ≡ airtime_answer c n
   pub elements : left ≡ airtime_left c totals lent
 
 -- what the call promises
-abbrev pub Totalled : List ℕ → List ℕ → List ℕ → List ℕ → List ℕ → Airtime → Type 0
+abbrev pub Totalled : List ℕ → List ℕ → List ℕ → List ℕ → List ℕ → Result ℕ Refusal → Type 0
 Totalled starts bands seconds lent left answer =
     Left (refusal_of (airtime_tests starts bands seconds lent)) (length starts) (totals_of starts bands seconds) lent left answer

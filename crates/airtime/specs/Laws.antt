@@ -11,8 +11,7 @@ use Rattle.std.proofs.Math.ListN.{length}
 use Rattle.std.proofs.lemmas.List.{length-replicate, get_or-replicate, set_at}
 use Rattle.scan.specs.Laws.{some_false, and_true}
 use Rattle.lists.specs.Each.{each}
-use Rattle.airtime.specs.declared.Airtime.TheVariants.{Totals, Refused as NoTotals}
-use Rattle.airtime.specs.Airtime.{sum, recent, of_band, total_of, totals_of, falls_of, runs_fit, Totalled}
+use Rattle.airtime.specs.Airtime.{sum, recent, of_band, total_of, totals_of, falls_of, runs_fit}
 use Rattle.airtime.specs.Sum.{sum_next, sum_grows, sum_few, sum_from}
 
 -- ---- runs in order, of one length
@@ -63,14 +62,6 @@ fitting starts bands seconds lent e =
     }
 
 -- ---- the totals of the bands
-
--- a record that starts earlier stands earlier
-pub earlier : (starts : List ℕ) (i tail : ℕ) → tail ≤ i → 599 < get_or starts i 0 - get_or starts tail 0 → tail < i
-earlier starts i tail h k = go (dec_le i tail)
-  where
-    go : Dec (i ≤ tail) → tail < i
-    go (yes a) = let e : tail ≡ i = omega arith in absurd (omega (arith, rw e at k))
-    go (no a) = omega arith
 
 module _ (starts bands seconds : List ℕ) where
   -- what is held before record i: of each band the seconds from the tail on. What lies before the tail counts for no record from i on.
@@ -242,18 +233,3 @@ module _ (starts bands seconds lent : List ℕ) where
       f.held ∙ ap (λ (l : List ℕ). each i (λ (k : ℕ). total_of starts bands seconds k ∷ []) ++ l) (drop_of_length-le lent n)
       ∙ append-nil (each i (λ (k : ℕ). total_of starts bands seconds k ∷ []))
       ∙ ap (λ (n : ℕ). each n (λ (k : ℕ). total_of starts bands seconds k ∷ [])) s
-
-  -- ---- the answer
-
-  pub totalled_falls : falls_of starts ≡ true → Totalled starts bands seconds lent lent (NoTotals 31)
-  totalled_falls e = record { answered = rw e; elements = rw e }
-
-  pub totalled_uneven :
-      falls_of starts ≡ false → runs_fit (length starts) (length bands) (length seconds) (length lent) ≡ false
-      → Totalled starts bands seconds lent lent (NoTotals 32)
-  totalled_uneven e f = record { answered = rw e (rw f); elements = rw e (rw f) }
-
-  pub totalled_all :
-      (left : List ℕ) → falls_of starts ≡ false → runs_fit (length starts) (length bands) (length seconds) (length lent) ≡ true
-      → left ≡ totals_of starts bands seconds → Totalled starts bands seconds lent left (Totals (length starts))
-  totalled_all left e f h = record { answered = rw e (rw f); elements = rw e (rw f h) }

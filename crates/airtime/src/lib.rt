@@ -1,10 +1,13 @@
 // Time on the air: for each record of a run the seconds of its band over itself and the earlier records that start at most 599 seconds
-// before it, for groups that limit how long a station holds a shared channel. A public call. Its definitions use codes, scan and lists.
+// before it, for groups that limit how long a station holds a shared channel. A public call. It uses codes and scan; its
+// definitions use lists.
 #![tactic(auto)]
 
 ghost use Rattle.std.specs.Prelude.{◌≡◌, ◌<◌, length};
 ghost use Rattle.airtime.specs.Airtime.{falls_of, runs_fit, totals_of, Totalled};
 ghost use Rattle.airtime.specs.Laws.{Even, Held, Trimmed};
+
+use codes::Refusal;
 
 // The most records of a run.
 pub const MOST_RECORDS: usize = 65536;
@@ -12,25 +15,13 @@ pub const MOST_RECORDS: usize = 65536;
 // How long before a record another one may start that counts.
 const SPAN: u64 = 599;
 
-// What became of a run: how many totals were written, or the refusal's number.
-#[derive(Clone, Copy)]
-pub enum Airtime {
-    Totals(u32),
-    Refused(u8),
-}
-
 // Whether a start lies below the one before it.
+#[tactic(auto, unfolding(crate::specs::Airtime::falls_of))]
 fn falls(starts: &[u64]) -> bool
     ensures { result ≡ falls_of starts.now }
 {
-    let mut i: usize = 0;
-    while i + 1 < starts.len() {
-        if starts[i + 1] < starts[i] {
-            return true;
-        }
-        i += 1;
-    }
-    false
+    let pairs = starts.len().saturating_sub(1);
+    scan::some(pairs, |i| starts[i + 1] < starts[i])
 }
 
 // Whether runs are of one length, and of no more records than a run may have.
@@ -41,6 +32,7 @@ fn runs_fit(starts: usize, bands: usize, seconds: usize, totals: usize) -> bool
 }
 
 // Record i is next: the tail moves to the first record that counts for it, and those that it passes leave the totals of their bands.
+#[tactic(auto, using(crate::specs::Laws::trimmed, crate::specs::Laws::trimmed_here))]
 fn move_tail(
     starts: &[u64],
     bands: &[u8],
@@ -53,47 +45,50 @@ fn move_tail(
     ensures { Trimmed starts.now bands.now seconds.now i result held.new }
 {
     let start = starts[i];
-    let mut at = tail;
-    while at < i {
+    for at in tail..i {
         if start - starts[at] <= SPAN {
             return at;
         }
         let band = bands[at] as usize;
-        held[band] = held[band] - seconds[at] as u64;
-        at += 1;
+        held[band] -= seconds[at] as u64;
     }
-    at
+    i
 }
 
 // The totals of a run, in one pass, with a total for each band.
+#[tactic(auto, using(crate::specs::Laws::fill_done))]
 fn slide(starts: &[u64], bands: &[u8], seconds: &[u16], totals: &mut [u64])
     requires { Even starts.now bands.now seconds.now × (length totals.old ≡ length starts.now) }
     ensures { totals.new ≡ totals_of starts.now bands.now seconds.now }
 {
     let mut held = [0u64; 256];
-    let mut tail: usize = 0;
-    let mut i: usize = 0;
-    while i < starts.len() {
+    let mut tail = 0;
+    for i in 0..starts.len() {
         tail = move_tail(starts, bands, seconds, &mut held, tail, i);
         let band = bands[i] as usize;
         let before = held[band];
         let total = before + seconds[i] as u64;
         held[band] = total;
         totals[i] = total;
-        i += 1;
     }
 }
 
 // The totals of a run of records, in the elements lent.
-pub fn totals(starts: &[u64], bands: &[u8], seconds: &[u16], totals: &mut [u64]) -> Airtime
+#[tactic(auto, using(crate::specs::Laws::in_order, crate::specs::Laws::fitting))]
+pub fn totals(
+    starts: &[u64],
+    bands: &[u8],
+    seconds: &[u16],
+    totals: &mut [u64],
+) -> Result<u32, Refusal>
     ensures { Totalled starts.now bands.now seconds.now totals.old totals.new result }
 {
     if falls(starts) {
-        return Airtime::Refused(31);
+        return Err(Refusal::Starts);
     }
     if !runs_fit(starts.len(), bands.len(), seconds.len(), totals.len()) {
-        return Airtime::Refused(32);
+        return Err(Refusal::Runs);
     }
     slide(starts, bands, seconds, totals);
-    Airtime::Totals(starts.len() as u32)
+    Ok(starts.len() as u32)
 }

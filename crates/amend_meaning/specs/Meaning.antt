@@ -1,11 +1,9 @@
 -- Which amendment counts for a record, said without the order of a pass: in force, naming the record, of the latest day, and the later in the
 -- list on equal days; and that an amendment names one record of one table.
-use Rattle.std.specs.Prelude.{ℕ, zero, suc, ◌+◌, ◌-◌, ◌<◌, ◌≤◌, Bool, true, false, cond, ◌&&◌, List, ◌≡◌, refl, eqb}
+use Rattle.std.specs.Prelude.{ℕ, zero, suc, ◌+◌, ◌-◌, ◌<◌, ◌≤◌, Bool, true, false, cond, ◌&&◌, List, ◌≡◌, refl, eqb, Option, Some, None}
 use Rattle.std.proofs.Common.{true≢false, sym, ap, subst, zero-add, suc-add, le_refl, arith, eqb-true, leb-true, leb-false}
 use Rattle.std.proofs.Math.Decide.{dec_lt}
 use Rattle.std.proofs.lemmas.Bool.{eqb-false}
-use Rattle.scan.specs.declared.Found.{Found}
-use Rattle.scan.specs.declared.Found.TheVariants.{At, Nothing}
 use Rattle.layout.specs.Layout.{count_of, records_before}
 use Rattle.layout.specs.Laws.{records_more}
 use Rattle.amended.specs.Amended.{table_at, index_at, day_at, named_at, in_force, as_late, latest}
@@ -24,9 +22,9 @@ pub record Counts (l a : List ℕ) (day k n j : ℕ) : Type 0 where
   pub later : (i : ℕ) → Rival l a day k n i → day_at a i ≡ day_at a j → i ≤ j
 
 -- of what is found: it counts, or there is none
-abbrev pub Means : List ℕ → List ℕ → ℕ → ℕ → ℕ → Found → Type 0
-Means l a day k n (At j) = Counts l a day k n j
-Means l a day k n Nothing = (i : ℕ) → Rival l a day k n i → ⊥
+abbrev pub Means : List ℕ → List ℕ → ℕ → ℕ → ℕ → Option ℕ → Type 0
+Means l a day k n (Some j) = Counts l a day k n j
+Means l a day k n None = (i : ℕ) → Rival l a day k n i → ⊥
 
 module _ (l a : List ℕ) (day k n : ℕ) where
   -- one of the first n + 1 is one of the first n, or the last
@@ -42,42 +40,42 @@ module _ (l a : List ℕ) (day k n : ℕ) where
           subst P e (last (subst (λ (x : ℕ). Rival l a day k (suc n) x) (sym e) r))
 
   -- one amendment more, which is no rival or is of an earlier day than what was found
-  abbrev Beaten : Found → Type 0
-  Beaten (At j) = day_at a n < day_at a j
-  Beaten Nothing = ⊥
+  abbrev Beaten : Option ℕ → Type 0
+  Beaten (Some j) = day_at a n < day_at a j
+  Beaten None = ⊥
 
-  stays : (f : Found) → Means l a day k n f → (Rival l a day k (suc n) n → Beaten f) → Means l a day k (suc n) f
-  stays (At j) m b =
+  stays : (f : Option ℕ) → Means l a day k n f → (Rival l a day k (suc n) n → Beaten f) → Means l a day k (suc n) f
+  stays (Some j) m b =
       record {
         itself = record { below = omega (arith, m.itself.below); named = m.itself.named; not_after = m.itself.not_after };
         latest_day = split (λ (i : ℕ). day_at a i ≤ day_at a j) m.latest_day (λ r. omega (arith, b r));
         later = split (λ (i : ℕ). day_at a i ≡ day_at a j → i ≤ j) m.later (λ r e. absurd (omega (arith, b r)));
       }
-  stays Nothing m b = split (λ (i : ℕ). ⊥) m b
+  stays None m b = split (λ (i : ℕ). ⊥) m b
 
   -- one more, which counts
-  newer : (f : Found) → Means l a day k n f → Rival l a day k (suc n) n → as_late a f n ≡ true → Counts l a day k (suc n) n
-  newer (At j) m r z =
+  newer : (f : Option ℕ) → Means l a day k n f → Rival l a day k (suc n) n → as_late a f n ≡ true → Counts l a day k (suc n) n
+  newer (Some j) m r z =
       let d : day_at a j ≤ day_at a n = leb-true _ _ z in
       record {
         itself = r;
         latest_day = split (λ (i : ℕ). day_at a i ≤ day_at a n) (λ i q. omega (arith, m.latest_day i q)) (λ q. le_refl _);
         later = λ i q e. omega (arith, q.below);
       }
-  newer Nothing m r z =
+  newer None m r z =
       record {
         itself = r;
         latest_day = split (λ (i : ℕ). day_at a i ≤ day_at a n) (λ i q. absurd (m i q)) (λ q. le_refl _);
         later = λ i q e. omega (arith, q.below);
       }
 
-  beaten : (f : Found) → as_late a f n ≡ false → Beaten f
-  beaten (At j) z = leb-false _ _ z
-  beaten Nothing z = true≢false z
+  beaten : (f : Option ℕ) → as_late a f n ≡ false → Beaten f
+  beaten (Some j) z = leb-false _ _ z
+  beaten None z = true≢false z
 
   step :
-      (f : Found) → Means l a day k n f → (x y z : Bool) → eqb (named_at l a n) k ≡ x → in_force a day n ≡ y → as_late a f n ≡ z
-      → Means l a day k (suc n) (cond (x && (y && z)) (At n) f)
+      (f : Option ℕ) → Means l a day k n f → (x y z : Bool) → eqb (named_at l a n) k ≡ x → in_force a day n ≡ y → as_late a f n ≡ z
+      → Means l a day k (suc n) (cond (x && (y && z)) (Some n) f)
   step f m false y z p q r = stays f m (λ v. absurd (eqb-false _ _ p v.named))
   step f m true false z p q r = stays f m (λ v. absurd (let h : day < day_at a n = leb-false _ _ q in omega (arith, v.not_after)))
   step f m true true false p q r = stays f m (λ v. beaten f r)

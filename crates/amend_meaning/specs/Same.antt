@@ -1,7 +1,7 @@
 -- Laws of the effective image: with none in force it is the base; a later day with no amendment between the two gives the same one; amended
 -- again by the same list and day it is itself, and the call accepts it as it did the base.
 use Prim.Native.Nat.{ℕ, zero, suc, ◌+◌, ◌*◌, ◌%◌, ◌<◌, ◌≤◌}
-use Rattle.std.specs.Prelude.{Bool, true, false, not, cond, ◌&&◌, ◌||◌, ◌≡◌, eqb, leb, ltb, length, set}
+use Rattle.std.specs.Prelude.{Option, Some, None, Ok, Bool, true, false, not, cond, ◌&&◌, ◌||◌, ◌≡◌, eqb, leb, ltb, length, set}
 use mathlib.Core.List.{List, [], ◌∷◌}
 use Rattle.std.proofs.Math.Path.{refl, ap, ap₂}
 use Rattle.std.proofs.Common.{sym, ◌∙◌, arith, le-leb, ltb-false}
@@ -11,11 +11,9 @@ use Rattle.std.proofs.Math.Seq.{sets}
 use Rattle.std.proofs.lemmas.List.{set-get_or}
 use Rattle.scan.specs.First.{some, on_found}
 use Rattle.scan.specs.Laws.{some_all}
-use Rattle.scan.specs.declared.Found.{Found}
-use Rattle.scan.specs.declared.Found.TheVariants.{At, Nothing}
+use Rattle.codes.specs.declared.Refusal.TheVariants as refusal
 use Rattle.codes.specs.Refusal.{test, refusal_of}
 use Rattle.codes.specs.Laws.{refusal_both, none_fails}
-use Rattle.codes.specs.declared.Checked.TheVariants.{Accepted}
 use Rattle.layout.specs.Bytes.{byte_at}
 use Rattle.layout.specs.Form.{Whole}
 use Rattle.layout.specs.Layout.{record_size, tables, records_before}
@@ -36,9 +34,9 @@ latest_same :
 unfolding latest
 latest_same l m a d e k zero h = refl
 latest_same l m a d e k (suc n) h =
-    ap (λ (x : ℕ). cond (eqb x k && (in_force a d n && as_late a (latest l a d k n) n)) (At n) (latest l a d k n)) (h n (omega arith)).0
-    ∙ ap (λ (x : Bool). cond (eqb (named_at m a n) k && (x && as_late a (latest l a d k n) n)) (At n) (latest l a d k n)) (h n (omega arith)).1
-    ∙ ap (λ (f : Found). cond (eqb (named_at m a n) k && (in_force a e n && as_late a f n)) (At n) f)
+    ap (λ (x : ℕ). cond (eqb x k && (in_force a d n && as_late a (latest l a d k n) n)) (Some n) (latest l a d k n)) (h n (omega arith)).0
+    ∙ ap (λ (x : Bool). cond (eqb (named_at m a n) k && (x && as_late a (latest l a d k n) n)) (Some n) (latest l a d k n)) (h n (omega arith)).1
+    ∙ ap (λ (f : Option ℕ). cond (eqb (named_at m a n) k && (in_force a e n && as_late a f n)) (Some n) f)
     (latest_same l m a d e k n (λ j b. h j (omega arith)))
 
 amended_same :
@@ -46,7 +44,7 @@ amended_same :
 unfolding amended_to
 amended_same l a d e h zero = refl
 amended_same l a d e h (suc k) =
-    ap₂ (λ (f : Found) (x : List ℕ). on_found f (λ j. sets x (slot_at l k) (replacement_of a j)) x) (h k) (amended_same l a d e h k)
+    ap₂ (λ (f : Option ℕ) (x : List ℕ). on_found f (λ j. sets x (slot_at l k) (replacement_of a j)) x) (h k) (amended_same l a d e h k)
 
 -- ---- a later day
 
@@ -71,15 +69,15 @@ later_same l a d e h none =
 abbrev pub NoneInForce : List ℕ → ℕ → Type 0
 NoneInForce a day = (j : ℕ) → j < amendments_in a → day < day_at a j
 
-none_found : (l a : List ℕ) (day k n : ℕ) → ((j : ℕ) → j < n → day < day_at a j) → latest l a day k n ≡ Nothing
+none_found : (l a : List ℕ) (day k n : ℕ) → ((j : ℕ) → j < n → day < day_at a j) → latest l a day k n ≡ None
 unfolding latest
 none_found l a day k zero h = refl
 none_found l a day k (suc n) h =
-    ap (λ (x : Bool). cond (eqb (named_at l a n) k && (x && as_late a (latest l a day k n) n)) (At n) (latest l a day k n)) (lt-leb _ _ (h n (omega arith)))
+    ap (λ (x : Bool). cond (eqb (named_at l a n) k && (x && as_late a (latest l a day k n) n)) (Some n) (latest l a day k n)) (lt-leb _ _ (h n (omega arith)))
     ∙ never (eqb (named_at l a n) k)
     ∙ none_found l a day k n (λ j b. h j (omega arith))
   where
-    never : (b : Bool) → cond (b && false) (At n) (latest l a day k n) ≡ latest l a day k n
+    never : (b : Bool) → cond (b && false) (Some n) (latest l a day k n) ≡ latest l a day k n
     never true = refl
     never false = refl
 
@@ -87,7 +85,7 @@ none_amended : (l a : List ℕ) (day : ℕ) → NoneInForce a day → (k : ℕ) 
 unfolding amended_to
 none_amended l a day h zero = refl
 none_amended l a day h (suc k) =
-    ap (λ (f : Found). on_found f (λ j. sets (amended_to l a day k) (slot_at l k) (replacement_of a j)) (amended_to l a day k))
+    ap (λ (f : Option ℕ). on_found f (λ j. sets (amended_to l a day k) (slot_at l k) (replacement_of a j)) (amended_to l a day k))
     (none_found l a day k (amendments_in a) h)
     ∙ none_amended l a day h k
 
@@ -122,15 +120,15 @@ module _ (l a : List ℕ) (day : ℕ) (w : Whole l) (right : list_wrong l a ≡ 
   unfolding amended_to
   again zero h = refl
   again (suc k) h =
-      ap₂ (λ (f : Found) (x : List ℕ). on_found f (λ j. sets x (slot_at image k) (replacement_of a j)) x) (counting_same k) (again k (omega arith))
+      ap₂ (λ (f : Option ℕ) (x : List ℕ). on_found f (λ j. sets x (slot_at image k) (replacement_of a j)) x) (counting_same k) (again k (omega arith))
       ∙ go (counting l a day k) refl
     where
-      go : (f : Found) → counting l a day k ≡ f → on_found f (λ j. sets image (slot_at image k) (replacement_of a j)) image ≡ image
-      go (At j) e =
+      go : (f : Option ℕ) → counting l a day k ≡ f → on_found f (λ j. sets image (slot_at image k) (replacement_of a j)) image ≡ image
+      go (Some j) e =
           ap (λ (x : ℕ). sets image (x + record_size * k) (replacement_of a j)) (from_same l a day w)
           ∙ sets_same (replacement_of a j) image (slot_at l k)
           (λ m b. replaced_byte l a day w k j m (omega arith) e (omega (arith, whole_replacement l a day w k j e)))
-      go Nothing e = refl
+      go None e = refl
 
   again_all : amended_to image a day (records_before image tables) ≡ image
   again_all = ap (amended_to image a day) (before_same l a day w tables (omega arith)) ∙ again (records_before l tables) (omega arith)
@@ -154,14 +152,14 @@ module _ (l a : List ℕ) (day : ℕ) (w : Whole l) (right : list_wrong l a ≡ 
 
 -- A call that was answered with an image is answered with the same one, of that image.
 pub again_accepted :
-    (l a : List ℕ) (day : ℕ) (lent : List ℕ) → refusal_of (amend_tests l a day lent) ≡ Accepted
-    → (refusal_of (amend_tests (effective_of l a day) a day lent) ≡ Accepted) × (effective_of (effective_of l a day) a day ≡ effective_of l a day)
+    (l a : List ℕ) (day : ℕ) (lent : List ℕ) → refusal_of (amend_tests l a day lent) ≡ Ok tt
+    → (refusal_of (amend_tests (effective_of l a day) a day lent) ≡ Ok tt) × (effective_of (effective_of l a day) a day ≡ effective_of l a day)
 unfolding check_of
 again_accepted l a day lent e =
     let image = effective_of l a day in
-    let both = refusal_both (check_tests l) (test 27 (list_wrong l a) ∷ test 28 (ltb (length lent) (length l)) ∷ check_tests image) e in
-    let last = refusal_both (test 27 (list_wrong l a) ∷ test 28 (ltb (length lent) (length l)) ∷ []) (check_tests image) both.1 in
-    let none = none_fails (test 27 (list_wrong l a) ∷ test 28 (ltb (length lent) (length l)) ∷ []) last.0 in
+    let both = refusal_both (check_tests l) (test refusal.Amendments (list_wrong l a) ∷ test refusal.AmendedRoom (ltb (length lent) (length l)) ∷ check_tests image) e in
+    let last = refusal_both (test refusal.Amendments (list_wrong l a) ∷ test refusal.AmendedRoom (ltb (length lent) (length l)) ∷ []) (check_tests image) both.1 in
+    let none = none_fails (test refusal.Amendments (list_wrong l a) ∷ test refusal.AmendedRoom (ltb (length lent) (length l)) ∷ []) last.0 in
     let w = accepted_whole l both.0 in
     let n : length l ≤ length lent = ltb-false (length lent) (length l) none.1.0 in
     let same = again_same l a day w none.0 in (

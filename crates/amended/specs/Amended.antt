@@ -1,9 +1,7 @@
 -- Amendments with a day (document 02, 8): the lent list, which amendment counts for a record on a day, and the effective image.
-use Rattle.std.specs.Prelude.{ℕ, zero, suc, ◌+◌, ◌*◌, ◌/◌, ◌%◌, Bool, true, not, cond, ◌&&◌, ◌||◌, List, eqb, leb, length, take, drop}
+use Rattle.std.specs.Prelude.{ℕ, zero, suc, ◌+◌, ◌*◌, ◌/◌, ◌%◌, Bool, true, not, cond, ◌&&◌, ◌||◌, List, eqb, leb, length, take, drop, Option, Some, None}
 use Rattle.std.proofs.lemmas.List.Edits.{sets}
 use Rattle.scan.specs.First.{some, on_found}
-use Rattle.scan.specs.declared.Found.{Found}
-use Rattle.scan.specs.declared.Found.TheVariants.{At, Nothing}
 use Rattle.layout.specs.Bytes.{u16_at, u32_at}
 use Rattle.layout.specs.Layout.{record_size, tables, count_of, records_before, tables_from}
 
@@ -52,17 +50,17 @@ abbrev pub in_force : List ℕ → ℕ → ℕ → Bool
 in_force a day j = leb (day_at a j) day
 
 -- amendment j goes before what was found up to it: "the latest-day amendment"; "on equal days the later in the list counts"
-abbrev pub as_late : List ℕ → Found → ℕ → Bool
+abbrev pub as_late : List ℕ → Option ℕ → ℕ → Bool
 as_late a f j = on_found f (λ i. leb (day_at a i) (day_at a j)) true
 
 -- "For a given day, a record is superseded by the latest-day amendment not after that day": the one that counts for record k of all, of the
 -- first n amendments
-unfoldable pub latest : List ℕ → List ℕ → ℕ → ℕ → ℕ → Found
-latest l a day k zero = Nothing
+unfoldable pub latest : List ℕ → List ℕ → ℕ → ℕ → ℕ → Option ℕ
+latest l a day k zero = None
 latest l a day k (suc n) =
-    cond (eqb (named_at l a n) k && (in_force a day n && as_late a (latest l a day k n) n)) (At n) (latest l a day k n)
+    cond (eqb (named_at l a n) k && (in_force a day n && as_late a (latest l a day k n) n)) (Some n) (latest l a day k n)
 
-abbrev pub counting : List ℕ → List ℕ → ℕ → ℕ → Found
+abbrev pub counting : List ℕ → List ℕ → ℕ → ℕ → Option ℕ
 counting l a day k = latest l a day k (amendments_in a)
 
 -- ---- the effective image

@@ -1,7 +1,7 @@
 -- Laws of the effective image: it is as long as the base, and its general block and trailer are the base's; of its records each is the
 -- amendment's that counts or the base's. So it is in form, and its table is the base's with other records.
 use Prim.Native.Nat.{ℕ, zero, suc, ◌+◌, ◌*◌, ◌-◌, ◌<◌, ◌≤◌}
-use Rattle.std.specs.Prelude.{Bool, not, ◌&&◌, ◌||◌, ◌≡◌, eqb, ltb, drop, set}
+use Rattle.std.specs.Prelude.{Option, Some, None, Bool, not, ◌&&◌, ◌||◌, ◌≡◌, eqb, ltb, drop, set}
 use Rattle.std.proofs.Math.Bool.{true, false, cond}
 use mathlib.Core.List.{List, [], ◌∷◌}
 use Rattle.std.proofs.Math.Path.{refl, sym, ap, ap₂}
@@ -12,14 +12,12 @@ use Rattle.std.proofs.Math.ListN.{length}
 use Rattle.std.proofs.Math.Seq.{sets, length-sets}
 use Rattle.scan.specs.First.{on_found}
 use Rattle.scan.specs.Laws.{some_same}
-use Rattle.scan.specs.declared.Found.{Found}
-use Rattle.scan.specs.declared.Found.TheVariants.{At, Nothing}
+use Rattle.codes.specs.declared.Refusal.TheVariants as refusal
 use Rattle.codes.specs.Refusal.{Test, test}
 use Rattle.layout.specs.Bytes.{byte_at, u64_at}
 use Rattle.layout.specs.Layout.{general_size, watts_size, record_size, trailer_size, tables, trailer_of, is_second, count_of, distance_back, edition_of}
 use Rattle.layout.specs.Layout.{records_before, tables_from, record_at, record_of, watts_at, general_of, fixed_channel_watts, fixed_segment_watts}
-use Rattle.layout.specs.Form.{letters, size_wrong, letter_right, letters_wrong, edition_wrong, overfull_at, counts_wrong}
-use Rattle.layout.specs.Form.{form_tests, Whole}
+use Rattle.layout.specs.Form.{letters, size_wrong, letter_right, letters_wrong, edition_wrong, overfull_at, counts_wrong, form_tests, Whole}
 use Rattle.alike.specs.Alike.{Alike, alike_part, u16_alike, u32_alike, u64_alike, record_alike, general_alike}
 use Rattle.amended.specs.Amended.{amendments_in, replacement_at, replacement_of, counting, slot_at, amended_to, effective_of}
 use Rattle.amended.specs.Latest.{latest_below, within_list, tables_far}
@@ -58,10 +56,10 @@ module _ (l a : List ℕ) (day : ℕ) where
   amended_length (suc k) = go (counting l a day k) (amended_length k)
     where
       go :
-          (f : Found) → length (amended_to l a day k) ≡ length l
+          (f : Option ℕ) → length (amended_to l a day k) ≡ length l
           → length (on_found f (λ j. sets (amended_to l a day k) (slot_at l k) (replacement_of a j)) (amended_to l a day k)) ≡ length l
-      go (At j) e = length-sets (amended_to l a day k) (slot_at l k) (replacement_of a j) ∙ e
-      go Nothing e = e
+      go (Some j) e = length-sets (amended_to l a day k) (slot_at l k) (replacement_of a j) ∙ e
+      go None e = e
 
   pub few_bytes : (j : ℕ) → length (replacement_of a j) ≤ record_size
   few_bytes j = rw length-take (omega arith)
@@ -77,14 +75,14 @@ module _ (l a : List ℕ) (day : ℕ) where
       (go (counting l a day (d + k)) (amended_on i k d (λ m b c. h m b (omega arith))) ∙ refl)
     where
       go :
-          (f : Found) → byte_at (amended_to l a day (d + k)) i ≡ byte_at (amended_to l a day k) i
+          (f : Option ℕ) → byte_at (amended_to l a day (d + k)) i ≡ byte_at (amended_to l a day k) i
           → byte_at (on_found f (λ j. sets (amended_to l a day (d + k)) (slot_at l (d + k)) (replacement_of a j)) (amended_to l a day (d + k))) i
           ≡ byte_at (amended_to l a day k) i
-      go (At j) e =
+      go (Some j) e =
           sets_other (replacement_of a j) (amended_to l a day (d + k)) (slot_at l (d + k)) i
           (λ m b q. h (d + k) (omega arith) (omega arith) m (omega (arith, few_bytes j)) q)
           ∙ e
-      go Nothing e = e
+      go None e = e
 
   amended_base :
       (i k : ℕ) → ((m : ℕ) → m < k → (j : ℕ) → j < record_size → i ≡ slot_at l m + j → ⊥) → byte_at (amended_to l a day k) i ≡ byte_at l i
@@ -131,27 +129,27 @@ module _ (l a : List ℕ) (day : ℕ) (w : Whole l) where
       (amended_base l a day (trailer_of l + k) (records_before l tables) (λ m b j c e. omega (arith, slot_within m b)))
 
   -- record k is the amendment's that counts, or the base's
-  abbrev put : ℕ → Found → List ℕ
+  abbrev put : ℕ → Option ℕ → List ℕ
   put k f = on_found f (λ j. sets (amended_to l a day k) (slot_at l k) (replacement_of a j)) (amended_to l a day k)
 
   byte_put :
-      (k m : ℕ) (f : Found) → k < records_before l tables → m < record_size → counting l a day k ≡ f
+      (k m : ℕ) (f : Option ℕ) → k < records_before l tables → m < record_size → counting l a day k ≡ f
       → byte_at image (slot_at l k + m) ≡ byte_at (put k f) (slot_at l k + m)
   unfolding effective_of
   byte_put k m f h b e =
       amended_byte l a day (records_before l tables) k m h b
       ∙ ap (λ (x : List ℕ). byte_at x (slot_at l k + m)) (amended_more l a day k ∙ ap (put k) e)
 
-  pub whole_replacement : (k j : ℕ) → counting l a day k ≡ At j → length (replacement_of a j) ≡ record_size
+  pub whole_replacement : (k j : ℕ) → counting l a day k ≡ Some j → length (replacement_of a j) ≡ record_size
   whole_replacement k j e =
       length-take-le record_size (drop (replacement_at j) a)
       (rw length-drop (omega (arith, within_list a j (latest_below l a day k (amendments_in a) j e))))
 
   pub replaced_byte :
-      (k j m : ℕ) → k < records_before l tables → counting l a day k ≡ At j → m < record_size
+      (k j m : ℕ) → k < records_before l tables → counting l a day k ≡ Some j → m < record_size
       → byte_at image (slot_at l k + m) ≡ byte_at (replacement_of a j) m
   replaced_byte k j m h e b =
-      byte_put k m (At j) h b e
+      byte_put k m (Some j) h b e
       ∙ sets_in (replacement_of a j) (amended_to l a day k) (slot_at l k) m (omega (arith, whole_replacement k j e))
       (omega (arith, whole_replacement k j e, amended_length l a day k, slot_within k h))
 
@@ -161,17 +159,17 @@ module _ (l a : List ℕ) (day : ℕ) (w : Whole l) where
   record_in_holds k h = go (counting l a day k) refl
     where
       go :
-          (f : Found) → counting l a day k ≡ f
+          (f : Option ℕ) → counting l a day k ≡ f
           → record_at image (slot_at l k) ≡ on_found f (λ j. record_at a (replacement_at j)) (record_at l (slot_at l k))
-      go (At j) e =
+      go (Some j) e =
           record_alike image a (slot_at l k) (replacement_at j)
           (λ m b.
           replaced_byte k j m h e b
           ∙ get_or-take record_size (drop (replacement_at j) a) m 0 b
           ∙ get_or-drop (replacement_at j) a m 0)
-      go Nothing e =
+      go None e =
           record_alike image l (slot_at l k) (slot_at l k)
-          (λ m b. byte_put k m Nothing h b e ∙ amended_base l a day (slot_at l k + m) k (λ x c j d q. omega arith))
+          (λ m b. byte_put k m None h b e ∙ amended_base l a day (slot_at l k + m) k (λ x c j d q. omega arith))
 
   -- ---- the trailer and the general block
 
@@ -249,7 +247,7 @@ module _ (l a : List ℕ) (day : ℕ) (w : Whole l) where
       (ap₂ differ distance_same trailer_same))
 
   abbrev tested : Bool → Bool → Bool → Bool → List Test
-  tested s w e c = test 1 s ∷ test 2 w ∷ test 3 e ∷ test 4 c ∷ []
+  tested s w e c = test refusal.ImageLength s ∷ test refusal.Letters w ∷ test refusal.Edition e ∷ test refusal.Counts c ∷ []
 
   pub form_same : form_tests image ≡ form_tests l
   form_same =

@@ -1,17 +1,14 @@
 -- An automatic station that answers another one is blocked with code 20 where 97.221(c) asks for a response: test by test in Part97's order.
-use Rattle.std.specs.Prelude.{ℕ, Bool, cond, ◌&&◌, List, ◌≡◌, eqb, Float}
+use Rattle.std.specs.Prelude.{ℕ, Bool, cond, ◌&&◌, List, ◌≡◌, eqb, Float, Option, Some, None, Ok, Err}
+use Rattle.codes.specs.Refusal.{Checked, refusal_of}
+use Rattle.table.specs.declared.Elsewhere.{Elsewhere}
 use Rattle.std.proofs.Math.Bool.{true, false, not}
 use Rattle.std.proofs.lemmas.Bool.{false≢true}
 use Rattle.std.proofs.Common.{sym, ◌∙◌, subst}
 use Rattle.std.proofs.Math.Path.{refl, ap}
 use Rattle.scan.specs.First.{on_found, is_at}
 use Rattle.scan.specs.Laws.{and_true}
-use Rattle.scan.specs.declared.Found.{Found}
-use Rattle.scan.specs.declared.Found.TheVariants.{At, Nothing}
 use Rattle.codes.specs.Code.{policy_code}
-use Rattle.codes.specs.Refusal.{refusal_of}
-use Rattle.codes.specs.declared.Checked.{Checked}
-use Rattle.codes.specs.declared.Checked.TheVariants.{Accepted, Refused}
 use Rattle.codes.specs.declared.Policy.{Policy}
 use Rattle.codes.specs.declared.Policy.TheVariants.{Unset, NoProfile, Rules, Broken}
 use Rattle.codes.specs.declared.ControlMode.{ControlMode}
@@ -20,14 +17,11 @@ use Rattle.codes.specs.declared.EmissionKind.TheVariants.{Data}
 use Rattle.profile.specs.declared.Range.{Range}
 use Rattle.occupancy.specs.declared.Edges.{Edges}
 use Rattle.station.specs.Station.{situation_of}
-use Rattle.station.specs.declared.Figure.{Figure}
 use Rattle.station.specs.declared.Situation.{Situation}
 use Rattle.station.specs.declared.StationRecord.{StationRecord}
 use Rattle.layout.specs.Layout.{bands, segments, automatic, excluded}
 use Rattle.table.specs.Table.{Table, table_of}
 use Rattle.table.specs.Parts.{elsewhere_of, span_of}
-use Rattle.table.specs.declared.ElsewhereRule.{ElsewhereRule}
-use Rattle.table.specs.declared.ElsewhereRule.TheVariants.{Under, Nowhere}
 use Rattle.table.specs.declared.Segment.{Segment}
 use Rattle.find.specs.Question.{first_in, some_in}
 use Rattle.find.specs.declared.Question.TheVariants.{Holds, OfBand}
@@ -50,8 +44,7 @@ use Rattle.verdict.specs.Verdict.{case_of, decide_of, evaluate_tests, unless_ref
 use Rattle.demand_3.specs.Words.{audio_of}
 use Rattle.demand_3.specs.Judged.{OffChannels, on_band_holds, in_band}
 use Rattle.demand_3.specs.Exactly.{ruling, off_channels}
-use Rattle.answering_97_221.specs.Words.{band_passes, segment_passes, is_granted, passes_before, outside_automatic, asks_response}
-use Rattle.answering_97_221.specs.Words.{robot_case, Answering, Answered}
+use Rattle.answering_97_221.specs.Words.{band_passes, segment_passes, is_granted, passes_before, outside_automatic, asks_response, robot_case, Answering, Answered}
 
 blocked_20 : (draft : Draft) (rule : ℕ) → Answered (simple_of draft Blocked AutomaticOriginate rule)
 unfolding simple_of finish_of
@@ -59,9 +52,9 @@ blocked_20 draft rule = record { verdict = refl; code = refl }
 
 module _ (table : Table) (c : Case) (new : c.direction ≡ RespondToAutomatic) (auto : c.automatic ≡ true) (kind : c.kind ≡ Data) where
   -- 97.221(c)
-  elsewhere_20 : (draft : Draft) (w : ElsewhereRule) → asks_response w c.width ≡ true → Answered (automatic_elsewhere table c draft w)
+  elsewhere_20 : (draft : Draft) (w : Option Elsewhere) → asks_response w c.width ≡ true → Answered (automatic_elsewhere table c draft w)
   unfolding automatic_elsewhere
-  elsewhere_20 draft (Under e) h =
+  elsewhere_20 draft (Some e) h =
       go (wider c.width e.max_bandwidth_hz) e.requires_response (responds c.direction) (ap responds new) h
     where
       go :
@@ -73,7 +66,7 @@ module _ (table : Table) (c : Case) (new : c.direction ≡ RespondToAutomatic) (
       go false true true k h = absurd (false≢true (sym k))
       go false true false k h = blocked_20 draft e.rule
       go false false r k h = absurd (false≢true h)
-  elsewhere_20 draft Nowhere h = absurd (false≢true h)
+  elsewhere_20 draft None h = absurd (false≢true h)
 
   module _ (outside : outside_automatic table c ≡ true) (asked : asks_response (elsewhere_of table.general) c.width ≡ true) where
     -- 97.221(b)
@@ -82,14 +75,14 @@ module _ (table : Table) (c : Case) (new : c.direction ≡ RespondToAutomatic) (
     automatic_20 band segment rule = go (first_in table automatic (Holds c.guarded)) outside
       where
         go :
-            (f : Found) → not (is_at f) ≡ true
+            (f : Option ℕ) → not (is_at f) ≡ true
             → Answered
             (on_found f
             (λ a.
             advised_automatic table c (draft_automatic c band segment rule (span_of (table.at automatic a))) AutomaticSegment (automatic_rule_of table))
             (automatic_elsewhere table c (draft_inside c band segment rule) (elsewhere_of table.general)))
-        go (At a) h = absurd (false≢true h)
-        go Nothing h = elsewhere_20 (draft_inside c band segment rule) (elsewhere_of table.general) asked
+        go (Some a) h = absurd (false≢true h)
+        go None h = elsewhere_20 (draft_inside c band segment rule) (elsewhere_of table.general) asked
 
     inside_20 : (band : ℕ) (s : Segment) → is_granted (privileged_of table c Data) ≡ true → Answered (inside_segment table c band s)
     unfolding inside_segment
@@ -107,19 +100,19 @@ module _ (table : Table) (c : Case) (new : c.direction ≡ RespondToAutomatic) (
         go Unheld b h k = absurd (false≢true h)
 
     data_20 :
-        (band : ℕ) (f : Found) → segment_passes table c.width f ≡ true → is_granted (privileged_of table c Data) ≡ true
+        (band : ℕ) (f : Option ℕ) → segment_passes table c.width f ≡ true → is_granted (privileged_of table c Data) ≡ true
         → Answered (judge_data table c band f)
     unfolding judge_data segment_passes
     data_20 band f h g = go f (wider c.width (limit_for table f).max_bandwidth_hz) h
       where
         go :
-            (f : Found) (b : Bool) → (not b && is_at f) ≡ true
+            (f : Option ℕ) (b : Bool) → (not b && is_at f) ≡ true
             → Answered
             (cond b (blocked_too_wide c band (limit_for table f))
             (on_found f (λ i. inside_segment table c band (segment_at table i)) (outside_segments table c band)))
         go f true h = absurd (false≢true h)
-        go (At i) false h = inside_20 band (segment_at table i) g
-        go Nothing false h = absurd (false≢true h)
+        go (Some i) false h = inside_20 band (segment_at table i) g
+        go None false h = absurd (false≢true h)
 
     judge_20 : OffChannels table c → passes_before table c ≡ true → Answered (judge table c)
     unfolding judge passes_before band_passes
@@ -133,18 +126,18 @@ module _ (table : Table) (c : Case) (new : c.direction ≡ RespondToAutomatic) (
         none false e = refl
 
         go :
-            (f : Found) → first_in table bands (Holds c.guarded) ≡ f
+            (f : Option ℕ) → first_in table bands (Holds c.guarded) ≡ f
             → on_found f (λ b. not (some_in table excluded (OfBand (band_at table b).band))) false ≡ true
             → segment_passes table c.width (first_in table segments (Holds c.guarded)) ≡ true → is_granted (privileged_of table c Data) ≡ true
             → Answered
             (on_found f (λ b. judge_in_band table c (band_at table b).band) (simple_of (draft_of c (touching table c)) Blocked OutOfBand §97-301))
-        go (At b) e x y z =
+        go (Some b) e x y z =
             let band = (band_at table b).band in
             let n = ap (λ (a : Bool). a && some_in table excluded (OfBand band)) auto ∙ none (some_in table excluded (OfBand band)) x in
             subst Answered
             (sym (in_band table c band n ∙ on_band_holds table c table.general band (off b e) ∙ ap (off_sixty table c band) kind))
             (data_20 band (first_in table segments (Holds c.guarded)) y z)
-        go Nothing e x y z = absurd (false≢true x)
+        go None e x y z = absurd (false≢true x)
 
 -- ---- the call
 
@@ -154,10 +147,10 @@ in_force_of NoProfile e = absurd (false≢true e)
 in_force_of Rules e = refl
 in_force_of Broken e = absurd (false≢true e)
 
-accepted_of : (c : Checked) (d : Decision) → (unless_refused c d).refusal ≡ Accepted → c ≡ Accepted
+accepted_of : (c : Checked) (d : Decision) → (unless_refused c d).refusal ≡ Ok tt → c ≡ Ok tt
 unfolding refused_of
-accepted_of Accepted d e = refl
-accepted_of (Refused n) d e = e
+accepted_of (Ok tt) d e = refl
+accepted_of (Err n) d e = e
 
 module _ (r : StationRecord) (e : Edges) (l : List ℕ) (dial : Float) (A : Answering r e l dial) where
   abbrev table : Table
@@ -172,7 +165,7 @@ module _ (r : StationRecord) (e : Edges) (l : List ℕ) (dial : Float) (A : Answ
   abbrev c : Case
   c = robot_case table s audio dial A.met
 
-  abbrev decided : Policy → Figure → Decision
+  abbrev decided : Policy → Option Float → Decision
   decided p d = decide_of table s p d Data RespondToAutomatic (edges_read e)
 
   judged : evaluate_of r 0 3 e l ≡ judge table c
@@ -181,7 +174,7 @@ module _ (r : StationRecord) (e : Edges) (l : List ℕ) (dial : Float) (A : Answ
       ap (λ (x : Checked). unless_refused x (decided s.policy s.dial))
       (accepted_of (refusal_of (evaluate_tests r 0 3 e l)) (decided s.policy s.dial) A.not_refused)
       ∙ ap (λ (p : Policy). decided p s.dial) (in_force_of s.policy A.in_force_holds)
-      ∙ ap (λ (d : Figure). decided Rules d) A.own_dial
+      ∙ ap (λ (d : Option Float). decided Rules d) A.own_dial
       ∙ ruling table s RespondToAutomatic audio dial A.met
 
   under_automatic : c.automatic ≡ true

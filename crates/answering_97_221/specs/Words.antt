@@ -1,24 +1,20 @@
 -- "Under automatic control a data signal with the new value, outside the channel band, that passes every test before §97.221 and lies outside
 -- automatic segments, within the elsewhere width and with response required, gets verdict code 20, automatic_originate": document 02, 3, each
 -- of its words a definition. The channel band is demand 3's.
-use Rattle.std.specs.Prelude.{ℕ, Bool, true, false, not, ◌&&◌, List, ◌≡◌, Float}
-use Rattle.codes.specs.declared.Checked.TheVariants.{Accepted}
+use Rattle.std.specs.Prelude.{ℕ, Bool, true, false, not, ◌&&◌, List, ◌≡◌, Float, Option, Some, None, Ok}
+use Rattle.table.specs.declared.Elsewhere.{Elsewhere}
 use Rattle.codes.specs.declared.ControlMode.TheVariants.{Automatic}
 use Rattle.codes.specs.declared.Direction.TheVariants.{RespondToAutomatic}
 use Rattle.codes.specs.declared.EmissionKind.TheVariants.{Data}
 use Rattle.profile.specs.declared.Range.{Range}
 use Rattle.occupancy.specs.declared.Edges.{Edges}
 use Rattle.scan.specs.First.{on_found, is_at}
-use Rattle.scan.specs.declared.Found.{Found}
 use Rattle.station.specs.Station.{situation_of}
-use Rattle.station.specs.declared.Figure.TheVariants.{Known}
 use Rattle.station.specs.declared.Situation.{Situation}
 use Rattle.station.specs.declared.StationRecord.{StationRecord}
 use Rattle.layout.specs.Layout.{bands, segments, automatic, excluded}
 use Rattle.table.specs.Table.{Table, table_of}
 use Rattle.table.specs.Parts.{elsewhere_of}
-use Rattle.table.specs.declared.ElsewhereRule.{ElsewhereRule}
-use Rattle.table.specs.declared.ElsewhereRule.TheVariants.{Under, Nowhere}
 use Rattle.find.specs.Question.{first_in, some_in}
 use Rattle.find.specs.declared.Question.TheVariants.{Holds, OfBand}
 use Rattle.entry.specs.Entry.{edges_read}
@@ -37,11 +33,11 @@ use Rattle.demand_3.specs.Exactly.{Prerequisites, judged_case}
 -- ---- "every test before §97.221"
 
 -- 97.301: a band holds the guarded range, and automatic control is not excluded from it
-unfoldable pub band_passes : Table → Found → Bool
+unfoldable pub band_passes : Table → Option ℕ → Bool
 band_passes table found = on_found found (λ b. not (some_in table excluded (OfBand (band_at table b).band))) false
 
 -- 97.307(f), 97.305(c): no wider than the limit, and inside a data segment
-unfoldable pub segment_passes : Table → Float → Found → Bool
+unfoldable pub segment_passes : Table → Float → Option ℕ → Bool
 segment_passes table width found = not (wider width (limit_for table found).max_bandwidth_hz) && is_at found
 
 -- 97.301, 97.307(f)(9): the operator's privileges allow data there
@@ -60,9 +56,9 @@ passes_before table c =
 unfoldable pub outside_automatic : Table → Case → Bool
 outside_automatic table c = not (some_in table automatic (Holds c.guarded))
 
-abbrev pub asks_response : ElsewhereRule → Float → Bool
-asks_response (Under e) width = not (wider width e.max_bandwidth_hz) && e.requires_response
-asks_response Nowhere width = false
+abbrev pub asks_response : Option Elsewhere → Float → Bool
+asks_response (Some e) width = not (wider width e.max_bandwidth_hz) && e.requires_response
+asks_response None width = false
 
 -- ---- the premises, and what is said
 
@@ -73,10 +69,10 @@ robot_case table s audio dial met = judged_case table s RespondToAutomatic audio
 -- a verdict on data, kind 0, with the value 3 at the station's own dial
 pub record Answering (r : StationRecord) (e : Edges) (l : List ℕ) (dial : Float) : Type 0 where
   -- judged by a table, with the prerequisites met
-  pub not_refused : (evaluate_of r 0 3 e l).refusal ≡ Accepted
+  pub not_refused : (evaluate_of r 0 3 e l).refusal ≡ Ok tt
   pub in_force_holds : rules_in_force (situation_of r) ≡ true
   pub met : Prerequisites (table_of l) (situation_of r)
-  pub own_dial : (situation_of r).dial ≡ Known dial
+  pub own_dial : (situation_of r).dial ≡ Some dial
   -- "Under automatic control"
   pub control : met.control ≡ Automatic
   -- "outside the channel band"
@@ -89,4 +85,4 @@ pub record Answering (r : StationRecord) (e : Edges) (l : List ℕ) (dial : Floa
 -- "gets verdict code 20, automatic_originate"
 pub record Answered (d : Decision) : Type 0 where
   pub verdict : d.verdict ≡ Blocked
-  pub code : d.code ≡ AutomaticOriginate
+  pub code : d.code ≡ Some AutomaticOriginate

@@ -1,12 +1,11 @@
 -- A range that ends where another begins, or before, shares nothing with it.
-use Rattle.std.specs.Prelude.{Bool, true, false, cond, ◌≡◌, Float}
+use Rattle.std.specs.Prelude.{Bool, true, false, cond, ◌≡◌, Float, Some, None}
 use Rattle.std.proofs.Common.{ap}
 use Rattle.std.specs.Float.Ieee.{lt, le}
 use Rattle.order.specs.Total.{le_not_above, not_lt_trans}
 use Rattle.order.specs.Greater.{Beyond, after, le_number, max_first, max_second, min_first, min_second}
 use Rattle.profile.specs.Range.{lengthy, common_of, intersect_of}
 use Rattle.profile.specs.declared.Range.{Range}
-use Rattle.profile.specs.declared.Shared.TheVariants.{Stretch, Nothing}
 
 -- z ≤ y, with a number from y on and one up to z: the first is not below the second
 no_stretch_holds : (m y z n : Float) → Beyond lt m y → le z y ≡ true → Beyond after n z → lt m n ≡ false
@@ -33,8 +32,8 @@ module _ (a b : Range) where
       e
       (min_second a.high_hz b.high_hz c.0)
 
-  pub below_nothing : le a.high_hz b.low_hz ≡ true → intersect_of a b ≡ Nothing
-  below_nothing e = ap (λ (x : Bool). cond x (Stretch (common_of a b)) Nothing) (below_shares e)
+  pub below_nothing : le a.high_hz b.low_hz ≡ true → intersect_of a b ≡ None
+  below_nothing e = ap (λ (x : Bool). cond x (Some (common_of a b)) None) (below_shares e)
 
-  pub above_nothing : le b.high_hz a.low_hz ≡ true → intersect_of a b ≡ Nothing
-  above_nothing e = ap (λ (x : Bool). cond x (Stretch (common_of a b)) Nothing) (above_shares e)
+  pub above_nothing : le b.high_hz a.low_hz ≡ true → intersect_of a b ≡ None
+  above_nothing e = ap (λ (x : Bool). cond x (Some (common_of a b)) None) (above_shares e)

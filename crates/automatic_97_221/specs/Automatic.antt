@@ -1,12 +1,11 @@
 -- 97.221, automatically controlled digital stations, as far as verdict, ceiling and dial list share it.
-use Rattle.std.specs.Prelude.{Bool, true, false, not, ◌&&◌, ◌||◌, Float}
+use Rattle.std.specs.Prelude.{Bool, true, false, not, ◌&&◌, ◌||◌, Float, Option, Some, None}
+use Rattle.table.specs.declared.Elsewhere.{Elsewhere}
 use Rattle.std.specs.Float.Ieee.{le}
 use Rattle.codes.specs.declared.ControlMode.{ControlMode}
 use Rattle.codes.specs.declared.ControlMode.TheVariants.{Local, Remote, Automatic}
 use Rattle.codes.specs.declared.Direction.{Direction}
 use Rattle.codes.specs.declared.Direction.TheVariants.{Originate, Respond, Operator, RespondToAutomatic}
-use Rattle.table.specs.declared.ElsewhereRule.{ElsewhereRule}
-use Rattle.table.specs.declared.ElsewhereRule.TheVariants.{Under, Nowhere}
 
 -- 97.3(a)(6), 97.109(d): the station is automatically controlled
 abbrev pub is_automatic : ControlMode → Bool
@@ -34,7 +33,7 @@ abbrev pub applies_of : ControlMode → Direction → Bool
 applies_of control direction = is_automatic control && not (at_control_point direction)
 
 -- 97.221(c): outside the segments of 97.221(b), no wider than the limit there and, where the table requires it, only answering
-abbrev pub elsewhere_allows : ElsewhereRule → Float → Direction → Bool
-elsewhere_allows (Under e) width direction =
+abbrev pub elsewhere_allows : Option Elsewhere → Float → Direction → Bool
+elsewhere_allows (Some e) width direction =
     le width e.max_bandwidth_hz && (responds direction || not e.requires_response)
-elsewhere_allows Nowhere width direction = false
+elsewhere_allows None width direction = false

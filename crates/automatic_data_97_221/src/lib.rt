@@ -11,12 +11,11 @@ ghost use Rattle.part97.specs.Part97.{draft_inside, automatic_elsewhere, automat
 ghost use Rattle.part97.specs.Finding.{lawful_in, concluded};
 
 use codes::Direction;
-use decision::{Code, MaybeRange};
-use find::Pick;
+use decision::Code;
 use layout::General;
 use part97::{Case, Finding};
 use profile::Range;
-use table::{Elsewhere, ElsewhereRule};
+use table::Elsewhere;
 
 // Whether a transmission would have to answer interrogation, and doesn't.
 fn must_respond(e: Elsewhere, direction: Direction) -> bool
@@ -31,71 +30,57 @@ fn lawful(
     band: u8,
     segment: Range,
     own: u16,
-    inside: MaybeRange,
+    inside: Option<Range>,
     code: Code,
     rule: u16,
 ) -> Finding
     ensures { result ≡ lawful_in band segment own inside c.advised code rule }
 {
-    let advised = c.advised;
-    findings::lawful_in(band, segment, own, inside, advised, code, rule)
+    findings::lawful_in(band, segment, own, inside, c.advised, code, rule)
 }
 
 // Outside the segments for automatic control (97.221(c)).
+#[tactic(auto, using(part97::specs::Finding::in_segment_holds, part97::specs::Finding::lawful_in_holds), unfolding(part97::specs::Part97::automatic_elsewhere))]
 fn automatic_elsewhere(
     g: General,
     c: Case,
     band: u8,
     segment: Range,
     own: u16,
-    rule: ElsewhereRule,
+    rule: Option<Elsewhere>,
 ) -> Finding
     ensures { (table : Table) → g ≡ table.general → concluded table c result ≡ automatic_elsewhere table c (draft_inside c band segment own) rule }
 {
-    let direction = c.direction;
-    match rule {
-        ElsewhereRule::Under(e) => {
-            if e.max_bandwidth_hz < c.width {
-                return findings::in_segment(band, segment, own, Code::AutomaticBandwidth, e.rule);
-            }
-            if must_respond(e, direction) {
-                return findings::in_segment(band, segment, own, Code::AutomaticOriginate, e.rule);
-            }
-            lawful(
-                c,
-                band,
-                segment,
-                own,
-                MaybeRange::NoRange,
-                Code::AutomaticResponse,
-                e.rule,
-            )
-        }
-        ElsewhereRule::Nowhere => {
-            findings::in_segment(band, segment, own, Code::AutomaticOutside, g.automatic_rule)
-        }
+    let Some(e) = rule else {
+        return findings::in_segment(band, segment, own, Code::AutomaticOutside, g.automatic_rule);
+    };
+    if e.max_bandwidth_hz < c.width {
+        findings::in_segment(band, segment, own, Code::AutomaticBandwidth, e.rule)
+    } else if must_respond(e, c.direction) {
+        findings::in_segment(band, segment, own, Code::AutomaticOriginate, e.rule)
+    } else {
+        lawful(c, band, segment, own, None, Code::AutomaticResponse, e.rule)
     }
 }
 
 // Inside a segment for automatic control (97.221(b)), or else by (c).
+#[tactic(auto, using(part97::specs::Finding::lawful_automatic), unfolding(part97::specs::Part97::automatic_data, find::specs::Question::pick_in))]
 pub fn automatic_data(s: &[u8], g: General, c: Case, band: u8, segment: Range, rule: u16) -> Finding
     requires { (Whole s.now) × (g ≡ general_of s.now) }
     ensures { concluded (table_of s.now) c result ≡ automatic_data (table_of s.now) c band segment rule }
 {
-    let guarded = c.guarded;
-    match find::pick_holding(s, layout::AUTOMATIC, guarded) {
-        Pick::Picked(_, r) => {
-            let inside = table::span_of(r);
+    match find::pick_holding(s, layout::AUTOMATIC, c.guarded) {
+        Some((_, r)) => {
             lawful(
                 c,
                 band,
                 segment,
                 rule,
-                MaybeRange::Is(inside),
+                Some(table::span_of(r)),
                 Code::AutomaticSegment,
                 g.automatic_rule,
             )
         }
-        Pick::Missing => { automatic_elsewhere(g, c, band, segment, rule, table::elsewhere_of(g)) }
+        None => automatic_elsewhere(g, c, band, segment, rule, table::elsewhere_of(g)),
     }
 }

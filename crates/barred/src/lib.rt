@@ -7,80 +7,56 @@ ghost use Rattle.std.specs.Prelude.{◌≡◌};
 ghost use Rattle.layout.specs.Form.{Whole};
 ghost use Rattle.layout.specs.Layout.{general_of};
 ghost use Rattle.table.specs.Table.{table_of};
-ghost use Rattle.decision.specs.Decision.{is_blocked};
 ghost use Rattle.verdict.specs.Verdict.{under_rules_of, decide_of};
 ghost use Rattle.barred.specs.Barred.{settled_of, blocked_over, brief_over, brief_of};
 ghost use Rattle.barred.specs.Barring.{bar_by, led_by_rules, led_to, Barred};
 
 use codes::{Direction, EmissionKind, Policy};
-use decision::{BandNumber, Code, Decision, MaybeRange, Verdict};
+use decision::{Code, Decision, Verdict};
 use layout::General;
 use occupancy::Edges;
 use part97::Finding;
 use profile::Range;
-use station::{Figure, Situation};
-use verdict::Ready;
-
-// What blocks a transmission, if anything does.
-#[derive(Clone, Copy)]
-pub enum Bar {
-    By(Finding),
-    Free,
-}
+use station::Situation;
 
 // What is asked of a decision that is not made.
 #[derive(Clone, Copy)]
 pub struct Brief {
     pub blocked: bool,
-    pub code: Code,
-}
-
-fn is_blocked(v: Verdict) -> bool
-    ensures { result ≡ is_blocked v }
-{
-    match v {
-        Verdict::Legal => false,
-        Verdict::Warning => false,
-        Verdict::Blocked => true,
-    }
+    pub code: Option<Code>,
 }
 
 // Whether a finding blocks: power limits and the plan never do.
 fn blocks(f: Finding) -> bool
     ensures { result ≡ blocked_over f.verdict f.over }
 {
-    let verdict = f.verdict;
-    let over = f.over;
-    match over {
-        MaybeRange::Is(_) => false,
-        MaybeRange::NoRange => is_blocked(verdict),
-    }
+    f.over.is_none() && f.verdict == Verdict::Blocked
 }
 
 // One that needs no judging.
 fn settled(blocked: bool, code: Code) -> Brief
     ensures { result ≡ settled_of blocked code }
 {
-    Brief { blocked, code }
+    Brief {
+        blocked,
+        code: Some(code),
+    }
 }
 
 // A finding in brief.
 fn brief_of(f: Finding) -> Brief
     ensures { result ≡ brief_over f }
 {
-    let code = f.code;
-    Brief {
-        blocked: blocks(f),
-        code,
-    }
+    settled(blocks(f), f.code)
 }
 
 // Under an accepted table, at a dial: a prerequisite that is missing blocks, and else Part 97 says.
+#[tactic(auto, using(crate::specs::Barred::finding_brief), unfolding(verdict::specs::Verdict::under_rules_of, decision::specs::Decision::simple_of, decision::specs::Decision::finish_of))]
 fn brief_by_rules(
     image: &[u8],
     g: General,
     s: Situation,
-    dial: Figure,
+    dial: Option<f64>,
     kind: EmissionKind,
     direction: Direction,
     audio: Range,
@@ -89,17 +65,18 @@ fn brief_by_rules(
     ensures { result ≡ brief_of (under_rules_of (table_of image.now) s dial kind direction audio) }
 {
     match verdict::prepare(g, s, dial, kind, direction, audio) {
-        Ready::Met(c) => brief_of(judge::judge_case(image, g, c)),
-        Ready::Missing(code, _) => settled(true, code),
+        Ok(c) => brief_of(judge::judge_case(image, g, c)),
+        Err(m) => settled(true, m.code),
     }
 }
 
 // By the policy, at a dial. Under Rules the image is an accepted one.
+#[tactic(auto, unfolding(verdict::specs::Verdict::decide_of, verdict::specs::Verdict::unruled_of, decision::specs::Decision::simple_of, decision::specs::Decision::finish_of))]
 pub fn in_brief(
     image: &[u8],
     s: Situation,
     policy: Policy,
-    dial: Figure,
+    dial: Option<f64>,
     kind: EmissionKind,
     direction: Direction,
     e: Edges,
@@ -120,55 +97,54 @@ pub fn in_brief(
 }
 
 // What blocks where nothing is judged: a policy, or a prerequisite that is missing.
-fn bar_by(code: Code, rule: u16) -> Bar
+fn bar_by(code: Code, rule: u16) -> Option<Finding>
     ensures { result ≡ bar_by code rule }
 {
-    Bar::By(findings::on_band(BandNumber::NoBand, Verdict::Blocked, code, rule))
+    Some(findings::on_band(None, Verdict::Blocked, code, rule))
 }
 
 // Under an accepted table, at a dial: a prerequisite that is missing blocks, and else Part 97 says.
+#[tactic(auto, using(crate::specs::Barring::bar_free))]
 fn barring_by_rules(
     image: &[u8],
     g: General,
     s: Situation,
-    dial: Figure,
+    dial: Option<f64>,
     kind: EmissionKind,
     direction: Direction,
     audio: Range,
-) -> Bar
+) -> Option<Finding>
     requires { (Whole image.now) × (g ≡ general_of image.now) }
     ensures { Barred (led_by_rules (table_of image.now) s dial kind direction audio)
         (under_rules_of (table_of image.now) s dial kind direction audio) result }
 {
     match verdict::prepare(g, s, dial, kind, direction, audio) {
-        Ready::Met(c) => {
+        Ok(c) => {
             let f = judge::judge_case(image, g, c);
-            if blocks(f) {
-                return Bar::By(f);
-            }
-            Bar::Free
+            if blocks(f) { Some(f) } else { None }
         }
-        Ready::Missing(code, rule) => bar_by(code, rule),
+        Err(m) => bar_by(m.code, m.rule),
     }
 }
 
 // By the policy, at a dial. Under Rules the image is an accepted one.
+#[tactic(auto, using(crate::specs::Barring::bar_none))]
 pub fn barring(
     image: &[u8],
     s: Situation,
     policy: Policy,
-    dial: Figure,
+    dial: Option<f64>,
     kind: EmissionKind,
     direction: Direction,
     e: Edges,
-) -> Bar
+) -> Option<Finding>
     requires { policy ≡ Policy.Rules → Whole image.now }
     ensures { Barred (led_to (table_of image.now) s policy dial kind direction e)
         (decide_of (table_of image.now) s policy dial kind direction e) result }
 {
     match policy {
         Policy::Unset => bar_by(Code::NoProfile, decision::NO_RULE),
-        Policy::NoProfile => Bar::Free,
+        Policy::NoProfile => None,
         Policy::Rules => {
             let g = layout::general_of(image);
             let audio = e.range(table::reading_of(g));
@@ -179,11 +155,12 @@ pub fn barring(
 }
 
 // The answer on what is blocked by a finding, under an accepted table. Nothing is judged again.
+#[tactic(auto, unfolding(crate::specs::Barring::led_by_rules))]
 fn answer_by_rules(
     image: &[u8],
     g: General,
     s: Situation,
-    dial: Figure,
+    dial: Option<f64>,
     kind: EmissionKind,
     direction: Direction,
     audio: Range,
@@ -193,21 +170,21 @@ fn answer_by_rules(
     ensures { result ≡ led_by_rules (table_of image.now) s dial kind direction audio f }
 {
     match verdict::prepare(g, s, dial, kind, direction, audio) {
-        Ready::Met(c) => judge::conclude(image, g, c, f),
-        Ready::Missing(code, rule) => {
-            let sideband = s.sideband;
-            let signal = verdict::signal_of(dial, sideband, audio);
-            decision::simple(signal, Verdict::Blocked, code, rule)
+        Ok(c) => judge::conclude(image, g, c, f),
+        Err(m) => {
+            let signal = verdict::signal_of(dial, s.sideband, audio);
+            decision::simple(signal, Verdict::Blocked, m.code, m.rule)
         }
     }
 }
 
 // By the policy.
+#[tactic(auto, unfolding(crate::specs::Barring::led_to))]
 pub fn answer(
     image: &[u8],
     s: Situation,
     policy: Policy,
-    dial: Figure,
+    dial: Option<f64>,
     kind: EmissionKind,
     direction: Direction,
     e: Edges,
@@ -216,16 +193,14 @@ pub fn answer(
     requires { policy ≡ Policy.Rules → Whole image.now }
     ensures { result ≡ led_to (table_of image.now) s policy dial kind direction e f }
 {
-    let verdict = f.verdict;
-    let code = f.code;
     match policy {
-        Policy::Unset => verdict::unruled(s, dial, e, verdict, code),
-        Policy::NoProfile => verdict::unruled(s, dial, e, verdict, code),
         Policy::Rules => {
             let g = layout::general_of(image);
             let audio = e.range(table::reading_of(g));
             answer_by_rules(image, g, s, dial, kind, direction, audio, f)
         }
-        Policy::Broken => verdict::unruled(s, dial, e, verdict, code),
+        Policy::Unset | Policy::NoProfile | Policy::Broken => {
+            verdict::unruled(s, dial, e, f.verdict, f.code)
+        }
     }
 }

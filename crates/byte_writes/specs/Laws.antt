@@ -1,11 +1,9 @@
 -- What the loops that write bytes know at each turn, and that numbers and figures are read back as they were written.
 use Prim.Native.Nat.{ℕ, zero, suc, ◌+◌, ◌-◌, ◌*◌, ◌/◌, ◌%◌, ◌^◌, ◌<◌, ◌≤◌}
-use Rattle.std.specs.Prelude.{List, [], ◌∷◌, ◌++◌, ◌≡◌, refl, T, length, get_or, drop, set, Float}
+use Rattle.std.specs.Prelude.{List, [], ◌∷◌, ◌++◌, ◌≡◌, refl, T, length, drop, set, Float}
 use Rattle.std.proofs.Common.{sym, ap, ◌∙◌, add_assoc, get_or-drop, drop_at}
 use native.Mathlib.Omega.{arith}
-use Rattle.std.proofs.Math.ListN.{length-set}
 use Rattle.std.proofs.lemmas.List.Edits.{sets}
-use Rattle.std.proofs.Math.Seq.{paste, paste-zero, paste-suc}
 use Rattle.std.specs.Float.{binary64}
 use Rattle.std.specs.Float.Ieee.{fits, to_bits}
 use Rattle.std.specs.Float.Ieee.Bits.{of_bits-to_bits, to_bits-lt}
@@ -16,17 +14,9 @@ use Rattle.byte_writes.specs.Bytes.{little, figure_bytes}
 -- ---- a number put byte by byte
 
 pub record Putting (l₀ : List ℕ) (at width x : ℕ) (l : List ℕ) (rest k : ℕ) : Type 0 where
-  pub within : k ≤ width
-  pub same : length l ≡ length l₀
   pub left : sets l (at + k) (little (width - k) rest) ≡ sets l₀ at (little width x)
 
 module _ (l₀ : List ℕ) (at width x : ℕ) where
-  pub put_none : Putting l₀ at width x l₀ x 0
-  put_none =
-      let a : at + 0 ≡ at = omega arith in
-      let b : width - 0 ≡ width = omega arith in
-      record { within = omega arith; same = refl; left = rw a (rw b) }
-
   pub put_step :
       (l : List ℕ) (rest k : ℕ) → Putting l₀ at width x l rest k → k < width
       → Putting l₀ at width x (set l (at + k) (rest % 256)) (rest / 256) (k + 1)
@@ -34,48 +24,13 @@ module _ (l₀ : List ℕ) (at width x : ℕ) where
   put_step l rest k p h =
       let a : at + (k + 1) ≡ suc (at + k) = omega arith in
       let b : width - k ≡ suc (width - (k + 1)) = omega arith in
-      record {
-        within = omega arith;
-        same = length-set l (at + k) (rest % 256) ∙ p.same;
-        left = rw a (rw b at p.left);
-      }
+      record { left = rw a (rw b at p.left) }
 
   pub put_done : (l : List ℕ) (rest k : ℕ) → Putting l₀ at width x l rest k → width ≤ k → l ≡ sets l₀ at (little width x)
   unfolding little
   put_done l rest k p h =
       let b : width - k ≡ 0 = omega arith in
       rw b at p.left
-
--- ---- a copy, byte by byte
-
-pub record Copying (lent source : List ℕ) (room : ℕ) (l : List ℕ) (k : ℕ) : Type 0 where
-  pub within : k ≤ room
-  pub same : length l ≡ length lent
-  pub held : l ≡ paste lent 0 source k
-
-module _ (lent source : List ℕ) (room : ℕ) where
-  pub copy_none : Copying lent source room lent 0
-  copy_none = record { within = omega arith; same = refl; held = paste-zero lent 0 source }
-
-  pub copy_step :
-      (l : List ℕ) (k : ℕ) → Copying lent source room l k → k < room → room ≤ length lent → room ≤ length source
-      → Copying lent source room (set l k (get_or source k 0)) (k + 1)
-  copy_step l k c h a b =
-      let z : 0 + k ≡ k = omega arith in
-      let s : k + 1 ≡ suc k = omega arith in
-      let e : set (paste lent 0 source k) (0 + k) (get_or source k 0) ≡ paste lent 0 source (suc k) = paste-suc lent 0 source k 0 (omega arith) (omega arith) in
-      record {
-        within = omega arith;
-        same = length-set l k (get_or source k 0) ∙ c.same;
-        held =
-            ap (λ (m : List ℕ). set m k (get_or source k 0)) c.held ∙ ap (λ (i : ℕ). set (paste lent 0 source k) i (get_or source k 0)) (sym z)
-            ∙ e ∙ ap (λ (i : ℕ). paste lent 0 source i) (sym s);
-      }
-
-  pub copy_done : (l : List ℕ) (k : ℕ) → Copying lent source room l k → room ≤ k → l ≡ paste lent 0 source room
-  copy_done l k c h =
-      let e : k ≡ room = omega (arith, c.within) in
-      c.held ∙ ap (λ (i : ℕ). paste lent 0 source i) e
 
 -- ---- field after field
 

@@ -13,23 +13,22 @@ ghost use Rattle.byte_writes.specs.Bytes.{little, figure_bytes};
 pub fn bits(x: f64) -> u64
     ensures { result ≡ to_bits binary64 x }
 {
-    if x != x {
+    if x.is_nan() {
         return 0x7ff8_0000_0000_0000;
     }
     f64::to_bits(x)
 }
 
 // A number, little-endian, in the width bytes from at on.
+#[tactic(auto, using(crate::specs::Laws::put_step, crate::specs::Laws::put_done))]
 pub fn put(out: &mut [u8], at: usize, width: usize, x: u64)
     requires { at + width ≤ length out.old }
     ensures { out.new ≡ sets out.old at (little width x) }
 {
     let mut rest = x;
-    let mut k: usize = 0;
-    while k < width {
+    for k in 0..width {
         out[at + k] = (rest % 256) as u8;
-        rest = rest / 256;
-        k += 1;
+        rest /= 256;
     }
 }
 
@@ -46,9 +45,5 @@ pub fn copy(out: &mut [u8], from: &[u8], room: usize)
     requires { (room ≤ length out.old) × (room ≤ length from.now) }
     ensures { out.new ≡ paste out.old 0 from.now room }
 {
-    let mut k: usize = 0;
-    while k < room {
-        out[k] = from[k];
-        k += 1;
-    }
+    out[..room].copy_from_slice(&from[..room]);
 }

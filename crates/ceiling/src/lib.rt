@@ -7,96 +7,82 @@ ghost use Rattle.codes.specs.declared.Policy.TheVariants.{Rules};
 ghost use Rattle.layout.specs.Form.{Whole};
 ghost use Rattle.table.specs.Table.{table_of};
 ghost use Rattle.rungs.specs.Rungs.{burst_of};
-ghost use Rattle.ceiling.specs.Ceiling.{joined_of, judge_by, lead_by, Stepped, climbed, ceiling_of};
+ghost use Rattle.ceiling.specs.Ceiling.{joined_of, judge_by, lead_by, Stepped, climbed, limit_of, ceiling_of};
 
-use barred::Bar;
 use codes::{Checked, Direction, EmissionKind};
 use decision::Decision;
 use occupancy::Edges;
 use part97::Finding;
 use station::{Situation, StationRecord};
 
-// The fastest rung allowed.
-#[derive(Clone, Copy)]
-pub enum Rung {
-    Fastest(usize),
-    NoRung,
-}
-
-// What the rungs so far occupy, with their control frames.
-#[derive(Clone, Copy)]
-pub enum Envelope {
-    Reached(Edges),
-    Unreached,
-}
-
-// A rung's step: what it occupies with its control frame and every slower rung, and where that is blocked, by what.
-#[derive(Clone, Copy)]
-pub enum Step {
-    Passed(Edges),
-    Stopped(Edges, Finding),
-}
-
-// A climb: the rungs judged so far, and the decision on the first that is blocked. Where there is none, `limit` is absent: Blocked,
-// with refusal 0, which no input meets.
+// A climb: the rungs judged so far, and the decision on the first that is blocked.
 #[derive(Clone, Copy)]
 pub struct Climb {
-    pub envelope: Envelope,
-    pub rung: Rung,
-    pub limited: bool,
-    pub limit: Decision,
+    pub envelope: Option<Edges>,
+    pub rung: Option<usize>,
+    pub limit: Option<Decision>,
 }
 
 #[derive(Clone, Copy)]
 pub struct CeilingAnswer {
     pub refusal: Checked,
-    pub rung: Rung,
-    // Whether a rung is blocked; then `limit` is the whole decision on its envelope. Else `limit` is absent as in a climb, and on a
-    // refusal it has the refusal's number. Its verdict is Blocked in every answer.
-    pub limited: bool,
-    pub limit: Decision,
+    pub rung: Option<usize>,
+    // Where a rung is blocked, the whole decision on its envelope.
+    pub limit: Option<Decision>,
+}
+
+impl CeilingAnswer {
+    // The limit; where there is none an absent decision, with the answer's refusal. It is Blocked in every answer.
+    pub fn limit_or_absent(self) -> Decision
+        ensures { result ≡ limit_of self }
+    {
+        match self.limit {
+            Some(limit) => limit,
+            None => decision::absent(self.refusal),
+        }
+    }
 }
 
 // An envelope, with one burst more.
-fn joined(envelope: Envelope, more: Edges) -> Edges
+fn joined(envelope: Option<Edges>, more: Edges) -> Edges
     ensures { result ≡ joined_of envelope more }
 {
     match envelope {
-        Envelope::Reached(e) => e.union(more),
-        Envelope::Unreached => more,
+        Some(e) => e.union(more),
+        None => more,
     }
 }
 
 // One rung judged, with what it adds to the envelope.
+#[tactic(auto, using(crate::specs::Laws::stopped_by, crate::specs::Laws::passed_by), unfolding(crate::specs::Ceiling::judge_by, crate::specs::Ceiling::lead_by))]
 pub fn rung_step(
     image: &[u8],
     s: Situation,
     direction: Direction,
-    envelope: Envelope,
+    envelope: Option<Edges>,
     more: Edges,
-) -> Step
+) -> Result<Edges, (Edges, Finding)>
     requires { s.policy ≡ Rules → Whole image.now }
     ensures { Stepped (judge_by (table_of image.now) s direction) (lead_by (table_of image.now) s direction)
         envelope more result }
 {
-    let policy = s.policy;
-    let dial = s.dial;
     let reached = joined(envelope, more);
     match barred::barring(
         image,
         s,
-        policy,
-        dial,
+        s.policy,
+        s.dial,
         EmissionKind::Data,
         direction,
         reached,
     ) {
-        Bar::By(f) => Step::Stopped(reached, f),
-        Bar::Free => Step::Passed(reached),
+        Some(f) => Err((reached, f)),
+        None => Ok(reached),
     }
 }
 
 // The decision on an envelope that a step stopped at. Nothing is judged again.
+#[tactic(auto, unfolding(crate::specs::Ceiling::lead_by))]
 pub fn rung_decision(
     image: &[u8],
     s: Situation,
@@ -107,13 +93,11 @@ pub fn rung_decision(
     requires { s.policy ≡ Rules → Whole image.now }
     ensures { result ≡ lead_by (table_of image.now) s direction envelope f }
 {
-    let policy = s.policy;
-    let dial = s.dial;
     barred::answer(
         image,
         s,
-        policy,
-        dial,
+        s.policy,
+        s.dial,
         EmissionKind::Data,
         direction,
         envelope,
@@ -122,6 +106,7 @@ pub fn rung_decision(
 }
 
 // The climb over all rungs. It ends at the first that is blocked.
+#[tactic(auto, using(crate::specs::Laws::climb_done))]
 fn climb_all(
     image: &[u8],
     s: Situation,
@@ -136,37 +121,34 @@ fn climb_all(
         (burst_of ordinary floor rungs.now floors.now) (length rungs.now / 4) }
 {
     let count = rungs.len() / 4;
-    let mut envelope = Envelope::Unreached;
-    let mut rung = Rung::NoRung;
-    let mut i: usize = 0;
-    while i < count {
+    let mut envelope = None;
+    let mut rung = None;
+    for i in 0..count {
         let more = rungs::burst(ordinary, floor, rungs, floors, i);
         match rung_step(image, s, direction, envelope, more) {
-            Step::Stopped(reached, f) => {
+            Err((reached, f)) => {
                 let limit = rung_decision(image, s, direction, reached, f);
                 return Climb {
-                    envelope: Envelope::Reached(reached),
+                    envelope: Some(reached),
                     rung,
-                    limited: true,
-                    limit,
+                    limit: Some(limit),
                 };
             }
-            Step::Passed(reached) => {
-                envelope = Envelope::Reached(reached);
-                rung = Rung::Fastest(i);
-                i += 1;
+            Ok(reached) => {
+                envelope = Some(reached);
+                rung = Some(i);
             }
         }
     }
     Climb {
         envelope,
         rung,
-        limited: false,
-        limit: decision::refused(0),
+        limit: None,
     }
 }
 
 // The fastest rung that may be sent, every slower one with it, and the verdict on the first that may not.
+#[tactic(auto, unfolding(crate::specs::Ceiling::ceiling_of))]
 pub fn ceiling(
     r: StationRecord,
     direction: u8,
@@ -179,30 +161,25 @@ pub fn ceiling(
     ensures { result ≡ ceiling_of r direction ordinary floor image.now rungs.now floors.now }
 {
     match rungs::ceiling_refusals(r, direction, ordinary, floor, image, rungs, floors) {
-        Checked::Refused(n) => CeilingAnswer {
-            refusal: Checked::Refused(n),
-            rung: Rung::NoRung,
-            limited: false,
-            limit: decision::refused(n),
+        Err(n) => CeilingAnswer {
+            refusal: Err(n),
+            rung: None,
+            limit: None,
         },
-        Checked::Accepted => {
-            let s = station::situation_of(r);
+        Ok(()) => {
             let c = climb_all(
                 image,
-                s,
-                codes::direction_of(direction),
+                station::situation_of(r),
+                direction.into(),
                 entry::edges_read(ordinary),
                 entry::edges_read(floor),
                 rungs,
                 floors,
             );
-            let rung = c.rung;
-            let limit = c.limit;
             CeilingAnswer {
-                refusal: Checked::Accepted,
-                rung,
-                limited: c.limited,
-                limit,
+                refusal: Ok(()),
+                rung: c.rung,
+                limit: c.limit,
             }
         }
     }

@@ -1,18 +1,17 @@
 -- A census of a band (document 02, 14): "Trustees compare draft tables by how many dials each verdict code gets."
 use Rattle.std.specs.Prelude.{ℕ, zero, suc, ◌+◌, cond, not, ◌||◌, List, [], ◌∷◌, ◌++◌, replicate, ℤ, pos, negsuc, ◌+ℤ◌, ◌-ℤ◌, ◌==◌, nat_lt, unsigned_abs, Float}
+use Rattle.std.specs.Prelude.{Some, Ok, Err}
+use Rattle.codes.specs.declared.Refusal.TheVariants as refusal
+use Rattle.codes.specs.Refusal.{Checked, Test, test, refusal_of}
 use Rattle.std.specs.Float.{binary64}
 use Rattle.std.specs.Float.Ieee.{of_int}
 use Rattle.codes.specs.Read.{kind_of, direction_of}
-use Rattle.codes.specs.Refusal.{Test, test, refusal_of}
-use Rattle.codes.specs.declared.Checked.{Checked}
-use Rattle.codes.specs.declared.Checked.TheVariants.{Accepted, Refused}
 use Rattle.codes.specs.declared.EmissionKind.{EmissionKind}
 use Rattle.codes.specs.declared.Direction.{Direction}
 use Rattle.occupancy.specs.declared.Edges.{Edges}
 use Rattle.station.specs.Station.{mark_valid, situation_of}
 use Rattle.station.specs.declared.StationRecord.{StationRecord}
 use Rattle.station.specs.declared.Situation.{Situation}
-use Rattle.station.specs.declared.Figure.TheVariants.{Known}
 use Rattle.table.specs.Table.{Table, table_of}
 use Rattle.entry.specs.Entry.{edges_read}
 use Rattle.decision.specs.Number.{code_number}
@@ -42,7 +41,7 @@ dial_at first k = of_int binary64 (first +ℤ pos k)
 
 -- "each taken as the station record's present dial": the number of its code, by the verdict's own definition
 unfoldable pub code_at : Table → Situation → EmissionKind → Direction → Edges → Float → ℕ
-code_at table s kind direction e hz = code_number (decide_of table s s.policy (Known hz) kind direction e).code
+code_at table s kind direction e hz = code_number (decide_of table s s.policy (Some hz) kind direction e).code
 
 -- ---- the counts
 
@@ -86,21 +85,21 @@ undialled r = dialled 0 r.dial_hz r
 -- "(33, after 15) a first above the last or more dials than that, and (34, next) a first or last above 2^40 in size"
 abbrev pub stretch_tests : ℤ → ℤ → List Test
 stretch_tests first last =
-    test 33 (dials_of first last == 0 || nat_lt most (dials_of first last))
-    ∷ test 34 (nat_lt farthest (unsigned_abs first) || nat_lt farthest (unsigned_abs last)) ∷ []
+    test refusal.Stretch (dials_of first last == 0 || nat_lt most (dials_of first last))
+    ∷ test refusal.FarDial (nat_lt farthest (unsigned_abs first) || nat_lt farthest (unsigned_abs last)) ∷ []
 
 -- Before these the verdict's own; the dial's presence byte is a code of the record all the same.
 abbrev pub census_tests : StationRecord → ℕ → ℕ → Edges → List ℕ → ℤ → ℤ → List Test
 census_tests r kind direction e l first last =
-    test 20 (not (mark_valid r.dial_known)) ∷ (evaluate_tests (undialled r) kind direction e l ++ stretch_tests first last)
+    test refusal.StationCode (not (mark_valid r.dial_known)) ∷ (evaluate_tests (undialled r) kind direction e l ++ stretch_tests first last)
 
 abbrev pub counted : List ℕ → Census
-counted counts = record { refusal = Accepted; counts = counts }
+counted counts = record { refusal = Ok tt; counts = counts }
 
 -- a refusal's counts are noughts
 abbrev pub unless_refused : Checked → List ℕ → Census
-unless_refused Accepted counts = counted counts
-unless_refused (Refused n) counts = record { refusal = Refused n; counts = replicate 25 0 }
+unless_refused (Ok tt) counts = counted counts
+unless_refused (Err n) counts = record { refusal = Err n; counts = replicate 25 0 }
 
 -- `census_of`
 unfoldable pub census_of : StationRecord → ℕ → ℕ → Edges → List ℕ → ℤ → ℤ → Census

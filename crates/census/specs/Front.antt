@@ -1,12 +1,12 @@
 -- The answer by what the tests say, and what an accepted call knows of its image and its stretch.
-use Rattle.std.specs.Prelude.{◌≡◌, ℕ, not, List, [], ◌∷◌, ◌++◌, replicate, ℤ}
+use Rattle.std.specs.Prelude.{◌≡◌, ℕ, not, List, [], ◌∷◌, ◌++◌, replicate, ℤ, Ok, Err}
+use Rattle.codes.specs.declared.Refusal.TheVariants as refusal
+use Rattle.codes.specs.declared.Refusal.{Refusal}
+use Rattle.codes.specs.Refusal.{Checked, test, refusal_of}
 use Rattle.std.proofs.Math.Path.{sym}
 use Rattle.std.proofs.Common.{ap, ◌∙◌}
 use Rattle.codes.specs.Read.{kind_of, direction_of}
-use Rattle.codes.specs.Refusal.{test, refusal_of}
 use Rattle.codes.specs.Laws.{refusal_both}
-use Rattle.codes.specs.declared.Checked.{Checked}
-use Rattle.codes.specs.declared.Checked.TheVariants.{Accepted, Refused}
 use Rattle.codes.specs.declared.Policy.TheVariants.{Rules}
 use Rattle.codes.specs.declared.EmissionKind.{EmissionKind}
 use Rattle.codes.specs.declared.Direction.{Direction}
@@ -44,27 +44,27 @@ module _ (r : StationRecord) (kind direction : ℕ) (e : Edges) (l : List ℕ) (
   by : Checked → Census
   by x = unless_refused x (counts_in r kind direction e l first (dials_of first last))
 
-  pub census_refused : (n : ℕ) → refusal_of (census_tests r kind direction e l first last) ≡ Refused n
-      → record { refusal = Refused n; counts = replicate 25 0 } ≡ census_of r kind direction e l first last
+  pub census_refused : (n : Refusal) → refusal_of (census_tests r kind direction e l first last) ≡ Err n
+      → record { refusal = Err n; counts = replicate 25 0 } ≡ census_of r kind direction e l first last
   unfolding census_of by
   census_refused n q = sym (ap by q)
 
-  pub census_counted : refusal_of (census_tests r kind direction e l first last) ≡ Accepted
+  pub census_counted : refusal_of (census_tests r kind direction e l first last) ≡ Ok tt
       → counted (counts_in r kind direction e l first (dials_of first last)) ≡ census_of r kind direction e l first last
   unfolding census_of by
   census_counted q = sym (ap by q)
 
 module _ (r : StationRecord) (kind direction : ℕ) (e : Edges) (l : List ℕ) (first last : ℤ)
-    (accepted : refusal_of (census_tests r kind direction e l first last) ≡ Accepted) where
-  both : (refusal_of (evaluate_tests (undialled r) kind direction e l) ≡ Accepted) × (refusal_of (stretch_tests first last) ≡ Accepted)
+    (accepted : refusal_of (census_tests r kind direction e l first last) ≡ Ok tt) where
+  both : (refusal_of (evaluate_tests (undialled r) kind direction e l) ≡ Ok tt) × (refusal_of (stretch_tests first last) ≡ Ok tt)
   both =
       refusal_both (evaluate_tests (undialled r) kind direction e l) (stretch_tests first last)
-      (refusal_both (test 20 (not (mark_valid r.dial_known)) ∷ []) (evaluate_tests (undialled r) kind direction e l ++ stretch_tests first last) accepted).1
+      (refusal_both (test refusal.StationCode (not (mark_valid r.dial_known)) ∷ []) (evaluate_tests (undialled r) kind direction e l ++ stretch_tests first last) accepted).1
 
-  pub front_verdict : refusal_of (evaluate_tests (undialled r) kind direction e l) ≡ Accepted
+  pub front_verdict : refusal_of (evaluate_tests (undialled r) kind direction e l) ≡ Ok tt
   front_verdict = both.0
 
-  pub front_stretch : refusal_of (stretch_tests first last) ≡ Accepted
+  pub front_stretch : refusal_of (stretch_tests first last) ≡ Ok tt
   front_stretch = both.1
 
   pub front_whole : (situation_of r).policy ≡ Rules → Whole l

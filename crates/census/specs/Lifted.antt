@@ -1,14 +1,15 @@
 -- Signed numbers of 64 bits counted from the least, and the refusals of a stretch by these; tests taken in turn.
 use Rattle.std.specs.Prelude.{◌≡◌, ℕ, zero, suc, ◌+◌, ◌-◌, ◌<◌, ◌≤◌, Bool, true, false, cond, not, ◌||◌, ltb, List, [], ◌∷◌, ◌++◌, ℤ, pos, negsuc, ◌+ℤ◌, FitsSigned, ◌==◌, nat_le, nat_lt, unsigned_abs, refl}
+use Rattle.std.specs.Prelude.{Ok, Err}
+use Rattle.std.specs.Result.{result_and}
+use Rattle.codes.specs.declared.Refusal.TheVariants as refusal
+use Rattle.codes.specs.Refusal.{Checked, Test, test, refusal_of}
 use Rattle.std.proofs.Common.{sym, ap, ◌∙◌, arith, lt-ltb, le-ltb, le-leb, ne_eqb, ltb-false}
 use Rattle.std.proofs.Math.Decide.{dec_le, dec_lt}
 use Rattle.std.proofs.lemmas.Bool.{lt-leb, eqb-false}
 use Rattle.std.proofs.Math.IntN.{sub_ℕ}
 use Rattle.std.specs.Int.{w64}
-use Rattle.codes.specs.Refusal.{Test, test, refusal_of}
 use Rattle.codes.specs.Laws.{none_fails}
-use Rattle.codes.specs.declared.Checked.{Checked}
-use Rattle.codes.specs.declared.Checked.TheVariants.{Accepted, Refused}
 use Rattle.station.specs.Station.{mark_valid}
 use Rattle.census.specs.Census.{most, farthest, dials_by, dials_of, stretch_tests}
 
@@ -34,8 +35,12 @@ dials_from first last = cond (nat_lt last first) 0 (suc (last - first))
 -- ---- tests in turn
 
 abbrev pub in_turn : Checked → Checked → Checked
-in_turn (Refused n) next = Refused n
-in_turn Accepted next = next
+in_turn (Err n) next = Err n
+in_turn (Ok tt) next = next
+
+pub and_turn : (x y : Checked) → result_and x y ≡ in_turn x y
+and_turn (Ok tt) y = refl
+and_turn (Err n) y = refl
 
 pub in_turn_holds : (a b : List Test) → refusal_of (a ++ b) ≡ in_turn (refusal_of a) (refusal_of b)
 in_turn_holds [] b = refl
@@ -43,7 +48,7 @@ in_turn_holds (t ∷ ts) b = go t.fails (in_turn_holds ts b)
   where
     go :
         (f : Bool) → refusal_of (ts ++ b) ≡ in_turn (refusal_of ts) (refusal_of b)
-        → cond f (Refused t.number) (refusal_of (ts ++ b)) ≡ in_turn (cond f (Refused t.number) (refusal_of ts)) (refusal_of b)
+        → cond f (Err t.refusal) (refusal_of (ts ++ b)) ≡ in_turn (cond f (Err t.refusal) (refusal_of ts)) (refusal_of b)
     go true next = refl
     go false next = next
 
@@ -56,7 +61,7 @@ in_turns a b c x y z p q r =
     ∙ sym (in_turn_holds a (b ++ c) ∙ ap (in_turn (refusal_of a)) (in_turn_holds b c))
 
 abbrev pub marked : ℕ → Checked
-marked known = refusal_of (test 20 (not (mark_valid known)) ∷ [])
+marked known = refusal_of (test refusal.StationCode (not (mark_valid known)) ∷ [])
 
 -- ---- a stretch by its places
 
@@ -144,7 +149,7 @@ far_lifted (negsuc n) f = go (dec_lt farthest (suc n))
 module _ (first last : ℤ) (f : FitsSigned w64 first) (g : FitsSigned w64 last) where
   -- the two tests by the places
   abbrev by : Bool → Bool → Bool → Checked
-  by none low high = cond none (Refused 33) (cond (low || high) (Refused 34) Accepted)
+  by none low high = cond none (Err refusal.Stretch) (cond (low || high) (Err refusal.FarDial) (Ok tt))
 
   stretch_by : refusal_of (stretch_tests first last) ≡ by (no_stretch (lift first) (lift last)) (far_of (lift first)) (far_of (lift last))
   stretch_by =
@@ -152,22 +157,22 @@ module _ (first last : ℤ) (f : FitsSigned w64 first) (g : FitsSigned w64 last)
       ∙ ap (λ (t : Bool). by (no_stretch (lift first) (lift last)) t (nat_lt farthest (unsigned_abs last))) (far_lifted first f)
       ∙ ap (by (no_stretch (lift first) (lift last)) (far_of (lift first))) (far_lifted last g)
 
-  pub stretch_none : no_stretch (lift first) (lift last) ≡ true → Refused 33 ≡ refusal_of (stretch_tests first last)
+  pub stretch_none : no_stretch (lift first) (lift last) ≡ true → Err refusal.Stretch ≡ refusal_of (stretch_tests first last)
   stretch_none e = sym (stretch_by ∙ ap (λ (t : Bool). by t (far_of (lift first)) (far_of (lift last))) e)
 
   module _ (some : no_stretch (lift first) (lift last) ≡ false) where
-    pub stretch_low : far_of (lift first) ≡ true → Refused 34 ≡ refusal_of (stretch_tests first last)
+    pub stretch_low : far_of (lift first) ≡ true → Err refusal.FarDial ≡ refusal_of (stretch_tests first last)
     stretch_low e =
         sym (stretch_by ∙ ap (λ (t : Bool). by t (far_of (lift first)) (far_of (lift last))) some ∙ ap (λ (t : Bool). by false t (far_of (lift last))) e)
 
     module _ (near : far_of (lift first) ≡ false) where
-      pub stretch_high : far_of (lift last) ≡ true → Refused 34 ≡ refusal_of (stretch_tests first last)
+      pub stretch_high : far_of (lift last) ≡ true → Err refusal.FarDial ≡ refusal_of (stretch_tests first last)
       stretch_high e =
           sym
           (stretch_by ∙ ap (λ (t : Bool). by t (far_of (lift first)) (far_of (lift last))) some ∙ ap (λ (t : Bool). by false t (far_of (lift last))) near
           ∙ ap (by false false) e)
 
-      pub stretch_fits : far_of (lift last) ≡ false → Accepted ≡ refusal_of (stretch_tests first last)
+      pub stretch_fits : far_of (lift last) ≡ false → Ok tt ≡ refusal_of (stretch_tests first last)
       stretch_fits e =
           sym
           (stretch_by ∙ ap (λ (t : Bool). by t (far_of (lift first)) (far_of (lift last))) some ∙ ap (λ (t : Bool). by false t (far_of (lift last))) near
@@ -188,7 +193,7 @@ pub record Stretch (first last : ℤ) : Type 0 where
   pub low : unsigned_abs first ≤ farthest
   pub high : unsigned_abs last ≤ farthest
 
-pub stretch_accepted : (first last : ℤ) → refusal_of (stretch_tests first last) ≡ Accepted → Stretch first last
+pub stretch_accepted : (first last : ℤ) → refusal_of (stretch_tests first last) ≡ Ok tt → Stretch first last
 stretch_accepted first last e =
     let n = none_fails (stretch_tests first last) e in
     let a = or_parts (dials_of first last == 0) (nat_lt most (dials_of first last)) n.0 in

@@ -11,11 +11,11 @@ ghost use Rattle.layout.specs.Form.{Whole};
 ghost use Rattle.table.specs.Table.{table_of};
 ghost use Rattle.verdict.specs.Verdict.{evaluate_tests};
 ghost use Rattle.census.specs.Census.{farthest, most, undialled, dial_at, dials_of, code_at, counts_of, counted, stretch_tests, census_tests, census_of};
-ghost use Rattle.census.specs.Lifted.{lift, no_stretch, far_of, in_turn, marked};
+ghost use Rattle.census.specs.Lifted.{lift, no_stretch, far_of, marked};
 
-use codes::{Checked, Direction, EmissionKind};
+use codes::{Checked, Direction, EmissionKind, Refusal};
 use occupancy::Edges;
-use station::{Figure, Situation, StationRecord};
+use station::{Situation, StationRecord};
 
 // The most dials of a stretch.
 pub const MOST_DIALS: u64 = 1000000;
@@ -47,20 +47,14 @@ fn lifted(x: i64) -> u64
 fn no_stretch(first: u64, last: u64) -> bool
     ensures { result ≡ no_stretch first last }
 {
-    if last < first {
-        return true;
-    }
-    last - first >= MOST_DIALS
+    last < first || last - first >= MOST_DIALS
 }
 
 // Whether a place lies farther from nought than a dial may.
 fn far(at: u64) -> bool
     ensures { result ≡ far_of at }
 {
-    if at < NOUGHT - FARTHEST {
-        return true;
-    }
-    at > NOUGHT + FARTHEST
+    at < NOUGHT - FARTHEST || at > NOUGHT + FARTHEST
 }
 
 // Refusals 33 and 34.
@@ -70,25 +64,12 @@ fn stretch_refusals(first: i64, last: i64) -> Checked
     let from = lifted(first);
     let to = lifted(last);
     if no_stretch(from, to) {
-        return Checked::Refused(33);
+        return Err(Refusal::Stretch);
     }
-    if far(from) {
-        return Checked::Refused(34);
+    if far(from) || far(to) {
+        return Err(Refusal::FarDial);
     }
-    if far(to) {
-        return Checked::Refused(34);
-    }
-    Checked::Accepted
-}
-
-// The first of two refusals.
-fn in_turn(first: Checked, next: Checked) -> Checked
-    ensures { result ≡ in_turn first next }
-{
-    match first {
-        Checked::Refused(n) => Checked::Refused(n),
-        Checked::Accepted => next,
-    }
+    Ok(())
 }
 
 // The presence byte of the record's own dial is a code, whatever the dial.
@@ -96,12 +77,13 @@ fn mark_refusal(known: u8) -> Checked
     ensures { result ≡ marked known }
 {
     if known > 1 {
-        return Checked::Refused(20);
+        return Err(Refusal::StationCode);
     }
-    Checked::Accepted
+    Ok(())
 }
 
 // The record without its dial, which is not looked at.
+#[tactic(auto, unfolding(crate::specs::Census::dialled))]
 fn without_dial(r: StationRecord) -> StationRecord
     ensures { result ≡ undialled r }
 {
@@ -125,7 +107,7 @@ fn census_refusals(
     let mark = mark_refusal(r.dial_known);
     let front = verdict::evaluate_refusals(without_dial(r), kind, direction, e, image);
     let stretch = stretch_refusals(first, last);
-    in_turn(mark, in_turn(front, stretch))
+    mark.and(front.and(stretch))
 }
 
 // Dial k of a stretch.
@@ -137,6 +119,7 @@ fn dial_at(first: i64, k: u64) -> f64
 }
 
 // The code at a dial.
+#[tactic(auto, unfolding(crate::specs::Census::code_at))]
 fn code_at(
     image: &[u8],
     s: Situation,
@@ -149,10 +132,9 @@ fn code_at(
     ensures { result ≡ code_at (table_of image.now) s kind direction e hz }
 {
     let policy = s.policy;
-    let dial = Figure::Known(hz);
+    let dial = Some(hz);
     let b = barred::in_brief(image, s, policy, dial, kind, direction, e);
-    let code = b.code;
-    numbers::code_number(code)
+    numbers::code_number(b.code)
 }
 
 // Where the count of a code stands: code 1 first.
@@ -165,7 +147,7 @@ fn place(code: u8) -> usize
 
 // The dials of a stretch that is accepted.
 fn dials(first: i64, last: i64) -> u64
-    requires { refusal_of (stretch_tests first last) ≡ Checked.Accepted }
+    requires { refusal_of (stretch_tests first last) ≡ Ok tt }
     ensures { result ≡ dials_of first last }
 {
     (lifted(last) - lifted(first)) + 1
@@ -185,17 +167,15 @@ fn count_all(
     ensures { result ≡ counted (counts_of (λ k. code_at (table_of image.now) s kind direction e (dial_at first k)) count) }
 {
     let mut counts = [0u32; 25];
-    let mut k: u64 = 0;
-    while k < count {
+    for k in 0..count {
         let hz = dial_at(first, k);
         let code = code_at(image, s, kind, direction, e, hz);
         let at = place(code);
         let before = counts[at];
         counts[at] = before + 1;
-        k += 1;
     }
     Census {
-        refusal: Checked::Accepted,
+        refusal: Ok(()),
         counts,
     }
 }
@@ -213,22 +193,16 @@ pub fn census_of(
     ensures { result ≡ census_of r kind direction e image.now first last }
 {
     match census_refusals(r, kind, direction, e, image, first, last) {
-        Checked::Refused(n) => Census {
-            refusal: Checked::Refused(n),
+        Err(n) => Census {
+            refusal: Err(n),
             counts: [0u32; 25],
         },
-        Checked::Accepted => {
+        Ok(()) => {
             let s = station::situation_of(r);
             let count = dials(first, last);
-            count_all(
-                image,
-                s,
-                codes::kind_of(kind),
-                codes::direction_of(direction),
-                entry::edges_read(e),
-                first,
-                count,
-            )
+            let emission = EmissionKind::from(kind);
+            let way = Direction::from(direction);
+            count_all(image, s, emission, way, entry::edges_read(e), first, count)
         }
     }
 }

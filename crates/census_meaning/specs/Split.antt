@@ -1,12 +1,11 @@
 -- "A split stretch's counts add up to those of the whole."
-use Rattle.std.specs.Prelude.{ℕ, zero, suc, ◌+◌, ◌<◌, cond, List, [], ◌∷◌, ◌≡◌, refl, eqb, ℤ, pos, negsuc, neg_ℤ, ◌+ℤ◌, ◌-ℤ◌, nat_abs}
+use Rattle.std.specs.Prelude.{ℕ, zero, suc, ◌+◌, ◌<◌, cond, List, [], ◌∷◌, ◌≡◌, refl, eqb, ℤ, pos, negsuc, neg_ℤ, ◌+ℤ◌, ◌-ℤ◌, nat_abs, Ok}
 use Rattle.std.proofs.Common.{sym, ap, ◌∙◌, arith}
 use Rattle.std.specs.Float.{binary64}
 use Rattle.std.specs.Float.Ieee.{of_int}
 use Rattle.std.proofs.Math.IntN.{+ℤ_assoc, +ℤ_comm, +ℤ_invr, +ℤ_idl, pos-ne-negsuc}
 use Rattle.codes.specs.Read.{kind_of, direction_of}
 use Rattle.codes.specs.Refusal.{refusal_of}
-use Rattle.codes.specs.declared.Checked.TheVariants.{Accepted}
 use Rattle.occupancy.specs.declared.Edges.{Edges}
 use Rattle.station.specs.Station.{situation_of}
 use Rattle.station.specs.declared.StationRecord.{StationRecord}
@@ -129,9 +128,9 @@ module _ (r : StationRecord) (kind direction : ℕ) (e : Edges) (l : List ℕ) (
       (behind first m a)
 
   -- and of the calls' answers
-  pub census_split : refusal_of (census_tests r kind direction e l first m) ≡ Accepted
-      → refusal_of (census_tests r kind direction e l (m +ℤ pos 1) last) ≡ Accepted
-      → refusal_of (census_tests r kind direction e l first last) ≡ Accepted
+  pub census_split : refusal_of (census_tests r kind direction e l first m) ≡ Ok tt
+      → refusal_of (census_tests r kind direction e l (m +ℤ pos 1) last) ≡ Ok tt
+      → refusal_of (census_tests r kind direction e l first last) ≡ Ok tt
       → (census_of r kind direction e l first last).counts
       ≡ added (census_of r kind direction e l first m).counts (census_of r kind direction e l (m +ℤ pos 1) last).counts
   census_split a b c =

@@ -1,9 +1,8 @@
 -- "Their total is last − first + 1."
-use Rattle.std.specs.Prelude.{ℕ, zero, suc, ◌+◌, ◌<◌, ◌≤◌, Bool, cond, List, [], ◌∷◌, ◌≡◌, refl, eqb, ℤ, pos, negsuc, ◌+ℤ◌, ◌-ℤ◌}
+use Rattle.std.specs.Prelude.{ℕ, zero, suc, ◌+◌, ◌<◌, ◌≤◌, Bool, cond, List, [], ◌∷◌, ◌≡◌, refl, eqb, ℤ, pos, negsuc, ◌+ℤ◌, ◌-ℤ◌, Ok}
 use Rattle.std.proofs.Common.{sym, ap, ◌∙◌, arith, eq-eqb, ne_eqb}
 use Rattle.std.proofs.Math.Decide.{ℕ_discrete}
 use Rattle.codes.specs.Refusal.{refusal_of}
-use Rattle.codes.specs.declared.Checked.TheVariants.{Accepted}
 use Rattle.occupancy.specs.declared.Edges.{Edges}
 use Rattle.station.specs.declared.StationRecord.{StationRecord}
 use Rattle.census.specs.declared.Census.{Census}
@@ -63,7 +62,7 @@ total_is code (suc n) h =
     ∙ omega arith
 
 module _ (r : StationRecord) (kind direction : ℕ) (e : Edges) (l : List ℕ) (first last : ℤ)
-    (accepted : refusal_of (census_tests r kind direction e l first last) ≡ Accepted) where
+    (accepted : refusal_of (census_tests r kind direction e l first last) ≡ Ok tt) where
   pub census_dials : total (census_of r kind direction e l first last).counts ≡ dials_of first last
   census_dials =
       sym (ap (λ (c : Census). total c.counts) (census_counted r kind direction e l first last accepted))

@@ -1,15 +1,13 @@
 -- "each is the number of dials in that stretch whose code is that one": the code that a dial is counted under is the one that the call
 -- `evaluate` gives with that dial as the record's own.
-use Rattle.std.specs.Prelude.{ℕ, zero, suc, ◌+◌, ◌-◌, ◌<◌, ◌≤◌, Bool, true, cond, List, ◌≡◌, Float, ℤ, pos, negsuc, nat_abs, ◌+ℤ◌}
+use Rattle.std.specs.Prelude.{ℕ, zero, suc, ◌+◌, ◌-◌, ◌<◌, ◌≤◌, Bool, true, cond, List, ◌≡◌, Float, ℤ, pos, negsuc, nat_abs, ◌+ℤ◌, Option, Some, Ok}
+use Rattle.codes.specs.Refusal.{Checked, refusal_of}
 use Rattle.std.proofs.Math.Path.{refl}
 use Rattle.std.proofs.Common.{sym, ap, ◌∙◌, arith, lt-ltb, le-ltb}
 use Rattle.std.proofs.Math.Decide.{dec_lt}
 use Rattle.std.proofs.Math.IntN.{pos-ne-negsuc}
 use Rattle.figures.specs.Figure.{limit40, in_size, read_hz}
 use Rattle.codes.specs.Read.{kind_of, direction_of, policy_of}
-use Rattle.codes.specs.Refusal.{refusal_of}
-use Rattle.codes.specs.declared.Checked.{Checked}
-use Rattle.codes.specs.declared.Checked.TheVariants.{Accepted}
 use Rattle.codes.specs.declared.Policy.{Policy}
 use Rattle.codes.specs.declared.Policy.TheVariants.{Unset, NoProfile as NoneApply, Rules, Broken}
 use Rattle.codes.specs.declared.EmissionKind.{EmissionKind}
@@ -17,8 +15,6 @@ use Rattle.codes.specs.declared.Direction.{Direction}
 use Rattle.occupancy.specs.declared.Edges.{Edges}
 use Rattle.station.specs.Station.{codes_valid, figures_valid, situation_of}
 use Rattle.station.specs.declared.StationRecord.{StationRecord}
-use Rattle.station.specs.declared.Figure.{Figure}
-use Rattle.station.specs.declared.Figure.TheVariants.{Known}
 use Rattle.table.specs.Table.{Table, table_of}
 use Rattle.entry.specs.Entry.{edges_read}
 use Rattle.decision.specs.Number.{code_number}
@@ -40,7 +36,7 @@ module _ (r : StationRecord) (hz : Float) where
   tests_same kind direction e l h = rw h refl
 
   -- the dial of a record is not looked at where another is given
-  decide_same : (table : Table) (policy : Policy) (dial : Figure) (kind : EmissionKind) (direction : Direction) (e : Edges)
+  decide_same : (table : Table) (policy : Policy) (dial : Option Float) (kind : EmissionKind) (direction : Direction) (e : Edges)
       → decide_of table (situation_of (dialled 1 hz r)) policy dial kind direction e ≡ decide_of table (situation_of r) policy dial kind direction e
   unfolding situation_of dialled decide_of unruled_of under_rules_of ready_of case_of
   decide_same table Unset dial kind direction e = refl
@@ -50,17 +46,17 @@ module _ (r : StationRecord) (hz : Float) where
 
 -- the verdict of a record with a dial
 pub verdict_there : (r : StationRecord) (kind direction : ℕ) (e : Edges) (l : List ℕ) (hz : Float)
-    → refusal_of (evaluate_tests (undialled r) kind direction e l) ≡ Accepted → in_size limit40 hz ≡ true → read_hz hz ≡ hz
+    → refusal_of (evaluate_tests (undialled r) kind direction e l) ≡ Ok tt → in_size limit40 hz ≡ true → read_hz hz ≡ hz
     → code_number (evaluate_of (dialled 1 hz r) kind direction e l).code
     ≡ code_at (table_of l) (situation_of r) (kind_of kind) (direction_of direction) (edges_read e) hz
 unfolding evaluate_of code_at situation_of dialled
 verdict_there r kind direction e l hz a s q =
     let p = policy_of r.policy in
-    let d = decide_of (table_of l) (situation_of (dialled 1 hz r)) p (Known (read_hz hz)) (kind_of kind) (direction_of direction) (edges_read e) in
+    let d = decide_of (table_of l) (situation_of (dialled 1 hz r)) p (Some (read_hz hz)) (kind_of kind) (direction_of direction) (edges_read e) in
     ap (λ (x : Checked). code_number (unless_refused x d).code) (ap refusal_of (tests_same r hz kind direction e l s) ∙ a)
     ∙ ap (λ (x : Decision). code_number x.code)
-    (decide_same r hz (table_of l) p (Known (read_hz hz)) (kind_of kind) (direction_of direction) (edges_read e)
-    ∙ ap (λ (x : Float). decide_of (table_of l) (situation_of r) p (Known x) (kind_of kind) (direction_of direction) (edges_read e)) q)
+    (decide_same r hz (table_of l) p (Some (read_hz hz)) (kind_of kind) (direction_of direction) (edges_read e)
+    ∙ ap (λ (x : Float). decide_of (table_of l) (situation_of r) p (Some x) (kind_of kind) (direction_of direction) (edges_read e)) q)
 
 -- ---- every dial of a stretch lies between its ends
 
@@ -94,7 +90,7 @@ near (negsuc a) last n k f g h e = go (dec_lt k (suc a))
         omega (arith, t, m, g)
 
 module _ (r : StationRecord) (kind direction : ℕ) (e : Edges) (l : List ℕ) (first last : ℤ)
-    (accepted : refusal_of (census_tests r kind direction e l first last) ≡ Accepted) where
+    (accepted : refusal_of (census_tests r kind direction e l first last) ≡ Ok tt) where
   -- dial k is counted under the code of the verdict there
   pub verdict_counted : (k : ℕ) → k < dials_of first last
       → code_number (evaluate_of (dialled 1 (dial_at first k) r) kind direction e l).code

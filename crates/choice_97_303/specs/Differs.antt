@@ -1,7 +1,7 @@
 -- "Answers that change: blocked 24 becomes legal 25 or its warning, or too_wide; 24, legal or its warning, for a CW carrier on centre whose
 -- guarded range the channel doesn't hold becomes 25 or its warning, or too_wide." (document 02, 4) No other answer changes; and too_wide is
 -- met by data alone, never by the second change.
-use Rattle.std.specs.Prelude.{ℕ, Bool, cond, ◌&&◌, ◌⊎◌, ◌≡◌, eqb, Float}
+use Rattle.std.specs.Prelude.{ℕ, Bool, cond, ◌&&◌, ◌⊎◌, ◌≡◌, eqb, Float, Option, Some, None}
 use Rattle.std.proofs.Math.Bool.{true, false}
 use Rattle.std.proofs.lemmas.Bool.{false≢true}
 use Rattle.std.proofs.Common.{true≢false, sym, ◌∙◌}
@@ -15,27 +15,19 @@ use Rattle.codes.specs.declared.EmissionKind.{EmissionKind}
 use Rattle.codes.specs.declared.EmissionKind.TheVariants.{Data, Cw, Test, Nothing as NoEmission}
 use Rattle.profile.specs.Range.{holds_of, channel_range_of}
 use Rattle.scan.specs.First.{on_found}
-use Rattle.scan.specs.declared.Found.{Found}
-use Rattle.scan.specs.declared.Found.TheVariants.{At, Nothing}
 use Rattle.layout.specs.Layout.{bands, segments, channels, excluded}
 use Rattle.table.specs.Table.{Table}
 use Rattle.table.specs.Parts.{centre_of, channels_of, excluded_of, sixty_of}
 use Rattle.table.specs.declared.Channels.{Channels}
-use Rattle.table.specs.declared.ChannelBand.{ChannelBand}
-use Rattle.table.specs.declared.ChannelBand.TheVariants.{On, NoChannels}
 use Rattle.table.specs.declared.Segment.{Segment}
-use Rattle.table.specs.declared.SixtyEmissions.{SixtyEmissions}
-use Rattle.table.specs.declared.SixtyEmissions.TheVariants.{Allowed, AnyEmission}
 use Rattle.find.specs.Question.{first_in}
 use Rattle.find.specs.declared.Question.TheVariants.{Holds, OfBand, BandHolds, ChannelOverlaps}
 use Rattle.decision.specs.Decision.{simple_of, finish_of}
 use Rattle.decision.specs.Number.{§97-301}
-use Rattle.decision.specs.declared.BandNumber.TheVariants.{Band}
 use Rattle.decision.specs.declared.Decision.{Decision}
 use Rattle.decision.specs.declared.Verdict.{Verdict}
 use Rattle.decision.specs.declared.Verdict.TheVariants.{Legal, Warning, Blocked}
-use Rattle.decision.specs.declared.Code.TheVariants.{OutOfBand, AutomaticExcluded, TooWide, SixtyOffChannel, SixtyChannel}
-use Rattle.decision.specs.declared.Code.TheVariants.{SixtySegment}
+use Rattle.decision.specs.declared.Code.TheVariants.{OutOfBand, AutomaticExcluded, TooWide, SixtyOffChannel, SixtyChannel, SixtySegment}
 use Rattle.part97.specs.Part97.{band_at, segment_at, draft_of, draft_inside, some_privilege, general_limit, exceeds, channel_watts_of, segment_watts_of, is_data}
 use Rattle.part97.specs.Part97.{cw_on_channel, same_sideband, data_on_channel, on_channel, allowed_on_sixty, warned, sixty_channel, sixty_segment}
 use Rattle.part97.specs.Part97.{in_sixty_segment, sixty_overlap, sixty_place}
@@ -54,15 +46,15 @@ sent Blocked = false
 pub record Changed (table : Table) (c : Case) (old new : Decision) : Type 0 where
   pub ch : Channels
   pub channel : ℕ
-  pub overlaps : first_in table channels (ChannelOverlaps ch.width_hz c.guarded) ≡ At channel
+  pub overlaps : first_in table channels (ChannelOverlaps ch.width_hz c.guarded) ≡ Some channel
   pub not_held : holds_of (channel_range_of ch.width_hz (centre_of (table.at channels channel))) c.guarded ≡ false
   pub segment : ℕ
-  pub held : first_in table segments (BandHolds ch.band c.guarded) ≡ At segment
+  pub held : first_in table segments (BandHolds ch.band c.guarded) ≡ Some segment
   -- it was 24, and legal or a warning only for a CW carrier on centre
-  pub was : old.code ≡ SixtyChannel
+  pub was : old.code ≡ Some SixtyChannel
   pub was_allowed : sent old.verdict ≡ true → (c.kind ≡ Cw) × (cw_on_channel c ch (centre_of (table.at channels channel)) ≡ true)
   -- it is 25, legal or a warning, or data is too wide
-  pub is : ((new.code ≡ SixtySegment) × (sent new.verdict ≡ true)) ⊎ ((c.kind ≡ Data) × (new.code ≡ TooWide) × (new.verdict ≡ Blocked))
+  pub is : ((new.code ≡ Some SixtySegment) × (sent new.verdict ≡ true)) ⊎ ((c.kind ≡ Data) × (new.code ≡ Some TooWide) × (new.verdict ≡ Blocked))
 
 abbrev pub Differs : Table → Case → Decision → Decision → Type 0
 Differs table c old new = (new ≡ old) ⊎ Changed table c old new
@@ -77,11 +69,11 @@ module _ (table : Table) (c : Case) (ch : Channels) (centre : Float) where
       ch.rule (record { channel_power = exceeds c.power (channel_watts_of table); shared = true; segment_power = false }))
       (simple_of (draft_inside c ch.band (channel_range_of ch.width_hz centre) ch.rule) Blocked SixtyChannel ch.rule)
 
-  channel_24 : (sixty_channel table c ch centre).code ≡ SixtyChannel
+  channel_24 : (sixty_channel table c ch centre).code ≡ Some SixtyChannel
   unfolding sixty_channel allowed_on_sixty simple_of finish_of
   channel_24 = go (on_channel c ch centre c.kind)
     where
-      go : (b : Bool) → (on_it b).code ≡ SixtyChannel
+      go : (b : Bool) → (on_it b).code ≡ Some SixtyChannel
       go true = refl
       go false = refl
 
@@ -128,15 +120,15 @@ module _ (table : Table) (c : Case) (band : ℕ) (s : Segment) where
   data_only NoEmission b e = absurd (false≢true e)
 
   segment_25 :
-      (((sixty_segment table c band s).code ≡ SixtySegment) × (sent (sixty_segment table c band s).verdict ≡ true))
-      ⊎ ((c.kind ≡ Data) × ((sixty_segment table c band s).code ≡ TooWide) × ((sixty_segment table c band s).verdict ≡ Blocked))
+      (((sixty_segment table c band s).code ≡ Some SixtySegment) × (sent (sixty_segment table c band s).verdict ≡ true))
+      ⊎ ((c.kind ≡ Data) × ((sixty_segment table c band s).code ≡ Some TooWide) × ((sixty_segment table c band s).verdict ≡ Blocked))
   unfolding sixty_segment allowed_on_sixty simple_of finish_of
   segment_25 = go (is_data c.kind && wider c.width (general_limit table).max_bandwidth_hz) refl
     where
       go :
           (b : Bool) → (is_data c.kind && wider c.width (general_limit table).max_bandwidth_hz) ≡ b
-          → (((in_it b).code ≡ SixtySegment) × (sent (in_it b).verdict ≡ true))
-          ⊎ ((c.kind ≡ Data) × ((in_it b).code ≡ TooWide) × ((in_it b).verdict ≡ Blocked))
+          → (((in_it b).code ≡ Some SixtySegment) × (sent (in_it b).verdict ≡ true))
+          ⊎ ((c.kind ≡ Data) × ((in_it b).code ≡ Some TooWide) × ((in_it b).verdict ≡ Blocked))
       go true e = inr (data_only c.kind (wider c.width (general_limit table).max_bandwidth_hz) e, refl, refl)
       go false e = inl (refl, allowed_sent (exceeds c.power (segment_watts_of table)))
 
@@ -148,19 +140,19 @@ module _ (table : Table) (c : Case) where
   place_differs ch = go (first_in table channels (ChannelOverlaps ch.width_hz c.guarded)) refl
     where
       off : Decision
-      off = in_sixty_segment table c ch (simple_of (draft_of c (Band ch.band)) Blocked SixtyOffChannel ch.rule)
+      off = in_sixty_segment table c ch (simple_of (draft_of c (Some ch.band)) Blocked SixtyOffChannel ch.rule)
 
-      over : Float → Bool → Found → Decision
+      over : Float → Bool → Option ℕ → Decision
       over centre b f =
           cond b (sixty_channel table c ch centre) (on_found f (λ i. sixty_segment table c ch.band (segment_at table i)) (sixty_channel table c ch centre))
 
-      at : (i : ℕ) → first_in table channels (ChannelOverlaps ch.width_hz c.guarded) ≡ At i
+      at : (i : ℕ) → first_in table channels (ChannelOverlaps ch.width_hz c.guarded) ≡ Some i
           → (b : Bool) → holds_of (channel_range_of ch.width_hz (centre_of (table.at channels i))) c.guarded ≡ b
-          → (f : Found) → first_in table segments (BandHolds ch.band c.guarded) ≡ f
+          → (f : Option ℕ) → first_in table segments (BandHolds ch.band c.guarded) ≡ f
           → Differs table c (sixty_channel table c ch (centre_of (table.at channels i))) (over (centre_of (table.at channels i)) b f)
       at i o true h f g = inl refl
-      at i o false h Nothing g = inl refl
-      at i o false h (At k) g =
+      at i o false h None g = inl refl
+      at i o false h (Some k) g =
           inr
           (record {
             ch = ch;
@@ -176,14 +168,14 @@ module _ (table : Table) (c : Case) where
           })
 
       go :
-          (f : Found) → first_in table channels (ChannelOverlaps ch.width_hz c.guarded) ≡ f
+          (f : Option ℕ) → first_in table channels (ChannelOverlaps ch.width_hz c.guarded) ≡ f
           → Differs table c (on_found f (λ i. sixty_channel table c ch (centre_of (table.at channels i))) off)
           (on_found f
           (λ i.
           over (centre_of (table.at channels i)) (holds_of (channel_range_of ch.width_hz (centre_of (table.at channels i))) c.guarded)
           (first_in table segments (BandHolds ch.band c.guarded))) off)
-      go (At i) e = at i e _ refl _ refl
-      go Nothing e = inl refl
+      go (Some i) e = at i e _ refl _ refl
+      go None e = inl refl
 
   -- ---- what stands around it
 
@@ -191,10 +183,10 @@ module _ (table : Table) (c : Case) where
   on_test true d p = p
   on_test false d p = inl refl
 
-  emission_differs : (ch : Channels) (x : SixtyEmissions) → Differs table c (emission_before table c ch x) (sixty_emission table c ch x)
+  emission_differs : (ch : Channels) (x : Option (ℕ × ℕ)) → Differs table c (emission_before table c ch x) (sixty_emission table c ch x)
   unfolding emission_before sixty_emission
-  emission_differs ch (Allowed bits rule) = on_test (bit_of bits (kind_code c.kind)) _ (place_differs ch)
-  emission_differs ch AnyEmission = place_differs ch
+  emission_differs ch (Some (bits, rule)) = on_test (bit_of bits (kind_code c.kind)) _ (place_differs ch)
+  emission_differs ch None = place_differs ch
 
   kind_differs : (ch : Channels) (kind : EmissionKind) → Differs table c (kind_before table c ch kind) (sixty_kind table c ch kind)
   unfolding kind_before sixty_kind
@@ -207,10 +199,10 @@ module _ (table : Table) (c : Case) where
   unfolding sixty_before sixty
   sixty_differs ch = on_test (some_privilege table c c.air) _ (kind_differs ch c.kind)
 
-  on_band_differs : (band : ℕ) (x : ChannelBand) → Differs table c (on_band_before table c band x) (judge_on_band table c band x)
+  on_band_differs : (band : ℕ) (x : Option Channels) → Differs table c (on_band_before table c band x) (judge_on_band table c band x)
   unfolding on_band_before judge_on_band
-  on_band_differs band (On ch) = on_test (eqb ch.band band) _ (sixty_differs ch)
-  on_band_differs band NoChannels = inl refl
+  on_band_differs band (Some ch) = on_test (eqb ch.band band) _ (sixty_differs ch)
+  on_band_differs band None = inl refl
 
   in_band_differs : (band : ℕ) → Differs table c (in_band_before table c band) (judge_in_band table c band)
   unfolding in_band_before judge_in_band
@@ -218,12 +210,12 @@ module _ (table : Table) (c : Case) where
       go c.automatic (first_in table excluded (OfBand band)) (on_band_differs band (channels_of table.general))
     where
       go :
-          {old new : Decision} (a : Bool) (f : Found) → Differs table c old new
+          {old new : Decision} (a : Bool) (f : Option ℕ) → Differs table c old new
           → Differs table c
-          (cond a (on_found f (λ x. simple_of (draft_of c (Band band)) Blocked AutomaticExcluded (excluded_of (table.at excluded x)).rule) old) old)
-          (cond a (on_found f (λ x. simple_of (draft_of c (Band band)) Blocked AutomaticExcluded (excluded_of (table.at excluded x)).rule) new) new)
-      go true (At i) p = inl refl
-      go true Nothing p = p
+          (cond a (on_found f (λ x. simple_of (draft_of c (Some band)) Blocked AutomaticExcluded (excluded_of (table.at excluded x)).rule) old) old)
+          (cond a (on_found f (λ x. simple_of (draft_of c (Some band)) Blocked AutomaticExcluded (excluded_of (table.at excluded x)).rule) new) new)
+      go true (Some i) p = inl refl
+      go true None p = p
       go false f p = p
 
   -- Of every case under every table: the answer is the former one, or it changed as document 02 says.
@@ -232,9 +224,9 @@ module _ (table : Table) (c : Case) where
   judge_differs = go (first_in table bands (Holds c.guarded))
     where
       go :
-          (f : Found)
+          (f : Option ℕ)
           → Differs table c
           (on_found f (λ b. in_band_before table c (band_at table b).band) (simple_of (draft_of c (touching table c)) Blocked OutOfBand §97-301))
           (on_found f (λ b. judge_in_band table c (band_at table b).band) (simple_of (draft_of c (touching table c)) Blocked OutOfBand §97-301))
-      go (At b) = in_band_differs (band_at table b).band
-      go Nothing = inl refl
+      go (Some b) = in_band_differs (band_at table b).band
+      go None = inl refl

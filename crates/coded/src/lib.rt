@@ -42,8 +42,8 @@ fn coded_segment(r: Record) -> bool
     ensures { result ≡ coded_segment r }
 {
     r.flags <= 3
-        && (under(codes::bit0(r.flags), r.figure)
-            && (under(codes::bit1(r.flags), r.second_rule as u64)
+        && (under(codes::bit(r.flags, 0), r.figure)
+            && (under(codes::bit(r.flags, 1), r.second_rule as u64)
                 && (r.class == 0 && r.emissions == 0)))
 }
 
@@ -58,8 +58,8 @@ fn coded_privilege(r: Record) -> bool
 {
     r.class <= 4
         && (r.flags <= 3
-            && (bits_under(codes::bit0(r.flags), 15, r.emissions)
-                && (under(codes::bit1(r.flags), r.rule as u64)
+            && (bits_under(codes::bit(r.flags, 0), 15, r.emissions)
+                && (under(codes::bit(r.flags, 1), r.rule as u64)
                     && (r.figure == 0 && (r.band == 0 && r.second_rule == 0)))))
 }
 
@@ -79,7 +79,7 @@ fn coded_power(r: Record) -> bool
     ensures { result ≡ coded_power r }
 {
     r.flags <= 1
-        && (bits_under(codes::bit0(r.flags), 31, r.class)
+        && (bits_under(codes::bit(r.flags, 0), 31, r.class)
             && (r.band == 0 && (r.emissions == 0 && r.second_rule == 0)))
 }
 
@@ -108,8 +108,8 @@ pub fn coded_record(t: usize, r: Record) -> bool
 fn coded_elsewhere(g: General) -> bool
     ensures { result ≡ coded_elsewhere g }
 {
-    codes::bit0(g.flags)
-        || (g.elsewhere_limit == 0 && (g.elsewhere_rule == 0 && !codes::bit1(g.flags)))
+    codes::bit(g.flags, 0)
+        || (g.elsewhere_limit == 0 && (g.elsewhere_rule == 0 && !codes::bit(g.flags, 1)))
 }
 
 fn blank_channels(g: General, count: u16) -> bool
@@ -125,7 +125,7 @@ fn blank_channels(g: General, count: u16) -> bool
 fn coded_channels(g: General, count: u16) -> bool
     ensures { result ≡ coded_channels g count }
 {
-    if codes::bit2(g.flags) {
+    if codes::bit(g.flags, 2) {
         return g.sideband <= 1;
     }
     blank_channels(g, count)
@@ -134,7 +134,7 @@ fn coded_channels(g: General, count: u16) -> bool
 fn coded_sixty(g: General) -> bool
     ensures { result ≡ coded_sixty g }
 {
-    if codes::bit3(g.flags) {
+    if codes::bit(g.flags, 3) {
         return g.emissions <= 15;
     }
     g.emissions == 0 && g.emissions_rule == 0
@@ -143,7 +143,7 @@ fn coded_sixty(g: General) -> bool
 fn coded_plans(g: General, areas: u16, avoid: u16) -> bool
     ensures { result ≡ coded_plans g areas avoid }
 {
-    codes::bit4(g.flags) || (areas == 0 && avoid == 0)
+    codes::bit(g.flags, 4) || (areas == 0 && avoid == 0)
 }
 
 // The general block, with the counts of the channels' table and the two plan tables.

@@ -1,5 +1,8 @@
 -- From a number to its case. A number outside its term's values has its case too, the last: refusal 20 comes before it is read.
-use Rattle.std.specs.Prelude.{ℕ, Bool, ◌||◌, cond, leb, eqb}
+use Rattle.std.specs.Prelude.{ℕ, Bool, ◌||◌, cond, leb, eqb, Option, Some, None}
+use Rattle.codes.specs.declared.ControlMode.{ControlMode}
+use Rattle.codes.specs.declared.LicenseClass.{LicenseClass}
+use Rattle.codes.specs.declared.Sideband.{Sideband}
 use Rattle.codes.specs.declared.Policy.{Policy}
 use Rattle.codes.specs.declared.Policy.TheVariants.{Unset, NoProfile, Rules, Broken}
 use Rattle.codes.specs.declared.ControlMode.TheVariants.{Local, Remote, Automatic}
@@ -9,12 +12,6 @@ use Rattle.codes.specs.declared.EmissionKind.{EmissionKind}
 use Rattle.codes.specs.declared.EmissionKind.TheVariants.{Data, Cw, Test, Nothing}
 use Rattle.codes.specs.declared.Direction.{Direction}
 use Rattle.codes.specs.declared.Direction.TheVariants.{Originate, Respond, Operator, RespondToAutomatic}
-use Rattle.codes.specs.declared.Control.{Control}
-use Rattle.codes.specs.declared.Control.TheVariants.{ControlIs, NoControl}
-use Rattle.codes.specs.declared.License.{License}
-use Rattle.codes.specs.declared.License.TheVariants.{LicenseIs, NoLicense}
-use Rattle.codes.specs.declared.SidebandSet.{SidebandSet}
-use Rattle.codes.specs.declared.SidebandSet.TheVariants.{SidebandIs, NoSideband}
 
 -- which numbers are among a term's values; "255 for an absent control, licence or sideband"
 abbrev pub policy_valid : ℕ → Bool
@@ -38,22 +35,22 @@ direction_valid n = leb n 3
 abbrev pub policy_of : ℕ → Policy
 policy_of n = cond (eqb n 0) Unset (cond (eqb n 1) NoProfile (cond (eqb n 2) Rules Broken))
 
-abbrev pub control_of : ℕ → Control
+abbrev pub control_of : ℕ → Option ControlMode
 control_of n =
-    cond (eqb n 0) (ControlIs Local)
-    (cond (eqb n 1) (ControlIs Remote)
-    (cond (eqb n 2) (ControlIs Automatic) NoControl))
+    cond (eqb n 0) (Some Local)
+    (cond (eqb n 1) (Some Remote)
+    (cond (eqb n 2) (Some Automatic) None))
 
-abbrev pub license_of : ℕ → License
+abbrev pub license_of : ℕ → Option LicenseClass
 license_of n =
-    cond (eqb n 0) (LicenseIs Novice)
-    (cond (eqb n 1) (LicenseIs Technician)
-    (cond (eqb n 2) (LicenseIs General)
-    (cond (eqb n 3) (LicenseIs Advanced)
-    (cond (eqb n 4) (LicenseIs Extra) NoLicense))))
+    cond (eqb n 0) (Some Novice)
+    (cond (eqb n 1) (Some Technician)
+    (cond (eqb n 2) (Some General)
+    (cond (eqb n 3) (Some Advanced)
+    (cond (eqb n 4) (Some Extra) None))))
 
-abbrev pub sideband_of : ℕ → SidebandSet
-sideband_of n = cond (eqb n 0) (SidebandIs Usb) (cond (eqb n 1) (SidebandIs Lsb) NoSideband)
+abbrev pub sideband_of : ℕ → Option Sideband
+sideband_of n = cond (eqb n 0) (Some Usb) (cond (eqb n 1) (Some Lsb) None)
 
 abbrev pub kind_of : ℕ → EmissionKind
 kind_of n = cond (eqb n 0) Data (cond (eqb n 1) Cw (cond (eqb n 2) Test Nothing))

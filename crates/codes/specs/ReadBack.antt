@@ -1,5 +1,5 @@
 -- Reading back: the number of a case reads as that case.
-use Rattle.std.specs.Prelude.{◌≡◌, refl}
+use Rattle.std.specs.Prelude.{◌≡◌, refl, Some, None}
 use Rattle.codes.specs.declared.Policy.{Policy}
 use Rattle.codes.specs.declared.Policy.TheVariants.{Unset, NoProfile, Rules, Broken}
 use Rattle.codes.specs.declared.ControlMode.{ControlMode}
@@ -12,9 +12,6 @@ use Rattle.codes.specs.declared.EmissionKind.{EmissionKind}
 use Rattle.codes.specs.declared.EmissionKind.TheVariants.{Data, Cw, Test, Nothing}
 use Rattle.codes.specs.declared.Direction.{Direction}
 use Rattle.codes.specs.declared.Direction.TheVariants.{Originate, Respond, Operator, RespondToAutomatic}
-use Rattle.codes.specs.declared.Control.TheVariants.{ControlIs, NoControl}
-use Rattle.codes.specs.declared.License.TheVariants.{LicenseIs, NoLicense}
-use Rattle.codes.specs.declared.SidebandSet.TheVariants.{SidebandIs, NoSideband}
 use Rattle.codes.specs.Code.{policy_code, control_code, class_code, sideband_code, kind_code, direction_code}
 use Rattle.codes.specs.Read.{policy_of, control_of, license_of, sideband_of, kind_of, direction_of}
 
@@ -25,19 +22,19 @@ policy_read NoProfile = refl
 policy_read Rules = refl
 policy_read Broken = refl
 
-pub control_read : (m : ControlMode) → control_of (control_code m) ≡ ControlIs m
+pub control_read : (m : ControlMode) → control_of (control_code m) ≡ Some m
 control_read Local = refl
 control_read Remote = refl
 control_read Automatic = refl
 
-pub license_read : (l : LicenseClass) → license_of (class_code l) ≡ LicenseIs l
+pub license_read : (l : LicenseClass) → license_of (class_code l) ≡ Some l
 license_read Novice = refl
 license_read Technician = refl
 license_read General = refl
 license_read Advanced = refl
 license_read Extra = refl
 
-pub sideband_read : (s : Sideband) → sideband_of (sideband_code s) ≡ SidebandIs s
+pub sideband_read : (s : Sideband) → sideband_of (sideband_code s) ≡ Some s
 sideband_read Usb = refl
 sideband_read Lsb = refl
 
@@ -54,5 +51,5 @@ direction_read Operator = refl
 direction_read RespondToAutomatic = refl
 
 -- and 255 is absent
-pub absent_read : (control_of 255 ≡ NoControl) × (license_of 255 ≡ NoLicense) × (sideband_of 255 ≡ NoSideband)
+pub absent_read : (control_of 255 ≡ None) × (license_of 255 ≡ None) × (sideband_of 255 ≡ None)
 absent_read = (refl, refl, refl)

@@ -4,9 +4,10 @@
 
 ghost use Rattle.std.specs.Prelude.{◌≡◌, ◌<◌};
 ghost use Rattle.codes.specs.Code.{class_code, kind_code, bit_of};
+ghost use Rattle.codes.specs.Refusal.{number_of};
 ghost use Rattle.codes.specs.Read.{policy_of, control_of, license_of, sideband_of, kind_of, direction_valid, direction_of};
 
-#[derive(Clone, Copy)]
+#[derive(Clone, Copy, PartialEq, Eq)]
 pub enum Policy {
     Unset,
     NoProfile,
@@ -15,7 +16,7 @@ pub enum Policy {
 }
 
 // How the station is controlled (47 CFR 97.3(a)(6), (39); 97.109).
-#[derive(Clone, Copy)]
+#[derive(Clone, Copy, PartialEq, Eq)]
 pub enum ControlMode {
     Local,
     Remote,
@@ -23,7 +24,7 @@ pub enum ControlMode {
 }
 
 // The operator's licence class (97.301).
-#[derive(Clone, Copy)]
+#[derive(Clone, Copy, PartialEq, Eq)]
 pub enum LicenseClass {
     Novice,
     Technician,
@@ -33,14 +34,14 @@ pub enum LicenseClass {
 }
 
 // The sideband that the radio transmits the modem's audio on.
-#[derive(Clone, Copy)]
+#[derive(Clone, Copy, PartialEq, Eq)]
 pub enum Sideband {
     Usb,
     Lsb,
 }
 
 // What a transmission is, as the rules class it (97.3(c)).
-#[derive(Clone, Copy)]
+#[derive(Clone, Copy, PartialEq, Eq)]
 pub enum EmissionKind {
     Data,
     Cw,
@@ -50,7 +51,7 @@ pub enum EmissionKind {
 
 // Who began the exchange: 97.221(c)(1)'s question. Whoever answers another station answers one under local or remote control, or
 // one under automatic control.
-#[derive(Clone, Copy)]
+#[derive(Clone, Copy, PartialEq, Eq)]
 pub enum Direction {
     Originate,
     Respond,
@@ -58,85 +59,135 @@ pub enum Direction {
     RespondToAutomatic,
 }
 
-// A control, a licence class and a sideband that may be absent.
-#[derive(Clone, Copy)]
-pub enum Control {
-    ControlIs(ControlMode),
-    NoControl,
+// Why an input is refused. The number of each is the papers'.
+#[derive(Clone, Copy, PartialEq, Eq)]
+pub enum Refusal {
+    // An image under 92 or over 65,552 bytes, or too many records for one.
+    ImageLength = 1,
+    // It does not end with the letters.
+    Letters = 2,
+    // Another edition.
+    Edition = 3,
+    // A count over 256, or a length or distance that disagrees.
+    Counts = 4,
+    // A coded byte outside its values, or an unused one that is not zero.
+    CodedByte = 5,
+    // A figure of the image not finite, above 2^40 in size, or negative zero.
+    ImageFigure = 6,
+    // A band with low not below high; then such a segment, automatic segment and privilege.
+    BandRange = 7,
+    SegmentRange = 8,
+    AutomaticRange = 9,
+    PrivilegeRange = 10,
+    // No band or no data segment.
+    EmptyTable = 11,
+    // A data segment in no band.
+    SegmentOutside = 12,
+    // A data segment's own limit, and the general one, not above 0.
+    OwnLimit = 13,
+    GeneralLimit = 14,
+    // An edge not finite or above 2^40 in size.
+    SignalEdge = 15,
+    // Rungs or floor bytes that are not what a ceiling takes.
+    Rungs = 16,
+    // A code outside its values.
+    StationCode = 20,
+    // A figure asked, not finite or above its limit.
+    StationFigure = 21,
+    // Rules, and no image.
+    NoImage = 22,
+    // Too little room: for rows or an image, a text, a report.
+    Rows = 23,
+    Text = 24,
+    Report = 25,
+    // Watts that edition 1 cannot hold.
+    Watts = 26,
+    // A list of amendments not in forties, or one that names no record.
+    Amendments = 27,
+    // Too little room for the amended image.
+    AmendedRoom = 28,
+    // A swap while one waits.
+    SecondSwap = 29,
+    // A step with no walk open, or an opening while one is.
+    Walk = 30,
+    // A start below the one before.
+    Starts = 31,
+    // Runs of unequal length, or too long.
+    Runs = 32,
+    // No dial from first to last, or too many.
+    Stretch = 33,
+    // A first or last dial above 2^40 in size.
+    FarDial = 34,
 }
 
-#[derive(Clone, Copy)]
-pub enum License {
-    LicenseIs(LicenseClass),
-    NoLicense,
-}
+// What a check says of its input: accepted, or the first refusal.
+pub type Checked = Result<(), Refusal>;
 
-#[derive(Clone, Copy)]
-pub enum SidebandSet {
-    SidebandIs(Sideband),
-    NoSideband,
-}
+impl From<Refusal> for u8 {
+    ghost from_gives = { λ r n. n ≡ number_of r };
 
-// What a check says of its input: accepted, or the number of the first refusal.
-#[derive(Clone, Copy)]
-pub enum Checked {
-    Accepted,
-    Refused(u8),
-}
-
-pub fn policy_of(code: u8) -> Policy
-    ensures { result ≡ policy_of code }
-{
-    match code {
-        0 => Policy::Unset,
-        1 => Policy::NoProfile,
-        2 => Policy::Rules,
-        _ => Policy::Broken,
+    fn from(r: Refusal) -> u8 {
+        r as u8
     }
 }
 
-pub fn control_of(code: u8) -> Control
+impl From<u8> for Policy {
+    ghost from_gives = { λ code x. x ≡ policy_of code };
+
+    fn from(code: u8) -> Policy {
+        match code {
+            0 => Policy::Unset,
+            1 => Policy::NoProfile,
+            2 => Policy::Rules,
+            _ => Policy::Broken,
+        }
+    }
+}
+
+pub fn control_of(code: u8) -> Option<ControlMode>
     ensures { result ≡ control_of code }
 {
     match code {
-        0 => Control::ControlIs(ControlMode::Local),
-        1 => Control::ControlIs(ControlMode::Remote),
-        2 => Control::ControlIs(ControlMode::Automatic),
-        _ => Control::NoControl,
+        0 => Some(ControlMode::Local),
+        1 => Some(ControlMode::Remote),
+        2 => Some(ControlMode::Automatic),
+        _ => None,
     }
 }
 
-pub fn license_of(code: u8) -> License
+pub fn license_of(code: u8) -> Option<LicenseClass>
     ensures { result ≡ license_of code }
 {
     match code {
-        0 => License::LicenseIs(LicenseClass::Novice),
-        1 => License::LicenseIs(LicenseClass::Technician),
-        2 => License::LicenseIs(LicenseClass::General),
-        3 => License::LicenseIs(LicenseClass::Advanced),
-        4 => License::LicenseIs(LicenseClass::Extra),
-        _ => License::NoLicense,
+        0 => Some(LicenseClass::Novice),
+        1 => Some(LicenseClass::Technician),
+        2 => Some(LicenseClass::General),
+        3 => Some(LicenseClass::Advanced),
+        4 => Some(LicenseClass::Extra),
+        _ => None,
     }
 }
 
-pub fn sideband_of(code: u8) -> SidebandSet
+pub fn sideband_of(code: u8) -> Option<Sideband>
     ensures { result ≡ sideband_of code }
 {
     match code {
-        0 => SidebandSet::SidebandIs(Sideband::Usb),
-        1 => SidebandSet::SidebandIs(Sideband::Lsb),
-        _ => SidebandSet::NoSideband,
+        0 => Some(Sideband::Usb),
+        1 => Some(Sideband::Lsb),
+        _ => None,
     }
 }
 
-pub fn kind_of(code: u8) -> EmissionKind
-    ensures { result ≡ kind_of code }
-{
-    match code {
-        0 => EmissionKind::Data,
-        1 => EmissionKind::Cw,
-        2 => EmissionKind::Test,
-        _ => EmissionKind::Nothing,
+impl From<u8> for EmissionKind {
+    ghost from_gives = { λ code x. x ≡ kind_of code };
+
+    fn from(code: u8) -> EmissionKind {
+        match code {
+            0 => EmissionKind::Data,
+            1 => EmissionKind::Cw,
+            2 => EmissionKind::Test,
+            _ => EmissionKind::Nothing,
+        }
     }
 }
 
@@ -147,94 +198,55 @@ pub fn direction_valid(code: u8) -> bool
     code <= 3
 }
 
-pub fn direction_of(code: u8) -> Direction
-    ensures { result ≡ direction_of code }
-{
-    match code {
-        0 => Direction::Originate,
-        1 => Direction::Respond,
-        2 => Direction::Operator,
-        _ => Direction::RespondToAutomatic,
+impl From<u8> for Direction {
+    ghost from_gives = { λ code x. x ≡ direction_of code };
+
+    fn from(code: u8) -> Direction {
+        match code {
+            0 => Direction::Originate,
+            1 => Direction::Respond,
+            2 => Direction::Operator,
+            _ => Direction::RespondToAutomatic,
+        }
     }
 }
 
 // The number of a licence class.
-pub fn class_code(class: LicenseClass) -> u8
-    ensures { result ≡ class_code class }
-{
-    match class {
-        LicenseClass::Novice => 0,
-        LicenseClass::Technician => 1,
-        LicenseClass::General => 2,
-        LicenseClass::Advanced => 3,
-        LicenseClass::Extra => 4,
+impl From<LicenseClass> for u8 {
+    ghost from_gives = { λ class n. n ≡ class_code class };
+
+    fn from(class: LicenseClass) -> u8 {
+        class as u8
     }
 }
 
 // The number of a kind of emission, which is that of its bit.
-pub fn kind_code(kind: EmissionKind) -> u8
-    ensures { result ≡ kind_code kind }
-{
-    match kind {
-        EmissionKind::Data => 0,
-        EmissionKind::Cw => 1,
-        EmissionKind::Test => 2,
-        EmissionKind::Nothing => 3,
+impl From<EmissionKind> for u8 {
+    ghost from_gives = { λ kind n. n ≡ kind_code kind };
+
+    fn from(kind: EmissionKind) -> u8 {
+        kind as u8
     }
 }
 
-// The bits of a byte, one function each.
-pub fn bit0(bits: u8) -> bool
-    ensures { result ≡ bit_of bits 0 }
+// Bit n of a byte.
+pub fn bit(bits: u8, n: u8) -> bool
+    requires { n < 8 }
+    ensures { result ≡ bit_of bits n }
 {
-    bits / 1 % 2 == 1
-}
-
-pub fn bit1(bits: u8) -> bool
-    ensures { result ≡ bit_of bits 1 }
-{
-    bits / 2 % 2 == 1
-}
-
-pub fn bit2(bits: u8) -> bool
-    ensures { result ≡ bit_of bits 2 }
-{
-    bits / 4 % 2 == 1
-}
-
-pub fn bit3(bits: u8) -> bool
-    ensures { result ≡ bit_of bits 3 }
-{
-    bits / 8 % 2 == 1
-}
-
-pub fn bit4(bits: u8) -> bool
-    ensures { result ≡ bit_of bits 4 }
-{
-    bits / 16 % 2 == 1
+    (bits >> n) % 2 == 1
 }
 
 // Whether a set of emissions, by its bits, has a kind.
 pub fn has_kind(bits: u8, kind: EmissionKind) -> bool
     ensures { result ≡ bit_of bits (kind_code kind) }
 {
-    match kind {
-        EmissionKind::Data => bit0(bits),
-        EmissionKind::Cw => bit1(bits),
-        EmissionKind::Test => bit2(bits),
-        EmissionKind::Nothing => bit3(bits),
-    }
+    bit(bits, kind.into())
 }
 
 // Whether a set of licence classes, by its bits, has a class.
 pub fn has_class(bits: u8, class: LicenseClass) -> bool
     ensures { result ≡ bit_of bits (class_code class) }
 {
-    match class {
-        LicenseClass::Novice => bit0(bits),
-        LicenseClass::Technician => bit1(bits),
-        LicenseClass::General => bit2(bits),
-        LicenseClass::Advanced => bit3(bits),
-        LicenseClass::Extra => bit4(bits),
-    }
+    bit(bits, class.into())
 }

@@ -1,19 +1,18 @@
 -- Laws of the converters: how their tests stand to the image check's, and that what is put is the other edition's image.
-use Rattle.std.specs.Prelude.{ℕ, ◌+◌, ◌-◌, ◌≤◌, Bool, true, not, List, [], ◌++◌, ◌≡◌, refl, eqb, ltb, drop}
+use Rattle.std.specs.Prelude.{ℕ, ◌+◌, ◌-◌, ◌≤◌, Bool, true, not, List, ◌++◌, ◌≡◌, refl, eqb, drop, Ok, Err}
+use Rattle.codes.specs.declared.Refusal.TheVariants as refusal
+use Rattle.codes.specs.Refusal.{Checked, refusal_of}
 use Rattle.std.proofs.Math.Bool.{false, cond}
-use Rattle.std.proofs.Common.{true≢false, append_assoc, append-nil, ◌∙◌, le_refl, eq-eqb, eqb-true, length-drop, take-append-drop, drop_of_length-le, drop-drop}
-use Rattle.std.proofs.lemmas.Bool.{false≢true, not-false}
+use Rattle.std.proofs.Common.{true≢false, append_assoc, ◌∙◌, eq-eqb, eqb-true, length-drop, drop-drop}
+use Rattle.std.proofs.lemmas.Bool.{not-false}
 use Rattle.std.proofs.Math.Path.{sym, ap}
 use native.Mathlib.Omega.{arith}
 use Rattle.std.proofs.Math.ListN.{length, take, length-append}
 use Rattle.std.proofs.lemmas.List.Edits.{sets, sets-eq}
-use Rattle.std.proofs.Math.Seq.{paste, length-take-le}
-use Rattle.codes.specs.Refusal.{refusal_of}
+use Rattle.std.proofs.Math.Seq.{length-take-le}
+use borrow.Rule.Slice.PartMut.{put_mid}
 use Rattle.codes.specs.Laws.{none_fails}
-use Rattle.codes.specs.declared.Checked.{Checked}
-use Rattle.codes.specs.declared.Checked.TheVariants.{Accepted, Refused}
-use Rattle.layout.specs.Layout.{general_size, watts_size, trailer_size, edition_of, trailer_of, tables_from}
-use Rattle.layout.specs.Layout.{fixed_channel_watts, fixed_segment_watts}
+use Rattle.layout.specs.Layout.{general_size, watts_size, trailer_size, edition_of, trailer_of, tables_from, fixed_channel_watts, fixed_segment_watts}
 use Rattle.layout.specs.Form.{size_wrong, letters_wrong, edition_wrong, counts_wrong, form_tests, Whole}
 use Rattle.table.specs.Table.{table_of}
 use Rattle.image.specs.Check.{content_tests, check_of}
@@ -26,12 +25,13 @@ use Rattle.convert.specs.Convert.{from_tests, moved_of, raised_of, lowered_of}
 
 -- a refusal that comes before the edition is looked at
 abbrev pub early : Checked → Bool
-early (Refused n) = ltb n 3
-early Accepted = false
+early (Err refusal.ImageLength) = true
+early (Err refusal.Letters) = true
+early _ = false
 
 module _ (l : List ℕ) where
   abbrev formed : Bool → Bool → Bool → Bool → Checked
-  formed s w e c = cond s (Refused 1) (cond w (Refused 2) (cond e (Refused 3) (cond c (Refused 4) Accepted)))
+  formed s w e c = cond s (Err refusal.ImageLength) (cond w (Err refusal.Letters) (cond e (Err refusal.Edition) (cond c (Err refusal.Counts) (Ok tt))))
 
   -- past size and letters
   pub late : early (refusal_of (form_tests l)) ≡ false → (size_wrong l ≡ false) × (letters_wrong l ≡ false)
@@ -42,27 +42,13 @@ module _ (l : List ℕ) where
       go false true e c p = absurd (true≢false p)
       go false false e c p = (refl, refl)
 
-  pub from_early : (edition : ℕ) → early (refusal_of (form_tests l)) ≡ true → refusal_of (form_tests l) ≡ refusal_of (from_tests edition l)
-  from_early edition p = go (size_wrong l) (letters_wrong l) (edition_wrong l) (counts_wrong l) _ p
-    where
-      go :
-          (s w e c : Bool) (x : Checked) → early (formed s w e c) ≡ true → formed s w e c ≡ cond s (Refused 1) (cond w (Refused 2) x)
-      go true w e c x p = refl
-      go false true e c x p = refl
-      go false false true c x p = absurd (false≢true p)
-      go false false false true x p = absurd (false≢true p)
-      go false false false false x p = absurd (false≢true p)
-
   module _ (edition : ℕ) (size : size_wrong l ≡ false) (lettered : letters_wrong l ≡ false) where
     abbrev tested : Bool → Bool → Bool → Checked
     tested s w e =
-        cond s (Refused 1) (cond w (Refused 2) (cond e (Refused 3) (cond (counts_wrong l) (Refused 4) (refusal_of (content_tests (table_of l))))))
+        cond s (Err refusal.ImageLength) (cond w (Err refusal.Letters) (cond e (Err refusal.Edition) (cond (counts_wrong l) (Err refusal.Counts) (refusal_of (content_tests (table_of l))))))
 
     past : (e : Bool) → tested (size_wrong l) (letters_wrong l) e ≡ tested false false e
     past e = ap (λ (s : Bool). tested s (letters_wrong l) e) size ∙ ap (λ (w : Bool). tested false w e) lettered
-
-    pub from_other : eqb (edition_of l) edition ≡ false → Refused 3 ≡ refusal_of (from_tests edition l)
-    from_other h = sym (past (not (eqb (edition_of l) edition)) ∙ ap (λ (b : Bool). tested false false (not b)) h)
 
     pub from_same : neither_edition edition ≡ false → edition_of l ≡ edition → check_of l ≡ refusal_of (from_tests edition l)
     unfolding check_of
@@ -73,41 +59,26 @@ module _ (l : List ℕ) where
 
   -- Not refused: an accepted image of that edition.
   pub from_accepted :
-      (edition : ℕ) → neither_edition edition ≡ false → refusal_of (from_tests edition l) ≡ Accepted → (check_of l ≡ Accepted) × (edition_of l ≡ edition)
+      (edition : ℕ) → neither_edition edition ≡ false → refusal_of (from_tests edition l) ≡ Ok tt → (check_of l ≡ Ok tt) × (edition_of l ≡ edition)
   from_accepted edition n e =
       let none = none_fails (from_tests edition l) e in
       let h : edition_of l ≡ edition = eqb-true _ _ (not-false _ none.1.1.0) in
       (from_same edition none.0 none.1.0 n h ∙ e, h)
 
-  pub from_whole : (edition : ℕ) → neither_edition edition ≡ false → refusal_of (from_tests edition l) ≡ Accepted → Whole l
+  pub from_whole : (edition : ℕ) → neither_edition edition ≡ false → refusal_of (from_tests edition l) ≡ Ok tt → Whole l
   from_whole edition n e = accepted_whole l (from_accepted edition n e).0
 
 -- ---- a part of an image, copied
 
-take_whole : (l : List ℕ) (n : ℕ) → length l ≤ n → take n l ≡ l
-take_whole l n h = sym (append-nil (take n l)) ∙ ap (λ (m : List ℕ). take n l ++ m) (sym (drop_of_length-le l h)) ∙ take-append-drop n l
-
 pub part_put :
-    (out image : List ℕ) (to from count : ℕ) → to + count ≤ length out → from + count ≤ length image
-    → take to out ++ (paste (take (length out - to) (drop to out)) 0 (take (length image - from) (drop from image)) count
-    ++ drop (length out - to) (drop to out))
-    ≡ sets out to (take count (drop from image))
-part_put out image to from count h k =
-    let part = take count (drop from image) in
-    let a : take (length out - to) (drop to out) ≡ drop to out = take_whole (drop to out) (length out - to) (rw (length-drop to out) (le_refl _)) in
-    let b : take (length image - from) (drop from image) ≡ drop from image =
-    take_whole (drop from image) (length image - from) (rw (length-drop from image) (le_refl _)) in
-    let e : drop (length out - to) (drop to out) ≡ [] = drop_of_length-le (drop to out) {i = length out - to} (rw (length-drop to out) (le_refl _)) in
-    let z : 0 + count ≡ count = omega arith in
-    let v : length part ≡ count = length-take-le count (drop from image) (rw (length-drop from image) (omega arith)) in
-    rw a
-    (rw b
-    (rw e
-    (rw z
-    (ap (λ (m : List ℕ). take to out ++ m) (append-nil (part ++ drop count (drop to out)))
-    ∙ ap (λ (m : List ℕ). take to out ++ (part ++ m)) (drop-drop count to out)
-    ∙ sym (append_assoc (take to out) part (drop (to + count) out))
-    ∙ sym (sets-eq part out to (omega arith) ∙ ap (λ (i : ℕ). take to out ++ part ++ drop (to + i) out) v)))))
+    (out image part : List ℕ) (to from count : ℕ) → to + count ≤ length out → from + count ≤ length image
+    → part ≡ take (from + count - from) (drop from image)
+    → put_mid to (to + count - to) out part ≡ sets out to (take count (drop from image))
+part_put out image part to from count h k e =
+    let t : to + count - to ≡ count = omega arith in
+    let f : from + count - from ≡ count = omega arith in
+    let v : length (take count (drop from image)) ≡ count = length-take-le count (drop from image) (rw (length-drop from image) (omega arith)) in
+    rw t (rw e (rw f (rw (sets-eq (take count (drop from image)) out to (omega arith)) (rw v (rw (drop-drop count to out) (sym (append_assoc (take to out) (take count (drop from image)) (drop (to + count) out))))))))
 
 -- ---- the raised image
 

@@ -6,23 +6,19 @@ ghost use Rattle.std.proofs.lemmas.List.Edits.{sets};
 ghost use Rattle.codes.specs.Refusal.{refusal_of};
 ghost use Rattle.layout.specs.Layout.{edition_of};
 ghost use Rattle.layout.specs.Form.{Whole};
-ghost use Rattle.layout.specs.declared.General.{General};
 ghost use Rattle.given.specs.Tests.{neither_edition};
 ghost use Rattle.writer.specs.Write.{room_test, Left};
 ghost use Rattle.convert.specs.Convert.{from_tests, other_watts, lower_tests, raised_of, lowered_of, Raised, Lowered};
 ghost use Rattle.convert.specs.Laws.{early};
 
-use codes::Checked;
-use writer::ImageAnswer;
+use codes::{Checked, Refusal};
+use layout::General;
 
 // Whether a refusal comes before the edition is looked at.
 fn is_early(c: Checked) -> bool
     ensures { result ≡ early c }
 {
-    match c {
-        Checked::Refused(n) => n < 3,
-        Checked::Accepted => false,
-    }
+    matches!(c, Err(Refusal::ImageLength | Refusal::Letters))
 }
 
 // The refusals 1 to 14 of an image that must be of one edition.
@@ -35,32 +31,27 @@ fn refusal(s: &[u8], edition: u16) -> Checked
         return form;
     }
     if layout::edition_of(s) != edition {
-        return Checked::Refused(3);
+        return Err(Refusal::Edition);
     }
     image::check(s)
 }
 
 // Whether the watts are others than those of edition 1.
-fn other_watts(channel: u64, segment: u64) -> bool
-    ensures { (g : General) → channel ≡ g.channel_watts → segment ≡ g.segment_watts → result ≡ other_watts g }
+fn other_watts(g: General) -> bool
+    ensures { result ≡ other_watts g }
 {
-    channel != layout::CHANNEL_WATTS || segment != layout::SEGMENT_WATTS
+    g.channel_watts != layout::CHANNEL_WATTS || g.segment_watts != layout::SEGMENT_WATTS
 }
 
 // The same with 26, which an image that is to be lowered can meet.
 fn lower_refusal(s: &[u8]) -> Checked
     ensures { result ≡ refusal_of (lower_tests s.now) }
 {
-    match refusal(s, layout::SECOND_EDITION) {
-        Checked::Refused(n) => Checked::Refused(n),
-        Checked::Accepted => {
-            let g = layout::general_of(s);
-            if other_watts(g.channel_watts, g.segment_watts) {
-                return Checked::Refused(26);
-            }
-            Checked::Accepted
-        }
+    refusal(s, layout::SECOND_EDITION)?;
+    if other_watts(layout::general_of(s)) {
+        return Err(Refusal::Watts);
     }
+    Ok(())
 }
 
 // Bytes of an image, from one place on, to another place of the output.
@@ -68,18 +59,18 @@ pub fn put_part(out: &mut [u8], to: usize, image: &[u8], from: usize, count: usi
     requires { (to + count ≤ length out.old) × (from + count ≤ length image.now) }
     ensures { out.new ≡ sets out.old to (take count (drop from image.now)) }
 {
-    byte_writes::copy(&mut out[to..], &image[from..], count);
+    out[to..to + count].copy_from_slice(&image[from..from + count]);
 }
 
 // The raised image, where it fits.
-fn put_raised(image: &[u8], out: &mut [u8]) -> ImageAnswer
+fn put_raised(image: &[u8], out: &mut [u8]) -> Result<u32, Refusal>
     requires { (Whole image.now) × (edition_of image.now ≡ 1) }
     ensures { Left (refusal_of (room_test (raised_of image.now) out.old)) (raised_of image.now)
         out.old out.new result }
 {
     let length = image.len() + layout::WATTS_SIZE;
     if out.len() < length {
-        return ImageAnswer::Refused(23);
+        return Err(Refusal::Rows);
     }
     let trailer = image.len() - layout::TRAILER_SIZE;
     put_part(out, 0, image, 0, layout::GENERAL_SIZE);
@@ -97,18 +88,18 @@ fn put_raised(image: &[u8], out: &mut [u8]) -> ImageAnswer
         (trailer + layout::WATTS_SIZE) as u32,
         layout::SECOND_EDITION,
     );
-    ImageAnswer::Length(length as u32)
+    Ok(length as u32)
 }
 
 // The lowered image, where it fits.
-fn put_lowered(image: &[u8], out: &mut [u8]) -> ImageAnswer
+fn put_lowered(image: &[u8], out: &mut [u8]) -> Result<u32, Refusal>
     requires { (Whole image.now) × (edition_of image.now ≡ 2) }
     ensures { Left (refusal_of (room_test (lowered_of image.now) out.old)) (lowered_of image.now)
         out.old out.new result }
 {
     let length = image.len() - layout::WATTS_SIZE;
     if out.len() < length {
-        return ImageAnswer::Refused(23);
+        return Err(Refusal::Rows);
     }
     let trailer = image.len() - layout::TRAILER_SIZE;
     let from = layout::GENERAL_SIZE + layout::WATTS_SIZE;
@@ -120,25 +111,21 @@ fn put_lowered(image: &[u8], out: &mut [u8]) -> ImageAnswer
         (trailer - layout::WATTS_SIZE) as u32,
         layout::FIRST_EDITION,
     );
-    ImageAnswer::Length(length as u32)
+    Ok(length as u32)
 }
 
 // Writes edition 2 of an image of edition 1.
-pub fn raise(image: &[u8], out: &mut [u8]) -> ImageAnswer
+pub fn raise(image: &[u8], out: &mut [u8]) -> Result<u32, Refusal>
     ensures { Raised image.now out.old out.new result }
 {
-    match refusal(image, layout::FIRST_EDITION) {
-        Checked::Refused(n) => ImageAnswer::Refused(n),
-        Checked::Accepted => put_raised(image, out),
-    }
+    refusal(image, layout::FIRST_EDITION)?;
+    put_raised(image, out)
 }
 
 // Writes edition 1 of an image of edition 2 whose watts are those of edition 1.
-pub fn lower(image: &[u8], out: &mut [u8]) -> ImageAnswer
+pub fn lower(image: &[u8], out: &mut [u8]) -> Result<u32, Refusal>
     ensures { Lowered image.now out.old out.new result }
 {
-    match lower_refusal(image) {
-        Checked::Refused(n) => ImageAnswer::Refused(n),
-        Checked::Accepted => put_lowered(image, out),
-    }
+    lower_refusal(image)?;
+    put_lowered(image, out)
 }

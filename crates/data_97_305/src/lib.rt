@@ -9,36 +9,30 @@ ghost use Rattle.layout.specs.Form.{Whole};
 ghost use Rattle.table.specs.Table.{table_of};
 ghost use Rattle.find.specs.Question.{first_in};
 ghost use Rattle.find.specs.declared.Question.TheVariants.{Holds};
-ghost use Rattle.decision.specs.declared.BandNumber.TheVariants.{Band};
-ghost use Rattle.decision.specs.declared.Code.TheVariants.{TooWide};
-ghost use Rattle.decision.specs.declared.Verdict.TheVariants.{Blocked};
 ghost use Rattle.part97.specs.Part97.{outside_segments, inside_segment, judge_data};
-ghost use Rattle.part97.specs.Finding.{on_band, concluded};
+ghost use Rattle.part97.specs.Finding.{concluded};
 
 use codes::EmissionKind;
-use decision::{BandNumber, Code, MaybeRange, Verdict};
-use find::Pick;
+use decision::{Code, Verdict};
 use layout::General;
-use part97::{Case, Finding, Nearest, Privileged};
-use profile::DataLimit;
+use part97::{Case, Finding, Privileged};
 use table::Segment;
 
 // No data segment holds the guarded signal: the nearest one says how far it lies outside.
+#[tactic(auto, using(part97::specs::Laws::nearest_below, part97::specs::Finding::on_band_holds, part97::specs::Finding::beyond_segment_holds), unfolding(part97::specs::Part97::outside_segments))]
 fn outside_segments(s: &[u8], c: Case, band: u8) -> Finding
     requires { Whole s.now }
     ensures { concluded (table_of s.now) c result ≡ outside_segments (table_of s.now) c band }
 {
-    let air = c.air;
     match overshoot_97_305::nearest_segment(s, c) {
-        Nearest::Near(i, _) => {
-            let g = table::segment_of(table::record_of(s, layout::SEGMENTS, i));
-            let range = g.range;
-            let overshoot = overshoot_97_305::overshoot_of(range, air);
-            findings::beyond_segment(band, range, g.rule, overshoot)
+        Some((i, _)) => {
+            let segment = table::segment_of(table::record_of(s, layout::SEGMENTS, i));
+            let overshoot = overshoot_97_305::overshoot_of(segment.range, c.air);
+            findings::beyond_segment(band, segment.range, segment.rule, Some(overshoot))
         }
-        Nearest::NoneNear => {
+        None => {
             findings::on_band(
-                BandNumber::Band(band),
+                Some(band),
                 Verdict::Blocked,
                 Code::NoDataHere,
                 decision::RULE_97_305C,
@@ -48,84 +42,50 @@ fn outside_segments(s: &[u8], c: Case, band: u8) -> Finding
 }
 
 // Inside a data segment: the operator's privileges, then automatic control.
+#[tactic(auto, using(part97::specs::Finding::in_segment_holds, part97::specs::Finding::lawful_in_holds), unfolding(part97::specs::Part97::inside_segment))]
 fn inside_segment(s: &[u8], g: General, c: Case, band: u8, segment: Segment) -> Finding
     requires { (Whole s.now) × (g ≡ general_of s.now) }
     ensures { concluded (table_of s.now) c result ≡ inside_segment (table_of s.now) c band segment }
 {
     let range = segment.range;
-    let air = c.air;
+    let rule = segment.rule;
     match privileges_97_301::privileged(s, c, EmissionKind::Data) {
         Privileged::Granted => {
             if c.automatic {
-                return automatic_data_97_221::automatic_data(s, g, c, band, range, segment.rule);
+                automatic_data_97_221::automatic_data(s, g, c, band, range, rule)
+            } else {
+                findings::lawful_in(band, range, rule, None, c.air, Code::Permitted, rule)
             }
-            findings::lawful_in(
-                band,
-                range,
-                segment.rule,
-                MaybeRange::NoRange,
-                air,
-                Code::Permitted,
-                segment.rule,
-            )
         }
         Privileged::Forbidden => {
-            findings::in_segment(
-                band,
-                range,
-                segment.rule,
-                Code::Privilege,
-                decision::RULE_97_307F9,
-            )
+            findings::in_segment(band, range, rule, Code::Privilege, decision::RULE_97_307F9)
         }
         Privileged::Unheld => {
-            findings::in_segment(
-                band,
-                range,
-                segment.rule,
-                Code::Privilege,
-                decision::RULE_97_301,
-            )
+            findings::in_segment(band, range, rule, Code::Privilege, decision::RULE_97_301)
         }
     }
 }
 
-// Too wide, by a limit.
-fn too_wide(band: u8, limit: DataLimit) -> Finding
-    ensures { result ≡ on_band (Band band) Blocked TooWide limit.rule }
-{
-    findings::on_band(
-        BandNumber::Band(band),
-        Verdict::Blocked,
-        Code::TooWide,
-        limit.rule,
-    )
-}
-
 // By the first data segment that holds the guarded range; too wide comes before "no segment".
+#[tactic(auto, using(part97::specs::Finding::on_band_holds), unfolding(part97::specs::Part97::judge_data, find::specs::Question::pick_in))]
 pub fn judge_data(s: &[u8], g: General, c: Case, band: u8) -> Finding
     requires { (Whole s.now) × (g ≡ general_of s.now) }
     ensures { concluded (table_of s.now) c result
         ≡ judge_data (table_of s.now) c band (first_in (table_of s.now) segments (Holds c.guarded)) }
 {
-    let guarded = c.guarded;
     let general = table::data_of(g);
-    match find::pick_holding(s, layout::SEGMENTS, guarded) {
-        Pick::Picked(_, r) => {
-            let segment = table::segment_of(r);
-            let own = segment.own;
-            let second = segment.second;
-            let limit = profile::data_limit(own, second, general);
-            if limit.max_bandwidth_hz < c.width {
-                return too_wide(band, limit);
-            }
-            inside_segment(s, g, c, band, segment)
-        }
-        Pick::Missing => {
-            if general.max_bandwidth_hz < c.width {
-                return too_wide(band, general);
-            }
-            outside_segments(s, c, band)
-        }
+    let found = find::pick_holding(s, layout::SEGMENTS, c.guarded).map(|(_, r)| table::segment_of(
+        r,
+    ));
+    let limit = match found {
+        Some(segment) => profile::data_limit(segment.own, segment.second, general),
+        None => general,
+    };
+    if limit.max_bandwidth_hz < c.width {
+        return findings::on_band(Some(band), Verdict::Blocked, Code::TooWide, limit.rule);
+    }
+    match found {
+        Some(segment) => inside_segment(s, g, c, band, segment),
+        None => outside_segments(s, c, band),
     }
 }

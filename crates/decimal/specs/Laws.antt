@@ -1,19 +1,17 @@
 -- What a double's bits say of its exact value, and the roundings by it.
-use Rattle.std.specs.Prelude.{◌≡◌, ℕ, zero, suc, ◌+◌, ◌-◌, ◌*◌, ◌/◌, ◌%◌, ◌^◌, ◌<◌, ◌≤◌, Bool, true, false, cond, not, T, pos, ◌==◌, ◌≢◌, nat_le, to_bits, refl, Float}
+use Rattle.std.specs.Prelude.{◌≡◌, ℕ, zero, suc, ◌+◌, ◌-◌, ◌*◌, ◌/◌, ◌%◌, ◌^◌, ◌<◌, ◌≤◌, Bool, true, false, cond, not, T, pos, ◌==◌, nat_le, to_bits, refl, Float}
 use Prim.Native.Nat.{compare, Ordering}
-use Rattle.std.proofs.Common.{sym, ap, ◌∙◌, subst, le_trans, le_of_eq, mul-le-mul_right, mul-le-mul_left, mul_right_comm, mul_assoc, mul_comm, mul_left_comm, le_of_mul-le-mul_right, mod-lt, mod-eq_of_lt, add-mul, lt_irrefl, le_of_lt, lt_of_le_of_lt, div-mul-le_self, one-mul, add-one, arith, le→leb, eqb→eq, pow-add, pow_pos, pow_mono}
-use Rattle.std.proofs.Math.Nat.{eq_of_mul-eq-mul_right, div-eq_of_lt, pow-succ'}
+use Rattle.std.proofs.Common.{sym, ap, ◌∙◌, subst, le_trans, le_of_eq, mul-le-mul_right, mul_right_comm, mul_assoc, mul_comm, mul_left_comm, le_of_mul-le-mul_right, mod-lt, mod-eq_of_lt, add-mul, lt_irrefl, le_of_lt, lt_of_le_of_lt, div-mul-le_self, arith, le→leb, eqb→eq, pow-add, pow_pos, pow_mono}
+use Rattle.std.proofs.Math.Nat.{eq_of_mul-eq-mul_right, div-eq_of_lt}
 use Rattle.std.proofs.Math.Decide.{dec_le}
-use Rattle.std.proofs.Math.Arith.{lt→nleb, lt_of_le-ne}
-use Rattle.std.proofs.Math.Dec.{is_le, compare_is_eq, eqb_refl}
-use Rattle.std.proofs.Math.Pow.{split}
+use Rattle.std.proofs.Math.Dec.{is_le, compare_is_eq}
 use Rattle.std.specs.Float.{nan, inf, fin, binary64}
-use Rattle.std.specs.Float.Ieee.{fits, up, down, hid, top, ones, odd, of_fields, of_bits, of_int, nearest, is_nan}
+use Rattle.std.specs.Float.Ieee.{fits, up, down, neg, hid, top, ones, odd, of_fields, of_bits, of_int, nearest, is_nan}
 use Rattle.std.specs.Float.Ieee.Bits.{of_bits-to_bits}
 use Rattle.std.specs.Float.Ieee.Exact.{HasValue, odd_sign}
 use Rattle.std.specs.Float.Ieee.Fits.{down_pos}
 use Rattle.std.specs.Float.Ieee.Nearest.{closest, closest_same, div_same}
-use Rattle.decimal.specs.Decimal.{decimal_of, sign_of, half_up, signed, round_of}
+use Rattle.decimal.specs.Decimal.{decimal_of, sign_of, half_up, signed, round_of, decimal_rounded}
 use Rattle.decimal.specs.Within.{Within}
 
 -- ---- a value as a fraction
@@ -99,14 +97,15 @@ more_field s (suc g) t x e z h w = go (suc g == ones binary64) (t == 0) e
           },
         )
 
-pub parted_low : (x : Float) → T (fits binary64 x) → to_bits binary64 x % top binary64 / hid binary64 ≡ 0
+pub parted_low : (x : Float) → fits binary64 x ≡ true → to_bits binary64 x % top binary64 / hid binary64 ≡ 0
     → Parted x (nat_le (top binary64) (to_bits binary64 x)) (to_bits binary64 x % hid binary64) 1074
-parted_low x h z = zero_field _ _ _ x (by_fields x h) z (mod-lt (to_bits binary64 x) {m = hid binary64} (pow_pos 52))
+parted_low x h z = zero_field _ _ _ x (by_fields x (subst T (sym h) tt)) z (mod-lt (to_bits binary64 x) {m = hid binary64} (pow_pos 52))
 
-pub parted_high : (x : Float) → T (fits binary64 x) → Within 43 x → 0 < to_bits binary64 x % top binary64 / hid binary64
+pub parted_high : (x : Float) → fits binary64 x ≡ true → Within 43 x → 0 < to_bits binary64 x % top binary64 / hid binary64
     → (to_bits binary64 x % top binary64 / hid binary64 ≤ 1075)
     × Parted x (nat_le (top binary64) (to_bits binary64 x)) (2 ^ 52 + to_bits binary64 x % hid binary64) (1075 - to_bits binary64 x % top binary64 / hid binary64)
-parted_high x h w z = more_field _ _ _ x (by_fields x h) z (mod-lt (to_bits binary64 x) {m = hid binary64} (pow_pos 52)) w
+parted_high x h w z =
+    more_field _ _ _ x (by_fields x (subst T (sym h) tt)) z (mod-lt (to_bits binary64 x) {m = hid binary64} (pow_pos 52)) w
 
 -- ---- the roundings, by any fraction that is the value
 
@@ -151,6 +150,18 @@ round_by (fin t m e) s d c p v =
     (div_same (2 * d + c) (2 * c) (2 * (m * up e) + down e) (2 * down e) a b (doubled d c (m * up e) (down e) q))
     ∙ ap (λ (z : Bool). signed z (of_int binary64 (pos (half_up (m * up e) (down e))))) (sym v.0)
 
+-- ---- the roundings, by the parts
+
+pub parted_rounded : (units : ℕ) (x : Float) (s : Bool) (d n : ℕ) → Parted x s d n
+    → record { negative = s; count = closest (d * units) (2 ^ n) } ≡ decimal_rounded units x
+parted_rounded units x s d n p = rw (sign_by x s d (2 ^ n) p.value) (rw (decimal_by units x s d (2 ^ n) (pow_pos n) p.value))
+
+pub parted_less : (x : Float) (s : Bool) (d n : ℕ) → Parted x s d n → s ≡ true → neg (of_int binary64 (pos (half_up d (2 ^ n)))) ≡ round_of x
+parted_less x s d n p e = rw (sym (round_by x s d (2 ^ n) (pow_pos n) p.value)) (rw e)
+
+pub parted_plus : (x : Float) (s : Bool) (d n : ℕ) → Parted x s d n → s ≡ false → of_int binary64 (pos (half_up d (2 ^ n))) ≡ round_of x
+parted_plus x s d n p e = rw (sym (round_by x s d (2 ^ n) (pow_pos n) p.value)) (rw e)
+
 -- ---- the nearest whole number, by how twice the remainder compares
 
 below : (a b : ℕ) → a < b → compare a b ≡ Ordering.lt
@@ -161,30 +172,8 @@ below a b h = go (compare a b) (le→leb a b (le_of_lt h)) (λ t. lt_irrefl b (s
     go Ordering.eq l n = absurd (n tt)
     go Ordering.gt l n = absurd l
 
-level : (a b : ℕ) → a ≡ b → compare a b ≡ Ordering.eq
-level a b e = go (compare a b) (subst (λ (n : ℕ). T (a == n)) e (eqb_refl a))
-  where
-    go : (o : Ordering) → T (compare_is_eq o) → o ≡ Ordering.eq
-    go Ordering.lt t = absurd t
-    go Ordering.eq t = refl
-    go Ordering.gt t = absurd t
-
-above : (a b : ℕ) → b < a → compare a b ≡ Ordering.gt
-above a b h = go (compare a b) (lt→nleb a b h)
-  where
-    go : (o : Ordering) → T (not (is_le o)) → o ≡ Ordering.gt
-    go Ordering.lt t = absurd t
-    go Ordering.eq t = absurd t
-    go Ordering.gt t = refl
-
 pub closest_down : (n c : ℕ) → n % c * 2 < c → n / c ≡ closest n c
 closest_down n c h = sym (ap (nearest (n / c)) (below (n % c * 2) c h))
-
-pub closest_tie : (n c : ℕ) → n % c * 2 ≡ c → n / c + n / c % 2 ≡ closest n c
-closest_tie n c h = sym (ap (nearest (n / c)) (level (n % c * 2) c h))
-
-pub closest_up : (n c : ℕ) → c < n % c * 2 → n / c + 1 ≡ closest n c
-closest_up n c h = add-one (n / c) ∙ sym (ap (nearest (n / c)) (above (n % c * 2) c h))
 
 -- far below a half
 pub closest_nought : (n shift : ℕ) → n < 2 ^ 63 → 63 < shift → 0 ≡ closest n (2 ^ shift)
@@ -210,57 +199,6 @@ no_nan (fin s m e) w = tt
 
 -- ---- the same by shifts of 64 bits
 
-module _ (n s : ℕ) (h : n < 2 ^ 63) (k : s ≤ 63) where
-  -- the whole part, moved back
-  pub moved_back : n / 2 ^ s * 2 ^ s % 18446744073709551616 ≡ n / 2 ^ s * 2 ^ s
-  moved_back = mod-eq_of_lt (lt_of_le_of_lt (div-mul-le_self n (2 ^ s)) (omega (arith, h)))
-
-  pub fits_back : n / 2 ^ s * 2 ^ s % 18446744073709551616 ≤ n
-  fits_back = le_trans (le_of_eq moved_back) (div-mul-le_self n (2 ^ s))
-
-  left_over : n - n / 2 ^ s * 2 ^ s % 18446744073709551616 ≡ n % 2 ^ s
-  left_over = let p = split n s in let q = moved_back in omega (arith, p, q)
-
-  unit : 1 * 2 ^ s % 18446744073709551616 ≡ 2 ^ s
-  unit =
-      let p : 2 ^ s ≤ 2 ^ 63 = pow_mono k in
-      ap (λ (m : ℕ). m % 18446744073709551616) (one-mul (2 ^ s)) ∙ mod-eq_of_lt (omega (arith, p))
-
-  pub shifted_down :
-      (n - n / 2 ^ s * 2 ^ s % 18446744073709551616) * 2 < 1 * 2 ^ s % 18446744073709551616
-      → n / 2 ^ s ≡ closest n (2 ^ s)
-  shifted_down t = closest_down n (2 ^ s) (rw (left_over, unit) at t)
-
-  pub shifted_tie :
-      (n - n / 2 ^ s * 2 ^ s % 18446744073709551616) * 2 ≡ 1 * 2 ^ s % 18446744073709551616
-      → n / 2 ^ s + n / 2 ^ s % 2 ≡ closest n (2 ^ s)
-  shifted_tie t = closest_tie n (2 ^ s) (rw (left_over, unit) at t)
-
-  pub shifted_up :
-      1 * 2 ^ s % 18446744073709551616 ≤ (n - n / 2 ^ s * 2 ^ s % 18446744073709551616) * 2
-      → ((n - n / 2 ^ s * 2 ^ s % 18446744073709551616) * 2 ≢ 1 * 2 ^ s % 18446744073709551616)
-      → n / 2 ^ s + 1 ≡ closest n (2 ^ s)
-  shifted_up t u = closest_up n (2 ^ s) (rw (left_over, unit) at (lt_of_le-ne t (λ e. u (sym e))))
-
--- halves up
-pub shifted_half_up : (n s : ℕ) → n < 2 ^ 53 → s ≤ 62 → (2 * n + 1 * 2 ^ s % 18446744073709551616) / 2 ^ (s + 1) ≡ half_up n (2 ^ s)
-shifted_half_up n s h k =
-    let p : 2 ^ s ≤ 2 ^ 62 = pow_mono k in
-    let q : 1 * 2 ^ s % 18446744073709551616 ≡ 2 ^ s =
-    ap (λ (m : ℕ). m % 18446744073709551616) (one-mul (2 ^ s)) ∙ mod-eq_of_lt (omega (arith, p)) in
-    let r : 2 ^ (s + 1) ≡ 2 * 2 ^ s = ap (λ (m : ℕ). 2 ^ m) (add-one s) ∙ pow-succ' 2 s in
-    rw q (rw r)
-
-pub half_up_fits : (n s : ℕ) → n < 2 ^ 53 → s ≤ 62 → 2 * n + 1 * 2 ^ s % 18446744073709551616 < 18446744073709551616
-half_up_fits n s h k =
-    let p : 2 ^ s ≤ 2 ^ 62 = pow_mono k in
-    let q : 1 * 2 ^ s % 18446744073709551616 ≡ 2 ^ s =
-    ap (λ (m : ℕ). m % 18446744073709551616) (one-mul (2 ^ s)) ∙ mod-eq_of_lt (omega (arith, p)) in
-    omega (arith, h, p, q)
-
--- ---- 53 digits times at most 1,000
-
-pub times_fits : (d units : ℕ) → d < 2 ^ 53 → units ≤ 1000 → d * units < 2 ^ 63
-times_fits d units h k =
-    let p : d * units ≤ d * 1000 = mul-le-mul_left d k in
-    omega (arith, h, p)
+-- the whole part, moved back
+pub moved_back : (n s : ℕ) → n < 2 ^ 63 → s ≤ 63 → n / 2 ^ s * 2 ^ s % 18446744073709551616 ≡ n / 2 ^ s * 2 ^ s
+moved_back n s h k = mod-eq_of_lt (lt_of_le_of_lt (div-mul-le_self n (2 ^ s)) (omega (arith, h)))

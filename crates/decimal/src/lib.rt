@@ -24,6 +24,7 @@ pub struct Decimal {
 }
 
 // The parts of a figure, by its bits.
+#[tactic(auto, using(crate::specs::Laws::no_nan, crate::specs::Laws::parted_low, crate::specs::Laws::parted_high))]
 pub fn parts_of(x: f64) -> Parts
     requires { Within 43 x }
     ensures { Parted x result.negative result.digits result.shift }
@@ -34,19 +35,20 @@ pub fn parts_of(x: f64) -> Parts
     let negative = bits >= 0x8000_0000_0000_0000;
     if field == 0 {
         return Parts {
-            negative: negative,
+            negative,
             digits: part,
             shift: 1074,
         };
     }
     Parts {
-        negative: negative,
+        negative,
         digits: 0x10_0000_0000_0000 + part,
         shift: 1075 - field,
     }
 }
 
 // n / 2^shift, to the nearest whole number, halves to even.
+#[tactic(auto, using(crate::specs::Laws::closest_nought))]
 fn nearest(n: u64, shift: u64) -> u64
     requires { n < 2 ^ 63 }
     ensures { result ≡ closest n (2 ^ shift) }
@@ -67,6 +69,7 @@ fn nearest(n: u64, shift: u64) -> u64
 }
 
 // n / 2^shift, to the nearest whole number, halves up.
+#[tactic(auto, using(crate::specs::Laws::half_up_nought))]
 fn half_up(n: u64, shift: u64) -> u64
     requires { n < 2 ^ 53 }
     ensures { result ≡ half_up n (2 ^ shift) }
@@ -78,16 +81,14 @@ fn half_up(n: u64, shift: u64) -> u64
 }
 
 // A rounded figure keeps the sign of the figure, also where nothing is left of it.
-fn with_sign(sign: bool, count: u64) -> Decimal
-    ensures { result ≡ record { negative = sign; count = count } }
+fn with_sign(negative: bool, count: u64) -> Decimal
+    ensures { result ≡ record { negative = negative; count = count } }
 {
-    Decimal {
-        negative: sign,
-        count: count,
-    }
+    Decimal { negative, count }
 }
 
 // A figure's exact value, to the nearest of so many units to the whole, halves to even.
+#[tactic(auto, using(crate::specs::Laws::parted_rounded))]
 pub fn rounded(x: f64, units: u64) -> Decimal
     requires { Within 43 x × (units ≤ 1000) }
     ensures { result ≡ decimal_rounded units x }
@@ -97,6 +98,7 @@ pub fn rounded(x: f64, units: u64) -> Decimal
 }
 
 // Rust's f64::round.
+#[tactic(auto, using(crate::specs::Laws::parted_less, crate::specs::Laws::parted_plus))]
 pub fn round(x: f64) -> f64
     requires { Within 43 x }
     ensures { result ≡ round_of x }

@@ -1,13 +1,12 @@
-// The answer of the gate: its parts as enums and a struct by value, each part with its "absent". It uses codes, profile and
-// station.
+// The answer of the gate: its parts as enums and a struct by value, each part with its "absent". It uses codes and profile.
 #![tactic(auto)]
 
 ghost use Rattle.std.specs.Prelude.{◌≡◌};
-ghost use Rattle.decision.specs.Decision.{finish_of, simple_of, refused_of, no_marks, no_advice};
+ghost use Rattle.decision.specs.Number.{verdict_number, number_of_code, edge_number};
+ghost use Rattle.decision.specs.Decision.{finish_of, simple_of, absent_of, refused_of, no_marks, no_advice};
 
-use codes::Checked;
-use profile::{Range, RuleName};
-use station::Figure;
+use codes::{Checked, Refusal};
+use profile::Range;
 
 // The rules that document 01 numbers.
 pub const NO_RULE: u16 = 0;
@@ -24,7 +23,7 @@ pub const RULE_97_305C: u16 = 5;
 
 pub const RULE_97_307F9: u16 = 6;
 
-#[derive(Clone, Copy)]
+#[derive(Clone, Copy, PartialEq, Eq)]
 pub enum Verdict {
     // Permitted.
     Legal,
@@ -34,10 +33,10 @@ pub enum Verdict {
     Blocked,
 }
 
-// The reason, for a program.
-#[derive(Clone, Copy)]
+// The reason, for a program, with its number.
+#[derive(Clone, Copy, PartialEq, Eq)]
 pub enum Code {
-    NoProfile,
+    NoProfile = 1,
     ProfileBroken,
     NoRules,
     Unmeasured,
@@ -62,13 +61,37 @@ pub enum Code {
     SixtyOffChannel,
     SixtyChannel,
     SixtySegment,
-    NoCode,
 }
 
-#[derive(Clone, Copy)]
+#[derive(Clone, Copy, PartialEq, Eq)]
 pub enum Edge {
     Lower,
     Upper,
+}
+
+// The numbers of verdicts, codes and edges.
+impl From<Verdict> for u8 {
+    ghost from_gives = { λ v n. n ≡ verdict_number v };
+
+    fn from(v: Verdict) -> u8 {
+        v as u8
+    }
+}
+
+impl From<Code> for u8 {
+    ghost from_gives = { λ c n. n ≡ number_of_code c };
+
+    fn from(c: Code) -> u8 {
+        c as u8
+    }
+}
+
+impl From<Edge> for u8 {
+    ghost from_gives = { λ e n. n ≡ edge_number e };
+
+    fn from(e: Edge) -> u8 {
+        e as u8
+    }
 }
 
 // How data lies outside a segment: beyond an edge by a distance, or merely too close to an edge.
@@ -76,7 +99,6 @@ pub enum Edge {
 pub enum Overshoot {
     Beyond(f64, Edge),
     TooClose(Edge),
-    NoOvershoot,
 }
 
 // What the voluntary band plan says, with the index of the plan record.
@@ -85,26 +107,6 @@ pub enum Guidance {
     Avoid(usize),
     Inside(usize),
     Outside,
-    NoGuidance,
-}
-
-#[derive(Clone, Copy)]
-pub enum BandNumber {
-    Band(u8),
-    NoBand,
-}
-
-// The segment that a transmission is judged against, and its rule.
-#[derive(Clone, Copy)]
-pub enum JudgedSegment {
-    Segment(Range, u16),
-    NoSegment,
-}
-
-#[derive(Clone, Copy)]
-pub enum MaybeRange {
-    Is(Range),
-    NoRange,
 }
 
 // The notes on 60 m: above the channels' watts, shared with government stations, above the segment's watts.
@@ -120,16 +122,16 @@ pub struct SixtyNotes {
 pub struct Draft {
     pub audio: Range,
     pub width: f64,
-    pub air: MaybeRange,
-    pub band: BandNumber,
-    pub segment: JudgedSegment,
-    pub automatic_segment: MaybeRange,
+    pub air: Option<Range>,
+    pub band: Option<u8>,
+    pub segment: Option<(Range, u16)>,
+    pub automatic_segment: Option<Range>,
 }
 
 // What the operator should know besides.
 #[derive(Clone, Copy)]
 pub struct Advice {
-    pub guidance: Guidance,
+    pub guidance: Option<Guidance>,
     pub notes: [u8; 256],
     pub sixty: SixtyNotes,
 }
@@ -138,15 +140,15 @@ pub struct Advice {
 pub struct Decision {
     pub refusal: Checked,
     pub verdict: Verdict,
-    pub code: Code,
-    pub rule: RuleName,
-    pub band: BandNumber,
-    pub segment: JudgedSegment,
-    pub automatic_segment: MaybeRange,
-    pub audio: MaybeRange,
-    pub width: Figure,
-    pub air: MaybeRange,
-    pub overshoot: Overshoot,
+    pub code: Option<Code>,
+    pub rule: Option<u16>,
+    pub band: Option<u8>,
+    pub segment: Option<(Range, u16)>,
+    pub automatic_segment: Option<Range>,
+    pub audio: Option<Range>,
+    pub width: Option<f64>,
+    pub air: Option<Range>,
+    pub overshoot: Option<Overshoot>,
     pub advice: Advice,
 }
 
@@ -162,71 +164,77 @@ pub fn no_marks() -> SixtyNotes
 }
 
 // Nothing to say besides.
+#[tactic(auto, unfolding(crate::specs::Decision::no_advice))]
 pub fn no_advice() -> Advice
     ensures { result ≡ no_advice }
 {
     Advice {
-        guidance: Guidance::NoGuidance,
+        guidance: None,
         notes: [0u8; 256],
         sixty: no_marks(),
     }
 }
 
 // A decision from its draft.
+#[tactic(auto, unfolding(crate::specs::Decision::finish_of))]
 pub fn finish(
     d: Draft,
     verdict: Verdict,
     code: Code,
     rule: u16,
-    overshoot: Overshoot,
+    overshoot: Option<Overshoot>,
     advice: Advice,
 ) -> Decision
     ensures { result ≡ finish_of d verdict code rule overshoot advice }
 {
-    let audio = d.audio;
-    let air = d.air;
-    let band = d.band;
-    let segment = d.segment;
-    let automatic_segment = d.automatic_segment;
     Decision {
-        refusal: Checked::Accepted,
+        refusal: Ok(()),
         verdict,
-        code,
-        rule: RuleName::Named(rule),
-        band,
-        segment,
-        automatic_segment,
-        audio: MaybeRange::Is(audio),
-        width: Figure::Known(d.width),
-        air,
+        code: Some(code),
+        rule: Some(rule),
+        band: d.band,
+        segment: d.segment,
+        automatic_segment: d.automatic_segment,
+        audio: Some(d.audio),
+        width: Some(d.width),
+        air: d.air,
         overshoot,
         advice,
     }
 }
 
 // A decision with no overshoot and nothing to say besides.
+#[tactic(auto, unfolding(crate::specs::Decision::simple_of))]
 pub fn simple(d: Draft, verdict: Verdict, code: Code, rule: u16) -> Decision
     ensures { result ≡ simple_of d verdict code rule }
 {
-    finish(d, verdict, code, rule, Overshoot::NoOvershoot, no_advice())
+    finish(d, verdict, code, rule, None, no_advice())
+}
+
+// No decision: Blocked, all else absent.
+pub fn absent(refusal: Checked) -> Decision
+    ensures { result ≡ absent_of refusal }
+{
+    Decision {
+        refusal,
+        verdict: Verdict::Blocked,
+        code: None,
+        rule: None,
+        band: None,
+        segment: None,
+        automatic_segment: None,
+        audio: None,
+        width: None,
+        air: None,
+        overshoot: None,
+        advice: no_advice(),
+    }
 }
 
 // A refusal: its number, Blocked, all else absent.
-pub fn refused(n: u8) -> Decision
+#[tactic(auto, unfolding(crate::specs::Decision::refused_of))]
+pub fn refused(n: Refusal) -> Decision
     ensures { result ≡ refused_of n }
 {
-    Decision {
-        refusal: Checked::Refused(n),
-        verdict: Verdict::Blocked,
-        code: Code::NoCode,
-        rule: RuleName::Unnamed,
-        band: BandNumber::NoBand,
-        segment: JudgedSegment::NoSegment,
-        automatic_segment: MaybeRange::NoRange,
-        audio: MaybeRange::NoRange,
-        width: Figure::Absent,
-        air: MaybeRange::NoRange,
-        overshoot: Overshoot::NoOvershoot,
-        advice: no_advice(),
-    }
+    absent(Err(n))
 }

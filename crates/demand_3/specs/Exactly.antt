@@ -1,18 +1,12 @@
 -- The list and the verdict agree at every dial: a dial lies in a listed row outside the channel band exactly if the gate allows data there.
 -- It is said of a table, a station as it is read, an audio range and a dial, whatever these were read from.
-use Rattle.std.specs.Prelude.{Bool, true, false, not, ◌&&◌, List, ◌≡◌, eqb, Float}
+use Rattle.std.specs.Prelude.{Bool, true, false, not, ◌&&◌, List, ◌≡◌, eqb, Float, Option, Some, None}
 use Rattle.std.proofs.Common.{true≢false, sym, ◌∙◌}
 use Rattle.std.proofs.lemmas.Bool.{false≢true}
 use Rattle.std.proofs.Math.Path.{refl, ap}
 use Rattle.codes.specs.Code.{bit_of}
-use Rattle.codes.specs.declared.Control.{Control}
-use Rattle.codes.specs.declared.Control.TheVariants.{ControlIs, NoControl}
 use Rattle.codes.specs.declared.ControlMode.{ControlMode}
-use Rattle.codes.specs.declared.License.{License}
-use Rattle.codes.specs.declared.License.TheVariants.{LicenseIs, NoLicense}
 use Rattle.codes.specs.declared.LicenseClass.{LicenseClass}
-use Rattle.codes.specs.declared.SidebandSet.{SidebandSet}
-use Rattle.codes.specs.declared.SidebandSet.TheVariants.{SidebandIs, NoSideband}
 use Rattle.codes.specs.declared.Sideband.{Sideband}
 use Rattle.codes.specs.declared.Direction.{Direction}
 use Rattle.codes.specs.declared.EmissionKind.TheVariants.{Data}
@@ -21,7 +15,6 @@ use Rattle.profile.specs.declared.Range.{Range}
 use Rattle.air.specs.Air.{rf_range_of, guarded_of}
 use Rattle.scan.specs.Laws.{first_at, some_true, and_true}
 use Rattle.station.specs.declared.Situation.{Situation}
-use Rattle.station.specs.declared.Figure.TheVariants.{Known}
 use Rattle.layout.specs.Layout.{bands}
 use Rattle.table.specs.Table.{Table}
 use Rattle.table.specs.Parts.{span_of, elsewhere_of}
@@ -67,7 +60,7 @@ listed_at table s direction audio dial =
 
 -- the gate allows data at a dial, under the table
 abbrev pub allowed_at : Table → Situation → Direction → Range → Float → Bool
-allowed_at table s direction audio dial = allows (under_rules_of table s (Known dial) Data direction audio)
+allowed_at table s direction audio dial = allows (under_rules_of table s (Some dial) Data direction audio)
 
 -- ---- the prerequisites taken apart
 
@@ -76,9 +69,9 @@ pub record Prerequisites (table : Table) (s : Situation) : Type 0 where
   pub control : ControlMode
   pub class : LicenseClass
   pub sideband : Sideband
-  pub has_control_holds : s.control ≡ ControlIs control
-  pub has_license_holds : s.license ≡ LicenseIs class
-  pub has_sideband_holds : s.sideband ≡ SidebandIs sideband
+  pub has_control_holds : s.control ≡ Some control
+  pub has_license_holds : s.license ≡ Some class
+  pub has_sideband_holds : s.sideband ≡ Some sideband
 
 pub prerequisites : (table : Table) (s : Situation) → prerequisites_met table s ≡ true → Prerequisites table s
 unfolding prerequisites_met
@@ -88,9 +81,9 @@ prerequisites table s e = go s.control s.license s.sideband refl refl refl e
     here = eqb s.itu_region table.general.region
 
     go :
-        (x : Control) (y : License) (z : SidebandSet) → s.control ≡ x → s.license ≡ y → s.sideband ≡ z
+        (x : Option ControlMode) (y : Option LicenseClass) (z : Option Sideband) → s.control ≡ x → s.license ≡ y → s.sideband ≡ z
         → (here && (has_control x && (has_license y && (has_sideband z && has_dial s.dial)))) ≡ true → Prerequisites table s
-    go (ControlIs k) (LicenseIs c) (SidebandIs b) p q r e =
+    go (Some k) (Some c) (Some b) p q r e =
         record {
           region = (and_true here (has_dial s.dial) e).0;
           control = k;
@@ -100,9 +93,9 @@ prerequisites table s e = go s.control s.license s.sideband refl refl refl e
           has_license_holds = q;
           has_sideband_holds = r;
         }
-    go (ControlIs k) (LicenseIs c) NoSideband p q r e = absurd (false≢true (and_true here false e).1)
-    go (ControlIs k) NoLicense z p q r e = absurd (false≢true (and_true here false e).1)
-    go NoControl y z p q r e = absurd (false≢true (and_true here false e).1)
+    go (Some k) (Some c) None p q r e = absurd (false≢true (and_true here false e).1)
+    go (Some k) None z p q r e = absurd (false≢true (and_true here false e).1)
+    go None y z p q r e = absurd (false≢true (and_true here false e).1)
 
 -- ---- one list and one verdict
 
@@ -120,18 +113,18 @@ module _ (table : Table) (s : Situation) (direction : Direction) (audio : Range)
   pub rows_are : rows_for table s direction audio ≡ rows_of table requested
   rows_are =
       ap
-      (λ (x : SidebandSet).
+      (λ (x : Option Sideband).
       rows_with_sideband x (λ sb. rows_with_license s.license (λ cl. rows_with_control s.control (rows_known table s direction audio sb cl))))
       P.has_sideband_holds
-      ∙ ap (λ (x : License). rows_with_license x (λ cl. rows_with_control s.control (rows_known table s direction audio P.sideband cl))) P.has_license_holds
-      ∙ ap (λ (x : Control). rows_with_control x (rows_known table s direction audio P.sideband P.class)) P.has_control_holds
+      ∙ ap (λ (x : Option LicenseClass). rows_with_license x (λ cl. rows_with_control s.control (rows_known table s direction audio P.sideband cl))) P.has_license_holds
+      ∙ ap (λ (x : Option ControlMode). rows_with_control x (rows_known table s direction audio P.sideband P.class)) P.has_control_holds
 
-  pub ruling : under_rules_of table s (Known dial) Data direction audio ≡ judge table judged_case
+  pub ruling : under_rules_of table s (Some dial) Data direction audio ≡ judge table judged_case
   ruling =
       sym
-      (under_met table s (Known dial) Data direction audio judged_case
+      (under_met table s (Some dial) Data direction audio judged_case
       (sym
-      (ready_met table.general s (Known dial) Data direction audio P.region P.control P.has_control_holds P.class P.has_license_holds P.sideband
+      (ready_met table.general s (Some dial) Data direction audio P.region P.control P.has_control_holds P.class P.has_license_holds P.sideband
       P.has_sideband_holds dial refl)))
 
   kind_data : judged_case.kind ≡ Data

@@ -1,7 +1,8 @@
 -- Demand 3 is not vacuous: inputs that meet every premise and get nought, a distance, and "none listed", with an automatic station, the lower
 -- sideband and a table with channels among them; and for tidy, eighths, the positive width and a dial off the channel band an input that
 -- meets every other premise and breaks the statement. All of it is computed from bytes.
-use Rattle.std.specs.Prelude.{ℕ, Bool, true, false, not, List, [], ◌∷◌, ◌++◌, ◌≡◌, refl, pos, replicate, get_or, Float}
+use Rattle.std.specs.Prelude.{ℕ, Bool, true, false, not, List, [], ◌∷◌, ◌++◌, ◌≡◌, refl, pos, replicate, get_or, Float, Option, Some, None, Result, Ok}
+use Rattle.codes.specs.declared.Refusal.{Refusal}
 use Rattle.std.proofs.Common.{ap}
 use Rattle.std.proofs.lemmas.Bool.{not-true}
 use Rattle.std.specs.Float.{binary64}
@@ -30,8 +31,6 @@ use Rattle.part97.specs.Part97.{overshoot_of, outside_segments, inside_segment, 
 use Rattle.part97.specs.Part97.{sixty_overlap, sixty_place, sixty_emission, sixty_kind, sixty, judge_on_band, judge_in_band, touching, judge}
 use Rattle.verdict.specs.Verdict.{air_of, signal_of, case_of, ready_of, under_rules_of, unruled_of, decide_of, evaluate_of}
 use Rattle.dials.specs.List.{situation_rows, list_rows, list_tests, answer_of, bytes_of, SafeDials}
-use Rattle.dials.specs.declared.DialList.{DialList}
-use Rattle.dials.specs.declared.DialList.TheVariants.{Rows}
 use Rattle.dial_rows.specs.Dials.{request_of, piece_rows, automatic_rows, cut_rows, privilege_rows, privileges_rows}
 use Rattle.dial_rows.specs.Dials.{segment_rows, data_rows, channel_found, channel_row, channel_rows, open_rows, rows_of}
 use Rattle.byte_writes.specs.Bytes.{little}
@@ -39,8 +38,6 @@ use Rattle.rows.specs.Rows.{insert_row, insert_all, figures_of, encode_row, enco
 use Rattle.lists.specs.Each.{each}
 use Rattle.eighths.specs.Grid.{in_eighths}
 use Rattle.distance.specs.Distance.{is_outside, considered_at, least_up_to, distance_of}
-use Rattle.distance.specs.declared.Distance.{Distance}
-use Rattle.distance.specs.declared.Distance.TheVariants.{Hertz, NoneListed}
 use Rattle.demand_3.specs.Words.{record_in_eighths, block_in_eighths, table_in_eighths, edges_in_eighths, dial_in_eighths, station_in_eighths, tuned}
 use Rattle.demand_3.specs.Words.{audio_of, accepted, rules_in_force, unrefused, prerequisites_met, guarded_width, positive_width, channel_band_holds}
 use Rattle.demand_3.specs.Words.{on_channel_band, table_met, station_met, signal_met, verdict_at, allows, distance_at, Demand3}
@@ -163,7 +160,7 @@ lent = replicate 72 0
 -- ---- the list call's answer and bytes, and the premises' truth
 
 module _ (r : StationRecord) (e : Edges) (l : List ℕ) where
-  abbrev answer : DialList
+  abbrev answer : Result ℕ Refusal
   answer = answer_of (refusal_of (list_tests r 0 e l lent)) (list_rows r 0 e l)
 
   abbrev left : List ℕ
@@ -185,9 +182,9 @@ module _ (r : StationRecord) (e : Edges) (l : List ℕ) where
       ∷ not (on_channel_band table s audio (read_hz dial)) ∷ []
 
   -- what an input comes to
-  record Outcome (dial : Float) (count : ℕ) (met : List Bool) (distance : Distance) (allowed : Bool) : Type 0 where
+  record Outcome (dial : Float) (count : ℕ) (met : List Bool) (distance : Result (Option Float) Refusal) (allowed : Bool) : Type 0 where
     premises_are : premises dial ≡ met
-    fitted : answer ≡ Rows count
+    fitted : answer ≡ Ok count
     distance_is : distance_at l count left dial ≡ distance
     verdict_is : allows (verdict_at r 0 e l dial) ≡ allowed
 
@@ -201,7 +198,7 @@ at n bs = get_or bs n false
 
 -- So the statement holds of such an input.
 holds :
-    (r : StationRecord) (e : Edges) (l : List ℕ) (dial : Float) (count : ℕ) (distance : Distance) (allowed : Bool)
+    (r : StationRecord) (e : Edges) (l : List ℕ) (dial : Float) (count : ℕ) (distance : Result (Option Float) Refusal) (allowed : Bool)
     → Outcome r e l dial count all distance allowed → Demand3 r 0 e l count (left r e l) dial
 unfolding table_met station_met signal_met
 holds r e l dial count distance allowed o =
@@ -236,69 +233,69 @@ opened = tt
 -- ---- inputs that meet every premise
 
 -- the dial 30 is in the row 20–75
-nought : Outcome usual narrow plain (hz 30) 1 all (Hertz zero_hz) true
+nought : Outcome usual narrow plain (hz 30) 1 all (Ok (Some zero_hz)) true
 unfolding opened
 nought = record { premises_are = refl; fitted = refl; distance_is = refl; verdict_is = refl }
 
 -- the dial 10 is 10 below it
-away : Outcome usual narrow plain (hz 10) 1 all (Hertz (hz 10)) false
+away : Outcome usual narrow plain (hz 10) 1 all (Ok (Some (hz 10))) false
 unfolding opened
 away = record { premises_are = refl; fitted = refl; distance_is = refl; verdict_is = refl }
 
 -- a signal wider than the limit has no row
-none : Outcome usual (edges zero_hz (hz 20)) plain (hz 30) 0 all NoneListed false
+none : Outcome usual (edges zero_hz (hz 20)) plain (hz 30) 0 all (Ok None) false
 unfolding opened
 none = record { premises_are = refl; fitted = refl; distance_is = refl; verdict_is = refl }
 
 -- an automatic station, its row cut to the automatic segment, 40–55: the dial 50 is in it
-automatic_nought : Outcome (station 2 0 unguarded) narrow automatic (hz 50) 1 all (Hertz zero_hz) true
+automatic_nought : Outcome (station 2 0 unguarded) narrow automatic (hz 50) 1 all (Ok (Some zero_hz)) true
 unfolding opened
 automatic_nought = record { premises_are = refl; fitted = refl; distance_is = refl; verdict_is = refl }
 
 -- the dial 30, where a local station may send, is 10 below it
-automatic_away : Outcome (station 2 0 unguarded) narrow automatic (hz 30) 1 all (Hertz (hz 10)) false
+automatic_away : Outcome (station 2 0 unguarded) narrow automatic (hz 30) 1 all (Ok (Some (hz 10))) false
 unfolding opened
 automatic_away = record { premises_are = refl; fitted = refl; distance_is = refl; verdict_is = refl }
 
 -- the lower sideband, with the row 25–80: the dial 78 is in it
-lower_nought : Outcome (station 0 1 unguarded) narrow plain (hz 78) 1 all (Hertz zero_hz) true
+lower_nought : Outcome (station 0 1 unguarded) narrow plain (hz 78) 1 all (Ok (Some zero_hz)) true
 unfolding opened
 lower_nought = record { premises_are = refl; fitted = refl; distance_is = refl; verdict_is = refl }
 
 -- the dial 22, where the upper sideband may send, is 3 below it
-lower_away : Outcome (station 0 1 unguarded) narrow plain (hz 22) 1 all (Hertz (hz 3)) false
+lower_away : Outcome (station 0 1 unguarded) narrow plain (hz 22) 1 all (Ok (Some (hz 3))) false
 unfolding opened
 lower_away = record { premises_are = refl; fitted = refl; distance_is = refl; verdict_is = refl }
 
 -- margins 3 and 7 on the lower sideband, sides of the air all the same, with the row 28–73: its lower end is in it
-apart_nought : Outcome (station 0 1 (margins (hz 3) (hz 7))) narrow plain (hz 28) 1 all (Hertz zero_hz) true
+apart_nought : Outcome (station 0 1 (margins (hz 3) (hz 7))) narrow plain (hz 28) 1 all (Ok (Some zero_hz)) true
 unfolding opened
 apart_nought = record { premises_are = refl; fitted = refl; distance_is = refl; verdict_is = refl }
 
 -- the dial 74 is 1 above it
-apart_away : Outcome (station 0 1 (margins (hz 3) (hz 7))) narrow plain (hz 74) 1 all (Hertz (hz 1)) false
+apart_away : Outcome (station 0 1 (margins (hz 3) (hz 7))) narrow plain (hz 74) 1 all (Ok (Some (hz 1))) false
 unfolding opened
 apart_away = record { premises_are = refl; fitted = refl; distance_is = refl; verdict_is = refl }
 
 -- margins −4 and 3: a positive width of 5 − 4 + 3, on the upper sideband with the row 16–72
-negative_nought : Outcome (station 0 0 (margins (sub binary64 zero_hz (hz 4)) (hz 3))) narrow plain (hz 16) 1 all (Hertz zero_hz) true
+negative_nought : Outcome (station 0 0 (margins (sub binary64 zero_hz (hz 4)) (hz 3))) narrow plain (hz 16) 1 all (Ok (Some zero_hz)) true
 unfolding opened
 negative_nought = record { premises_are = refl; fitted = refl; distance_is = refl; verdict_is = refl }
 
 -- a table with a channel on another band, with the rows 20–75 and 288–288: off that band the dial 30 is in the first
-beside_nought : Outcome usual narrow beside (hz 30) 2 all (Hertz zero_hz) true
+beside_nought : Outcome usual narrow beside (hz 30) 2 all (Ok (Some zero_hz)) true
 unfolding opened
 beside_nought = record { premises_are = refl; fitted = refl; distance_is = refl; verdict_is = refl }
 
 -- the dial 198 is 123 above it; the channel's row, 90 away, does not count
-beside_away : Outcome usual narrow beside (hz 198) 2 all (Hertz (hz 123)) false
+beside_away : Outcome usual narrow beside (hz 198) 2 all (Ok (Some (hz 123))) false
 unfolding opened
 beside_away = record { premises_are = refl; fitted = refl; distance_is = refl; verdict_is = refl }
 
 -- ---- inputs that meet every premise but one
 
 -- without tidy: the list goes by any privilege that allows data, the verdict by the first that holds
-without_tidy : Outcome usual narrow untidy (hz 30) 1 (true ∷ false ∷ replicate 9 true) (Hertz zero_hz) false
+without_tidy : Outcome usual narrow untidy (hz 30) 1 (true ∷ false ∷ replicate 9 true) (Ok (Some zero_hz)) false
 unfolding opened
 without_tidy = record { premises_are = refl; fitted = refl; distance_is = refl; verdict_is = refl }
 
@@ -306,16 +303,16 @@ without_tidy = record { premises_are = refl; fitted = refl; distance_is = refl; 
 without_eighths :
     Outcome (station 0 0 (margins (of_bits binary64 0x4028666666666667) (of_bits binary64 0x4028666666666667)))
     (edges (of_bits binary64 0x3fd3333333333333) (of_bits binary64 0x3fe6666666666666)) broad
-    (of_bits binary64 0x403fe66666666666) 1 (replicate 5 true ++ (false ∷ true ∷ false ∷ replicate 3 true)) (Hertz zero_hz) false
+    (of_bits binary64 0x403fe66666666666) 1 (replicate 5 true ++ (false ∷ true ∷ false ∷ replicate 3 true)) (Ok (Some zero_hz)) false
 unfolding opened
 without_eighths = record { premises_are = refl; fitted = refl; distance_is = refl; verdict_is = refl }
 
 -- without the positive width: privilege and segment share one figure, where no stretch is listed and data is allowed
-without_width : Outcome usual (edges zero_hz zero_hz) meeting (hz 20) 0 (replicate 8 true ++ (false ∷ replicate 2 true)) NoneListed true
+without_width : Outcome usual (edges zero_hz zero_hz) meeting (hz 20) 0 (replicate 8 true ++ (false ∷ replicate 2 true)) (Ok None) true
 unfolding opened
 without_width = record { premises_are = refl; fitted = refl; distance_is = refl; verdict_is = refl }
 
 -- without a dial off the channel band: a channel allows data, and its rows do not count
-without_channels : Outcome usual narrow channelled (hz 88) 2 (replicate 10 true ++ (false ∷ [])) NoneListed true
+without_channels : Outcome usual narrow channelled (hz 88) 2 (replicate 10 true ++ (false ∷ [])) (Ok None) true
 unfolding opened
 without_channels = record { premises_are = refl; fitted = refl; distance_is = refl; verdict_is = refl }

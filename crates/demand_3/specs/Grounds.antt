@@ -1,6 +1,7 @@
 -- From the premises to the grid: every figure that list and verdict add or compare is in eighths and at most 2^40 in size. Of the table
 -- the checks of what it holds see to the size, of station and signal the calls' refusals.
-use Rattle.std.specs.Prelude.{ℕ, ◌+◌, ◌≤◌, ◌^◌, Bool, not, ◌||◌, List, refl, eqb, Float}
+use Rattle.std.specs.Prelude.{ℕ, ◌+◌, ◌≤◌, ◌^◌, Bool, not, ◌||◌, List, refl, eqb, Float, Some, None, Ok, Err}
+use Rattle.codes.specs.Refusal.{Checked, refusal_of}
 use Rattle.std.proofs.Math.Bool.{true, false, cond}
 use Rattle.std.proofs.lemmas.Bool.{false≢true}
 use Rattle.std.proofs.Math.Path.{◌≡◌, subst}
@@ -9,10 +10,7 @@ use borrow.Author.Tests.{eqb-true, not-true, not-false}
 use Rattle.std.specs.Float.Ieee.{of_bits, neg, lt, le, eq}
 use Rattle.figures.specs.Figure.{zero_hz, limit40, negative_zero_bits, in_size, read_hz, figure_of, min_of, max_of}
 use Rattle.codes.specs.Code.{bit_of, policy_code}
-use Rattle.codes.specs.Refusal.{refusal_of}
 use Rattle.codes.specs.Laws.{none_fails, refusal_both}
-use Rattle.codes.specs.declared.Checked.{Checked}
-use Rattle.codes.specs.declared.Checked.TheVariants.{Accepted, Refused}
 use Rattle.codes.specs.declared.Policy.TheVariants.{Unset, NoProfile, Rules, Broken}
 use Rattle.profile.specs.declared.Range.{Range}
 use Rattle.occupancy.specs.Edges.{range_of}
@@ -23,7 +21,6 @@ use Rattle.air.specs.Air.{width_of}
 use Rattle.scan.specs.First.{some}
 use Rattle.scan.specs.Laws.{some_false, and_true}
 use Rattle.station.specs.Station.{under_rules, margins_valid, figure_valid, figures_valid, margins_read, figure_read, station_tests, situation_of}
-use Rattle.station.specs.declared.Figure.TheVariants.{Known, Absent}
 use Rattle.station.specs.declared.StationRecord.{StationRecord}
 use Rattle.layout.specs.Form.{form_tests}
 use Rattle.layout.specs.Laws.{or_false_both}
@@ -31,13 +28,11 @@ use Rattle.layout.specs.Layout.{tables, power}
 use Rattle.table.specs.Parts.{elsewhere_of}
 use Rattle.table.specs.Table.{Table, table_of}
 use Rattle.table.specs.declared.Elsewhere.{Elsewhere}
-use Rattle.table.specs.declared.ElsewhereRule.TheVariants.{Under, Nowhere}
 use Rattle.find.specs.Question.{asks, sound_bits, sound_record}
 use Rattle.find.specs.declared.Question.TheVariants.{Unsound}
 use Rattle.image.specs.Check.{content_tests, check_of, sound_block, unsound_in, unsound}
 use Rattle.entry.specs.Entry.{image_tests, entry_tests, pair_valid, edges_valid, pair_read, edges_read}
 use Rattle.tidy.specs.Tidy.{tidy_table, tidiness_of, tidy_of}
-use Rattle.tidy.specs.declared.Tidiness.TheVariants.{Tidy}
 use Rattle.eighths.specs.Grid.{Figure, Eighths, in_eighths}
 use Rattle.eighths.specs.Laws.{eighths_of, zero_eighths, neg_eighths, eq_eighths, figure_of_holds}
 use Rattle.exact.specs.Air.{MarginFigures, width}
@@ -97,13 +92,13 @@ bits_figure b s on = figure_size (figure_of b) on (and_true (in_size limit40 (fi
 
 -- ---- the table
 
-pub accepted_of : (c : Checked) → accepted c ≡ true → c ≡ Accepted
-accepted_of Accepted e = refl
-accepted_of (Refused n) e = absurd (false≢true e)
+pub accepted_of : (c : Checked) → accepted c ≡ true → c ≡ Ok tt
+accepted_of (Ok tt) e = refl
+accepted_of (Err n) e = absurd (false≢true e)
 
 comparable_if :
     (w : Float) (b : Bool) (e : Elsewhere) → le w e.max_bandwidth_hz ≡ not (lt e.max_bandwidth_hz w)
-    → Comparable (cond b (Under e) Nowhere) w
+    → Comparable (cond b (Some e) None) w
 comparable_if w true e k = k
 comparable_if w false e k = tt
 
@@ -164,12 +159,12 @@ module _ (table : Table) (T : table_met table ≡ true) where
       (grid (width audio.low_hz audio.high_hz A.low A.high)) (figure_grid elsewhere_figure))
 
 -- A table that the tidy call finds tidy.
-tidy_of_holds : (c : Checked) (b : Bool) → tidiness_of c b ≡ Tidy → (c ≡ Accepted) × (b ≡ true)
-tidy_of_holds Accepted true e = (refl, refl)
-tidy_of_holds Accepted false e = absurd (let z : ◌≡◌ {A = ℕ} 0 1 = cc in omega arith)
-tidy_of_holds (Refused n) b e = absurd (let z : ◌≡◌ {A = ℕ} 0 1 = cc in omega arith)
+tidy_of_holds : (c : Checked) (b : Bool) → tidiness_of c b ≡ Ok true → (c ≡ Ok tt) × (b ≡ true)
+tidy_of_holds (Ok tt) true e = (refl, refl)
+tidy_of_holds (Ok tt) false e = absurd (let z : ◌≡◌ {A = ℕ} 0 1 = cc in omega arith)
+tidy_of_holds (Err n) b e = absurd (let z : ◌≡◌ {A = ℕ} 0 1 = cc in omega arith)
 
-pub tidy_met : (l : List ℕ) → tidy_of l ≡ Tidy → table_in_eighths (table_of l) ≡ true → table_met (table_of l) ≡ true
+pub tidy_met : (l : List ℕ) → tidy_of l ≡ Ok true → table_in_eighths (table_of l) ≡ true → table_met (table_of l) ≡ true
 unfolding table_met check_of
 tidy_met l t on =
     let both = tidy_of_holds (check_of l) (tidy_table (table_of l)) t in
@@ -188,7 +183,7 @@ under_rules_holds r e = go (eqb r.policy 0) (eqb r.policy 1) (eqb r.policy 2) e
     go false false false e = absurd (false≢true e)
 
 -- a station record that a call does not refuse
-module _ (r : StationRecord) (beside : Bool) (l : List ℕ) (ok : refusal_of (entry_tests r beside l) ≡ Accepted) where
+module _ (r : StationRecord) (beside : Bool) (l : List ℕ) (ok : refusal_of (entry_tests r beside l) ≡ Ok tt) where
   pub figures_valid_holds :
       (margins_valid r.margin ≡ true) × (figure_valid r.dial_known r.dial_hz ≡ true)
       × (figure_valid r.power_known r.power_w ≡ true)
@@ -212,13 +207,13 @@ module _ (r : StationRecord) (beside : Bool) (l : List ℕ) (ok : refusal_of (en
         let size = and_true (in_size limit40 lower) (in_size limit40 upper) figures_valid_holds.0 in
         record { lower = figure_read_holds lower on.0 size.0; upper = figure_read_holds upper on.1 size.1 }
 
-    pub dial_figure : (x : Float) → (situation_of r).dial ≡ Known x → Figure x
+    pub dial_figure : (x : Float) → (situation_of r).dial ≡ Some x → Figure x
     unfolding situation_of
     dial_figure x e = go (eqb r.dial_known 0) figures_valid_holds.1 grids.1 e
       where
         go :
-            (b : Bool) → (b || in_size limit40 r.dial_hz) ≡ true → dial_in_eighths (cond b Absent (Known (read_hz r.dial_hz))) ≡ true
-            → cond b Absent (Known (read_hz r.dial_hz)) ≡ Known x → Figure x
+            (b : Bool) → (b || in_size limit40 r.dial_hz) ≡ true → dial_in_eighths (cond b None (Some (read_hz r.dial_hz))) ≡ true
+            → cond b None (Some (read_hz r.dial_hz)) ≡ Some x → Figure x
         go true v on e = absurd (let z : ◌≡◌ {A = ℕ} 0 1 = cc in omega arith)
         go false v on e = let same : read_hz r.dial_hz ≡ x = cc in subst Figure same (figure_read_holds r.dial_hz on v)
 

@@ -1,6 +1,7 @@
 -- When the gate allows data off the channel band, test by test in Part97's order: the first band that holds the guarded signal is not
 -- excluded, the first data segment that holds it is not too narrow, the first privilege that holds it allows data, and 97.221 is met.
-use Rattle.std.specs.Prelude.{ℕ, Bool, ◌&&◌, ◌||◌, ◌≡◌, Float}
+use Rattle.std.specs.Prelude.{ℕ, Bool, ◌&&◌, ◌||◌, ◌≡◌, Float, Option, Some, None}
+use Rattle.table.specs.declared.Elsewhere.{Elsewhere}
 use Rattle.std.proofs.Math.Bool.{true, false, not, cond}
 use Rattle.std.proofs.Common.{true≢false, ◌∙◌, eqb-true, eq-eqb}
 use Rattle.std.proofs.lemmas.Bool.{false≢true}
@@ -12,18 +13,12 @@ use Rattle.codes.specs.declared.EmissionKind.{EmissionKind}
 use Rattle.codes.specs.declared.EmissionKind.TheVariants.{Data}
 use Rattle.profile.specs.declared.Range.{Range}
 use Rattle.scan.specs.First.{is_at, on_found}
-use Rattle.scan.specs.declared.Found.{Found}
-use Rattle.scan.specs.declared.Found.TheVariants.{At, Nothing}
 use Rattle.layout.specs.Layout.{bands, segments, automatic, excluded}
 use Rattle.layout.specs.declared.General.{General}
 use Rattle.table.specs.Table.{Table}
 use Rattle.table.specs.Parts.{span_of, excluded_of, elsewhere_of, channels_of}
 use Rattle.table.specs.declared.Segment.{Segment}
-use Rattle.table.specs.declared.ElsewhereRule.{ElsewhereRule}
-use Rattle.table.specs.declared.ElsewhereRule.TheVariants.{Under, Nowhere}
 use Rattle.table.specs.declared.Channels.{Channels}
-use Rattle.table.specs.declared.ChannelBand.{ChannelBand}
-use Rattle.table.specs.declared.ChannelBand.TheVariants.{On, NoChannels}
 use Rattle.find.specs.Question.{first_in, some_in}
 use Rattle.find.specs.declared.Question.TheVariants.{Holds, OfBand}
 use Rattle.automatic_97_221.specs.Automatic.{responds, elsewhere_allows}
@@ -33,15 +28,12 @@ use Rattle.decision.specs.declared.Verdict.TheVariants.{Blocked}
 use Rattle.decision.specs.declared.Code.{Code}
 use Rattle.decision.specs.declared.Code.TheVariants.{OutOfBand, AutomaticExcluded, TooWide, OutsideDataSegment, NoDataHere, Privilege}
 use Rattle.decision.specs.declared.Code.TheVariants.{Permitted, AutomaticSegment, AutomaticBandwidth, AutomaticOriginate, AutomaticResponse}
-use Rattle.decision.specs.declared.BandNumber.TheVariants.{Band}
 use Rattle.decision.specs.declared.Draft.{Draft}
 use Rattle.decision.specs.declared.Decision.{Decision}
 use Rattle.part97.specs.Part97.{band_at, segment_at, limit_for, blocked_too_wide, warned, advice_warns, automatic_rule_of, draft_of, draft_inside, draft_automatic}
 use Rattle.part97.specs.Part97.{privileged_of, under_privilege, advised, advised_automatic, automatic_elsewhere, automatic_data, nearest_up_to, on_nearest}
 use Rattle.part97.specs.Part97.{outside_segments, overshoot_of, inside_segment, judge_data, off_sixty, sixty, judge_on_band, judge_in_band, touching, judge}
 use Rattle.part97.specs.declared.Case.{Case}
-use Rattle.part97.specs.declared.Nearest.{Nearest}
-use Rattle.part97.specs.declared.Nearest.TheVariants.{Near, NoneNear}
 use Rattle.part97.specs.declared.Privileged.{Privileged}
 use Rattle.part97.specs.declared.Privileged.TheVariants.{Granted, Forbidden, Unheld}
 use Rattle.distance.specs.Distance.{is_outside}
@@ -63,28 +55,28 @@ advised_sent table c r d code rule = go (advice_warns table c r)
 
 -- The channels that a table has are of the channel band.
 pub by_channels :
-    (g : General) (P : ChannelBand → Type 0) → ((c : Channels) → is_outside g.flags g.channel_band c.band ≡ false → P (On c))
-    → P NoChannels → P (channels_of g)
+    (g : General) (P : Option Channels → Type 0) → ((c : Channels) → is_outside g.flags g.channel_band c.band ≡ false → P (Some c))
+    → P None → P (channels_of g)
 unfolding is_outside
 by_channels g P on none = go (bit_of g.flags 2) _ refl refl
   where
-    go : (b : Bool) (here : Channels) → bit_of g.flags 2 ≡ b → here.band ≡ g.channel_band → P (cond b (On here) NoChannels)
+    go : (b : Bool) (here : Channels) → bit_of g.flags 2 ≡ b → here.band ≡ g.channel_band → P (cond b (Some here) None)
     go true here e f = on here (rw e (rw (eq-eqb here.band g.channel_band f)))
     go false here e f = none
 
 -- the limit of 97.221(c) compares with a width both ways
-abbrev pub Comparable : ElsewhereRule → Float → Type 0
-Comparable (Under e) width = le width e.max_bandwidth_hz ≡ not (lt e.max_bandwidth_hz width)
-Comparable Nowhere width = Unit
+abbrev pub Comparable : Option Elsewhere → Float → Type 0
+Comparable (Some e) width = le width e.max_bandwidth_hz ≡ not (lt e.max_bandwidth_hz width)
+Comparable None width = Unit
 
 module _ (table : Table) (c : Case) where
   -- ---- 97.221
 
   elsewhere_allows_holds :
-      (draft : Draft) (w : ElsewhereRule) → Comparable w c.width
+      (draft : Draft) (w : Option Elsewhere) → Comparable w c.width
       → allows (automatic_elsewhere table c draft w) ≡ elsewhere_allows w c.width c.direction
   unfolding automatic_elsewhere
-  elsewhere_allows_holds draft (Under e) k =
+  elsewhere_allows_holds draft (Some e) k =
       rw k (go (lt e.max_bandwidth_hz c.width) e.requires_response (responds c.direction))
     where
       go :
@@ -99,7 +91,7 @@ module _ (table : Table) (c : Case) where
       go false true false = simple_blocked draft _ e.rule
       go false false true = advised_sent table c c.advised draft AutomaticResponse e.rule
       go false false false = advised_sent table c c.advised draft AutomaticResponse e.rule
-  elsewhere_allows_holds draft Nowhere k = simple_blocked draft _ (automatic_rule_of table)
+  elsewhere_allows_holds draft None k = simple_blocked draft _ (automatic_rule_of table)
 
   -- 97.221(b), or (c)
   abbrev pub automatic_met : Bool
@@ -113,17 +105,17 @@ module _ (table : Table) (c : Case) where
   automatic_allows band segment rule k = go (first_in table automatic (Holds c.guarded))
     where
       go :
-          (f : Found)
+          (f : Option ℕ)
           → allows
           (on_found f
           (λ a.
           advised_automatic table c (draft_automatic c band segment rule (span_of (table.at automatic a))) AutomaticSegment (automatic_rule_of table))
           (automatic_elsewhere table c (draft_inside c band segment rule) (elsewhere_of table.general)))
           ≡ (is_at f || elsewhere_allows (elsewhere_of table.general) c.width c.direction)
-      go (At a) =
+      go (Some a) =
           advised_sent table c c.advised (draft_automatic c band segment rule (span_of (table.at automatic a))) AutomaticSegment
           (automatic_rule_of table)
-      go Nothing = elsewhere_allows_holds (draft_inside c band segment rule) (elsewhere_of table.general) k
+      go None = elsewhere_allows_holds (draft_inside c band segment rule) (elsewhere_of table.general) k
 
   -- ---- inside a segment
 
@@ -170,26 +162,26 @@ module _ (table : Table) (c : Case) where
   outside_blocked band = go (nearest_up_to table c (table.count segments))
     where
       go :
-          (n : Nearest)
+          (n : Option (ℕ × Float))
           → allows
           (on_nearest n
           (λ i.
           finish_of (draft_inside c band (segment_at table i).range (segment_at table i).rule) Blocked OutsideDataSegment (segment_at table i).rule
-          (overshoot_of (segment_at table i).range c.air) no_advice)
-          (simple_of (draft_of c (Band band)) Blocked NoDataHere §97-305c))
+          (Some (overshoot_of (segment_at table i).range c.air)) no_advice)
+          (simple_of (draft_of c (Some band)) Blocked NoDataHere §97-305c))
           ≡ false
-      go (Near i by) = refl
-      go NoneNear = simple_blocked (draft_of c (Band band)) NoDataHere §97-305c
+      go (Some (i, by)) = refl
+      go None = simple_blocked (draft_of c (Some band)) NoDataHere §97-305c
 
   -- what makes data lawful off the channel band, in a band
   pub record Placed : Type 0 where
     pub segment : ℕ
-    pub found : first_in table segments (Holds c.guarded) ≡ At segment
-    pub narrow : lt (limit_for table (At segment)).max_bandwidth_hz c.width ≡ false
+    pub found : first_in table segments (Holds c.guarded) ≡ Some segment
+    pub narrow : lt (limit_for table (Some segment)).max_bandwidth_hz c.width ≡ false
     pub inside : Inside
 
   module _ (K : Comparable (elsewhere_of table.general) c.width) (band : ℕ) where
-    abbrev placed : Found → Bool → Decision
+    abbrev placed : Option ℕ → Bool → Decision
     placed f b =
         cond b (blocked_too_wide c band (limit_for table f))
         (on_found f (λ i. inside_segment table c band (segment_at table i)) (outside_segments table c band))
@@ -197,35 +189,35 @@ module _ (table : Table) (c : Case) where
     data_in : Placed → allows (off_sixty table c band Data) ≡ true
     unfolding judge_data
     data_in w =
-        ap (λ (f : Found). allows (placed f (lt (limit_for table f).max_bandwidth_hz c.width))) w.found
-        ∙ ap (λ (b : Bool). allows (placed (At w.segment) b)) w.narrow
+        ap (λ (f : Option ℕ). allows (placed f (lt (limit_for table f).max_bandwidth_hz c.width))) w.found
+        ∙ ap (λ (b : Bool). allows (placed (Some w.segment) b)) w.narrow
         ∙ inside_in K band (segment_at table w.segment) w.inside
 
     data_of_holds : allows (off_sixty table c band Data) ≡ true → Placed
     unfolding judge_data
     data_of_holds e = go (first_in table segments (Holds c.guarded)) refl e
       where
-        wide : (f : Found) (b : Bool) → allows (placed f b) ≡ true → b ≡ false
-        wide f true q = sym q ∙ simple_blocked (draft_of c (Band band)) TooWide (limit_for table f).rule
+        wide : (f : Option ℕ) (b : Bool) → allows (placed f b) ≡ true → b ≡ false
+        wide f true q = sym q ∙ simple_blocked (draft_of c (Some band)) TooWide (limit_for table f).rule
         wide f false q = refl
 
         go :
-            (f : Found) → first_in table segments (Holds c.guarded) ≡ f
+            (f : Option ℕ) → first_in table segments (Holds c.guarded) ≡ f
             → allows (placed f (lt (limit_for table f).max_bandwidth_hz c.width)) ≡ true → Placed
-        go (At i) p q =
-            let n = wide (At i) (lt (limit_for table (At i)).max_bandwidth_hz c.width) q in
+        go (Some i) p q =
+            let n = wide (Some i) (lt (limit_for table (Some i)).max_bandwidth_hz c.width) q in
             record {
               segment = i;
               found = p;
               narrow = n;
               inside =
-                  inside_of K band (segment_at table i) (sym (ap (λ (b : Bool). allows (placed (At i) b)) n) ∙ q);
+                  inside_of K band (segment_at table i) (sym (ap (λ (b : Bool). allows (placed (Some i) b)) n) ∙ q);
             }
-        go Nothing p q =
-            let n = wide Nothing (lt (limit_for table Nothing).max_bandwidth_hz c.width) q in
+        go None p q =
+            let n = wide None (lt (limit_for table None).max_bandwidth_hz c.width) q in
             absurd
             (false≢true
-            (sym (outside_blocked band) ∙ sym (ap (λ (b : Bool). allows (placed Nothing b)) n) ∙ q))
+            (sym (outside_blocked band) ∙ sym (ap (λ (b : Bool). allows (placed None b)) n) ∙ q))
 
   -- ---- the band
 
@@ -246,10 +238,10 @@ module _ (table : Table) (c : Case) where
   abbrev pub excluded_here : ℕ → Bool
   excluded_here band = c.automatic && some_in table excluded (OfBand band)
 
-  abbrev banded : ℕ → Bool → Found → Decision
+  abbrev banded : ℕ → Bool → Option ℕ → Decision
   banded band a f =
       cond a
-      (on_found f (λ x. simple_of (draft_of c (Band band)) Blocked AutomaticExcluded (excluded_of (table.at excluded x)).rule)
+      (on_found f (λ x. simple_of (draft_of c (Some band)) Blocked AutomaticExcluded (excluded_of (table.at excluded x)).rule)
       (judge_on_band table c band (channels_of table.general)))
       (judge_on_band table c band (channels_of table.general))
 
@@ -257,41 +249,41 @@ module _ (table : Table) (c : Case) where
   unfolding judge_in_band
   in_band band e = go c.automatic (first_in table excluded (OfBand band)) e
     where
-      go : (a : Bool) (f : Found) → (a && is_at f) ≡ false → banded band a f ≡ judge_on_band table c band (channels_of table.general)
-      go true (At i) e = absurd (true≢false e)
-      go true Nothing e = refl
+      go : (a : Bool) (f : Option ℕ) → (a && is_at f) ≡ false → banded band a f ≡ judge_on_band table c band (channels_of table.general)
+      go true (Some i) e = absurd (true≢false e)
+      go true None e = refl
       go false f e = refl
 
   in_band_of : (band : ℕ) → allows (judge_in_band table c band) ≡ true → excluded_here band ≡ false
   unfolding judge_in_band
   in_band_of band e = go c.automatic (first_in table excluded (OfBand band)) e
     where
-      go : (a : Bool) (f : Found) → allows (banded band a f) ≡ true → (a && is_at f) ≡ false
-      go true (At i) e =
-          absurd (false≢true (sym (simple_blocked (draft_of c (Band band)) AutomaticExcluded (excluded_of (table.at excluded i)).rule) ∙ e))
-      go true Nothing e = refl
+      go : (a : Bool) (f : Option ℕ) → allows (banded band a f) ≡ true → (a && is_at f) ≡ false
+      go true (Some i) e =
+          absurd (false≢true (sym (simple_blocked (draft_of c (Some band)) AutomaticExcluded (excluded_of (table.at excluded i)).rule) ∙ e))
+      go true None e = refl
       go false f e = refl
 
   -- what makes data lawful
   pub record Judged : Type 0 where
     pub band : ℕ
-    pub found : first_in table bands (Holds c.guarded) ≡ At band
+    pub found : first_in table bands (Holds c.guarded) ≡ Some band
     pub not_excluded : excluded_here (band_at table band).band ≡ false
     pub place : Placed
 
   -- the first band that holds the signal is none of the channel band's
   abbrev pub OffChannels : Type 0
   OffChannels =
-      (b : ℕ) → first_in table bands (Holds c.guarded) ≡ At b
+      (b : ℕ) → first_in table bands (Holds c.guarded) ≡ Some b
       → is_outside table.general.flags table.general.channel_band (band_at table b).band ≡ true
 
   module _ (K : Comparable (elsewhere_of table.general) c.width) (off : OffChannels) (kind : c.kind ≡ Data) where
-    abbrev judged_at : Found → Decision
+    abbrev judged_at : Option ℕ → Decision
     judged_at f =
         on_found f (λ b. judge_in_band table c (band_at table b).band) (simple_of (draft_of c (touching table c)) Blocked OutOfBand §97-301)
 
     off_band :
-        (b : ℕ) → first_in table bands (Holds c.guarded) ≡ At b → excluded_here (band_at table b).band ≡ false
+        (b : ℕ) → first_in table bands (Holds c.guarded) ≡ Some b → excluded_here (band_at table b).band ≡ false
         → judge_in_band table c (band_at table b).band ≡ off_sixty table c (band_at table b).band Data
     off_band b f x =
         in_band (band_at table b).band x ∙ on_band_holds table.general (band_at table b).band (off b f)
@@ -300,7 +292,7 @@ module _ (table : Table) (c : Case) where
     pub judged_in : Judged → allows (judge table c) ≡ true
     unfolding judge
     judged_in w =
-        ap (λ (f : Found). allows (judged_at f)) w.found
+        ap (λ (f : Option ℕ). allows (judged_at f)) w.found
         ∙ ap allows (off_band w.band w.found w.not_excluded)
         ∙ data_in K (band_at table w.band).band w.place
 
@@ -308,8 +300,8 @@ module _ (table : Table) (c : Case) where
     unfolding judge
     judged_of_holds e = go (first_in table bands (Holds c.guarded)) refl e
       where
-        go : (f : Found) → first_in table bands (Holds c.guarded) ≡ f → allows (judged_at f) ≡ true → Judged
-        go (At b) p q =
+        go : (f : Option ℕ) → first_in table bands (Holds c.guarded) ≡ f → allows (judged_at f) ≡ true → Judged
+        go (Some b) p q =
             let x = in_band_of (band_at table b).band q in
             record {
               band = b;
@@ -317,4 +309,4 @@ module _ (table : Table) (c : Case) where
               not_excluded = x;
               place = data_of_holds K (band_at table b).band (sym (ap allows (off_band b p x)) ∙ q);
             }
-        go Nothing p q = absurd (false≢true (sym (simple_blocked (draft_of c (touching table c)) OutOfBand §97-301) ∙ q))
+        go None p q = absurd (false≢true (sym (simple_blocked (draft_of c (touching table c)) OutOfBand §97-301) ∙ q))

@@ -1,6 +1,6 @@
 -- When a dial lies in a row outside the channel band: exactly if some data segment and some privilege that may use it hold the guarded
 -- signal there, and, where the list is cut to them, some automatic segment does.
-use Rattle.std.specs.Prelude.{ℕ, ◌<◌, Bool, cond, ◌&&◌, ◌||◌, List, [], ◌≡◌, Float}
+use Rattle.std.specs.Prelude.{ℕ, ◌<◌, Bool, cond, ◌&&◌, ◌||◌, List, [], ◌≡◌, Float, Option, Some, None}
 use Rattle.std.proofs.Math.Bool.{true, false, or-false}
 use Rattle.std.proofs.Common.{true≢false, sym, ◌∙◌, arith}
 use Rattle.std.proofs.lemmas.Bool.{false≢true}
@@ -8,13 +8,9 @@ use Rattle.std.proofs.Math.Path.{refl}
 use Rattle.std.specs.Float.Ieee.{le}
 use Rattle.profile.specs.Range.{holds_of, lengthy, common_of, intersect_of}
 use Rattle.profile.specs.declared.Range.{Range}
-use Rattle.profile.specs.declared.Shared.TheVariants.{Stretch, Nothing}
 use Rattle.air.specs.Air.{rf_range_of, guarded_of, dial_ends_of}
-use Rattle.air.specs.declared.DialRange.TheVariants.{Dials, NoDial}
 use Rattle.scan.specs.First.{first, some, is_at}
 use Rattle.scan.specs.Laws.{first_at, some_true, and_true}
-use Rattle.scan.specs.declared.Found.{Found}
-use Rattle.scan.specs.declared.Found.TheVariants.{At, Nothing as NotFound}
 use Rattle.layout.specs.Layout.{segments, privileges, automatic, tables}
 use Rattle.layout.specs.declared.Record.{Record}
 use Rattle.table.specs.Table.{Table}
@@ -38,17 +34,17 @@ use Rattle.demand_3.specs.Dial.{RowEnd, guarded_ends, dial_low_holds, dial_high_
 
 -- ---- a scan that found one
 
-pub record Some (test : ℕ → Bool) (n : ℕ) : Type 0 where
+pub record Passing (test : ℕ → Bool) (n : ℕ) : Type 0 where
   pub index : ℕ
   pub below : index < n
   pub passes : test index ≡ true
 
-pub some_index : (test : ℕ → Bool) (n : ℕ) → some test n ≡ true → Some test n
+pub some_index : (test : ℕ → Bool) (n : ℕ) → some test n ≡ true → Passing test n
 some_index test n e = go (first test n) refl e
   where
-    go : (f : Found) → first test n ≡ f → is_at f ≡ true → Some test n
-    go (At i) p q = let h = first_at test n i p in record { index = i; below = h.below; passes = h.passes }
-    go NotFound p q = absurd (false≢true q)
+    go : (f : Option ℕ) → first test n ≡ f → is_at f ≡ true → Passing test n
+    go (Some i) p q = let h = first_at test n i p in record { index = i; below = h.below; passes = h.passes }
+    go None p q = absurd (false≢true q)
 
 pub asks_holds : (a : Range) (r : Record) → asks (Holds a) r ≡ holds_of (span_of r) a
 unfolding asks
@@ -123,7 +119,7 @@ module _ (flags channel : ℕ) (q : Request) (dial : Float) (D : Figure dial) (M
       where
         go :
             (b : Bool)
-            → any_row (lies flags channel dial) (dial_rows band rule piece (cond b (Dials dials) NoDial)) ≡ true
+            → any_row (lies flags channel dial) (dial_rows band rule piece (cond b (Some dials) None)) ≡ true
             → (is_outside flags channel band ≡ true) × (holds_of piece (guarded_at q dial) ≡ true)
         go true e =
             let r = all_of (is_outside flags channel band) (le dials.low_hz dials.high_hz) low high e in
@@ -157,7 +153,7 @@ module _ (flags channel : ℕ) (q : Request) (dial : Float) (D : Figure dial) (M
         → listed (on_shared (intersect_of a b) f) ≡ true → X
     shared_of a b FA FB f X next e = go (lengthy (common_of a b)) e
       where
-        go : (t : Bool) → listed (on_shared (cond t (Stretch (common_of a b)) Nothing) f) ≡ true → X
+        go : (t : Bool) → listed (on_shared (cond t (Some (common_of a b)) None) f) ≡ true → X
         go true e = next (common_of a b) (common_figures a b FA FB) (holds_common a b signal (ends FA) (ends FB) signal_ends) e
         go false e = absurd (false≢true e)
 
@@ -168,7 +164,7 @@ module _ (flags channel : ℕ) (q : Request) (dial : Float) (D : Figure dial) (M
     cut_in s piece P o h auto = go (cut q) auto
       where
         inside :
-            Some (λ i. asks (Holds signal) (table.at automatic i)) (table.count automatic)
+            Passing (λ i. asks (Holds signal) (table.at automatic i)) (table.count automatic)
             → listed (each (table.count automatic) (automatic_rows_at table q s.band piece)) ≡ true
         inside a =
             any_each_in (lies flags channel dial) (table.count automatic) (automatic_rows_at table q s.band piece) a.index a.below

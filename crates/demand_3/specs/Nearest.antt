@@ -1,6 +1,6 @@
 -- The least distance over rows whose ends are on the grid: nought exactly if the dial lies in one of them, and none listed if none counts.
 use Prim.Native.Nat.{ℕ, zero, suc, ◌+◌, ◌*◌, ◌≤◌, ◌<◌}
-use Rattle.std.specs.Prelude.{Bool, not, cond, ◌&&◌, List, ◌≡◌}
+use Rattle.std.specs.Prelude.{Option, Some, None, Ok, Bool, not, cond, ◌&&◌, List, ◌≡◌}
 use Rattle.std.proofs.Math.Bool.{true, false}
 use Rattle.std.proofs.Common.{true≢false, sym, ap, subst, ◌∙◌, arith, eqb-true, eq-eqb, ne_eqb}
 use Rattle.std.proofs.lemmas.Bool.{false≢true}
@@ -16,13 +16,11 @@ use Rattle.eighths.specs.Laws.{zero_eighths, eq_eighths}
 use Rattle.exact.specs.Air.{distance, distance_above}
 use Rattle.rows.specs.Rows.{row_size, low_at, high_at, row_band}
 use Rattle.distance.specs.Distance.{is_outside, counts, distance_to, nearer_of, considered_at, least_up_to}
-use Rattle.distance.specs.declared.Distance.{Distance}
-use Rattle.distance.specs.declared.Distance.TheVariants.{Hertz, NoneListed, Refused as NoAnswer}
 use Rattle.demand_3.specs.Words.{nought, answers}
 use Rattle.demand_3.specs.Tests.{and_both, same}
 use Rattle.demand_3.specs.Order.{Grid, grid, figure_grid, lt_true, lt_false, le_by_lt}
 use Rattle.demand_3.specs.Dial.{RowEnd}
-use Rattle.demand_3.specs.Listed.{Some, some_index}
+use Rattle.demand_3.specs.Listed.{Passing, some_index}
 
 abbrev nil : Grid zero_hz
 nil = grid zero_eighths
@@ -118,13 +116,12 @@ module _ (dial : Float) (flags channel : ℕ) (rows : List ℕ) where
   -- the least of the first n rows
   record Least (d : Float) (n : ℕ) : Type 0 where
     size : Size d
-    nought_of : eq d zero_hz ≡ true → Some lies_at n
+    nought_of : eq d zero_hz ≡ true → Passing lies_at n
     of_nought : (i : ℕ) → i < n → lies_at i ≡ true → eq d zero_hz ≡ true
 
-  abbrev LeastOf : Distance → ℕ → Type 0
-  LeastOf (Hertz d) n = Least d n
-  LeastOf NoneListed n = (i : ℕ) → i < n → counts_at i ≡ false
-  LeastOf (NoAnswer k) n = ⊥
+  abbrev LeastOf : Option Float → ℕ → Type 0
+  LeastOf (Some d) n = Least d n
+  LeastOf None n = (i : ℕ) → i < n → counts_at i ≡ false
 
   -- an index below n + 1 is n or below n
   last_or : (n : ℕ) (P : ℕ → Type 0) → P n → ((i : ℕ) → i < n → P i) → (i : ℕ) → i < suc n → P i
@@ -134,7 +131,7 @@ module _ (dial : Float) (flags channel : ℕ) (rows : List ℕ) where
       go (yes k) = before i k
       go (no k) = let e : n ≡ i = omega arith in subst P e here
 
-  more : {n : ℕ} → Some lies_at n → Some lies_at (suc n)
+  more : {n : ℕ} → Passing lies_at n → Passing lies_at (suc n)
   more s = record { index = s.index; below = omega (arith, s.below); passes = s.passes }
 
   -- a row that counts
@@ -142,23 +139,22 @@ module _ (dial : Float) (flags channel : ℕ) (rows : List ℕ) where
     abbrev by : Float
     by = distance_to dial (low_of n) (high_of n)
 
-    here : eq by zero_hz ≡ true → Some lies_at (suc n)
+    here : eq by zero_hz ≡ true → Passing lies_at (suc n)
     here e =
         record { index = n; below = omega arith; passes = and_both (counts_at n) (between dial (low_of n) (high_of n)) c (sym N.exactly ∙ e) }
 
     nought_here : lies_at n ≡ true → eq by zero_hz ≡ true
     nought_here e = N.exactly ∙ (and_true (counts_at n) (between dial (low_of n) (high_of n)) e).1
 
-    counted : (best : Distance) → LeastOf best n → LeastOf (nearer_of best by) (suc n)
-    counted NoneListed before =
+    counted : (best : Option Float) → LeastOf best n → LeastOf (nearer_of best by) (suc n)
+    counted None before =
         record {
           size = N.size;
           nought_of = here;
           of_nought = last_or n (λ i. lies_at i ≡ true → eq by zero_hz ≡ true) nought_here
               (λ i h e. absurd (true≢false (sym (and_true (counts_at i) (between dial (low_of i) (high_of i)) e).0 ∙ before i h)));
         }
-    counted (NoAnswer k) before = absurd before
-    counted (Hertz a) before = go (lt by a) refl
+    counted (Some a) before = go (lt by a) refl
       where
         A : Size a
         A = before.size
@@ -166,7 +162,7 @@ module _ (dial : Float) (flags channel : ℕ) (rows : List ℕ) where
         B : Size by
         B = N.size
 
-        go : (b : Bool) → lt by a ≡ b → LeastOf (cond b (Hertz by) (Hertz a)) (suc n)
+        go : (b : Bool) → lt by a ≡ b → LeastOf (Some (cond b by a)) (suc n)
         go true l =
             record {
               size = B;
@@ -190,10 +186,9 @@ module _ (dial : Float) (flags channel : ℕ) (rows : List ℕ) where
             }
 
   -- a row that does not
-  passed : (n : ℕ) → counts_at n ≡ false → (best : Distance) → LeastOf best n → LeastOf best (suc n)
-  passed n c NoneListed before = last_or n (λ i. counts_at i ≡ false) c before
-  passed n c (NoAnswer k) before = absurd before
-  passed n c (Hertz a) before =
+  passed : (n : ℕ) → counts_at n ≡ false → (best : Option Float) → LeastOf best n → LeastOf best (suc n)
+  passed n c None before = last_or n (λ i. counts_at i ≡ false) c before
+  passed n c (Some a) before =
       record {
         size = before.size;
         nought_of = λ e. more (before.nought_of e);
@@ -212,7 +207,7 @@ module _ (dial : Float) (flags channel : ℕ) (rows : List ℕ) where
       least_of (suc n) h = go (counts_at n) refl (least_up_to dial flags channel rows n) (least_of n (omega arith))
         where
           go :
-              (b : Bool) → counts_at n ≡ b → (best : Distance) → LeastOf best n
+              (b : Bool) → counts_at n ≡ b → (best : Option Float) → LeastOf best n
               → LeastOf (cond b (nearer_of best (distance_to dial (low_of n) (high_of n))) best) (suc n)
           go true c best before =
               let e = E n (omega arith) (and_true (is_outside flags channel (row_band_of n)) (le (low_of n) (high_of n)) c).0 in
@@ -220,43 +215,28 @@ module _ (dial : Float) (flags channel : ℕ) (rows : List ℕ) where
           go false c best before = passed n c best before
 
       -- Nought exactly if the dial lies in a row that counts.
-      pub least_nought : nought (least_up_to dial flags channel rows count) ≡ some lies_at count
+      pub least_nought : nought (Ok (least_up_to dial flags channel rows count)) ≡ some lies_at count
       least_nought = go (least_up_to dial flags channel rows count) (least_of count (omega arith))
         where
-          go : (best : Distance) → LeastOf best count → nought best ≡ some lies_at count
-          go (Hertz d) L =
+          go : (best : Option Float) → LeastOf best count → nought (Ok best) ≡ some lies_at count
+          go (Some d) L =
               same (eq d zero_hz) (some lies_at count) (λ e. let s = L.nought_of e in some_true lies_at count s.index s.below s.passes)
               (λ e. let s = some_index lies_at count e in L.of_nought s.index s.below s.passes)
-          go NoneListed L =
+          go None L =
               same false (some lies_at count) (λ e. absurd (false≢true e))
               (λ e.
               let s = some_index lies_at count e in
               absurd
               (true≢false
               (sym (and_true (counts_at s.index) (between dial (low_of s.index) (high_of s.index)) s.passes).0 ∙ L s.index s.below)))
-          go (NoAnswer k) L = absurd L
 
   -- None listed if no row counts.
-  pub least_none : (n : ℕ) → ((i : ℕ) → i < n → counts_at i ≡ false) → least_up_to dial flags channel rows n ≡ NoneListed
+  pub least_none : (n : ℕ) → ((i : ℕ) → i < n → counts_at i ≡ false) → least_up_to dial flags channel rows n ≡ None
   unfolding least_up_to considered_at
   least_none zero h = refl
   least_none (suc n) h = rw (h n (omega arith)) (least_none n (λ i k. h i (omega arith)))
 
-  -- The least is an answer.
-  pub least_answers : (n : ℕ) → answers (least_up_to dial flags channel rows n) ≡ true
-  unfolding least_up_to considered_at
-  least_answers zero = refl
-  least_answers (suc n) = go (counts_at n) (least_up_to dial flags channel rows n) (least_answers n)
-    where
-      by : Float
-      by = distance_to dial (low_of n) (high_of n)
-
-      nearer : (b : Bool) (a : Float) → answers (cond b (Hertz by) (Hertz a)) ≡ true
-      nearer true a = refl
-      nearer false a = refl
-
-      go : (b : Bool) (best : Distance) → answers best ≡ true → answers (cond b (nearer_of best by) best) ≡ true
-      go true (Hertz a) e = nearer (lt by a) a
-      go true NoneListed e = refl
-      go true (NoAnswer k) e = e
-      go false best e = e
+-- The least is an answer.
+pub least_answers : (best : Option Float) → answers (Ok best) ≡ true
+least_answers (Some d) = refl
+least_answers None = refl

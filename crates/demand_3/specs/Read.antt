@@ -1,6 +1,6 @@
 -- The rows as the distance reads them: from the bytes that the list call leaves, the distance is nought exactly if the dial lies in a row
 -- that counts.
-use Rattle.std.specs.Prelude.{ℕ, zero, suc, ◌*◌, ◌<◌, Bool, true, false, ◌||◌, List, [], ◌∷◌, ◌++◌, ◌≡◌, refl, length, get_or, Float}
+use Rattle.std.specs.Prelude.{ℕ, zero, suc, ◌*◌, ◌<◌, Bool, true, false, ◌||◌, List, [], ◌∷◌, ◌++◌, ◌≡◌, refl, length, get_or, Float, Ok}
 use Rattle.std.proofs.lemmas.Bool.{false≢true}
 use Rattle.std.proofs.Common.{sym, ap, subst, ◌∙◌, arith}
 use Rattle.figures.specs.Figure.{zero_hz}
@@ -18,7 +18,7 @@ use Rattle.distance.specs.Distance.{is_outside, least_up_to}
 use Rattle.demand_3.specs.Tests.{same}
 use Rattle.demand_3.specs.Words.{nought}
 use Rattle.demand_3.specs.Dial.{RowEnd}
-use Rattle.demand_3.specs.Listed.{Some, some_index, lies}
+use Rattle.demand_3.specs.Listed.{Passing, some_index, lies}
 use Rattle.demand_3.specs.Rows.{OutsideEnds}
 use Rattle.demand_3.specs.Nearest.{lies_at, least_nought}
 
@@ -37,13 +37,13 @@ any_in test [] i k e = absurd (omega arith)
 any_in test (x ∷ xs) zero k e = or_left (test x) (any_row test xs) e
 any_in test (x ∷ xs) (suc i) k e = or_right (test x) (any_row test xs) (any_in test xs i (omega arith) e)
 
-any_of : (test : SafeDial → Bool) (xs : List SafeDial) → any_row test xs ≡ true → Some (λ i. test (get_or xs i no_row)) (length xs)
+any_of : (test : SafeDial → Bool) (xs : List SafeDial) → any_row test xs ≡ true → Passing (λ i. test (get_or xs i no_row)) (length xs)
 any_of test [] e = absurd (false≢true e)
 any_of test (x ∷ xs) e = go (test x) refl (any_of test xs) e
   where
     go :
-        (b : Bool) → test x ≡ b → (any_row test xs ≡ true → Some (λ i. test (get_or xs i no_row)) (length xs)) → (b || any_row test xs) ≡ true
-        → Some (λ i. test (get_or (x ∷ xs) i no_row)) (suc (length xs))
+        (b : Bool) → test x ≡ b → (any_row test xs ≡ true → Passing (λ i. test (get_or xs i no_row)) (length xs)) → (b || any_row test xs) ≡ true
+        → Passing (λ i. test (get_or (x ∷ xs) i no_row)) (suc (length xs))
     go true p next q = record { index = 0; below = omega arith; passes = p }
     go false p next q = let s = next q in record { index = suc s.index; below = omega (arith, s.below); passes = s.passes }
 
@@ -77,7 +77,7 @@ module _ (dial : Float) (flags channel : ℕ) (ys : List SafeDial) (rest : List 
 
   -- So the distance is nought exactly then.
   rows_nought : Figure dial → Every (OutsideEnds flags channel) ys
-      → nought (least_up_to dial flags channel bytes (length ys)) ≡ any_row (lies flags channel dial) ys
+      → nought (Ok (least_up_to dial flags channel bytes (length ys))) ≡ any_row (lies flags channel dial) ys
   rows_nought D E =
       least_nought dial flags channel bytes (length ys) D
       (λ i h o.
@@ -88,8 +88,8 @@ module _ (dial : Float) (flags channel : ℕ) (ys : List SafeDial) (rest : List 
 -- The same of the rows in their order, as the list call leaves them.
 pub sorted_nought :
     (dial : Float) (flags channel : ℕ) → Figure dial → (xs : List SafeDial) (rest : List ℕ) → Every DialsFit xs → Every (OutsideEnds flags channel) xs
-    → nought (least_up_to dial flags channel (encode_all (sorted xs) ++ rest) (length xs)) ≡ any_row (lies flags channel dial) xs
+    → nought (Ok (least_up_to dial flags channel (encode_all (sorted xs) ++ rest) (length xs))) ≡ any_row (lies flags channel dial) xs
 sorted_nought dial flags channel D xs rest F E =
-    ap (λ (n : ℕ). nought (least_up_to dial flags channel (encode_all (sorted xs) ++ rest) n)) (sym (length_sorted xs))
+    ap (λ (n : ℕ). nought (Ok (least_up_to dial flags channel (encode_all (sorted xs) ++ rest) n))) (sym (length_sorted xs))
     ∙ rows_nought dial flags channel (sorted xs) rest (every_sorted DialsFit xs F) D (every_sorted (OutsideEnds flags channel) xs E)
     ∙ any_sorted (lies flags channel dial) xs

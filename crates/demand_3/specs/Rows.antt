@@ -1,15 +1,13 @@
 -- The whole list: no channel row counts, so a dial lies in a row that counts exactly if it lies in a data row; and both dials of every
 -- row that counts are on the grid.
-use Rattle.std.specs.Prelude.{ℕ, zero, suc, ◌<◌, Bool, true, false, cond, ◌&&◌, ◌||◌, ◌≡◌, refl, Float}
+use Rattle.std.specs.Prelude.{ℕ, zero, suc, ◌<◌, Bool, true, false, cond, ◌&&◌, ◌||◌, ◌≡◌, refl, Float, Some, None}
 use Rattle.std.proofs.Common.{true≢false, sym, ap, ◌∙◌, arith}
 use Rattle.std.proofs.Math.Bool.{or-false}
 use mathlib.Core.List.{List, [], ◌∷◌}
 use Rattle.std.specs.Float.Ieee.{le}
 use Rattle.profile.specs.Range.{lengthy, common_of, intersect_of}
 use Rattle.profile.specs.declared.Range.{Range}
-use Rattle.profile.specs.declared.Shared.TheVariants.{Stretch, Nothing}
 use Rattle.air.specs.Air.{dial_ends_of}
-use Rattle.air.specs.declared.DialRange.TheVariants.{Dials, NoDial}
 use Rattle.layout.specs.Layout.{segments, channels, privileges, automatic}
 use Rattle.table.specs.Table.{Table}
 use Rattle.table.specs.Parts.{span_of, segment_of, privilege_of, channels_of, centre_of}
@@ -99,7 +97,7 @@ module _ (table : Table) (q : Request) (S : Spans table) (M : MarginFigures q.ma
       dials : Range
       dials = dial_ends_of piece q.sideband q.audio q.margin
 
-      go : (b : Bool) → Every RowEnds (dial_rows band rule piece (cond b (Dials dials) NoDial))
+      go : (b : Bool) → Every RowEnds (dial_rows band rule piece (cond b (Some dials) None))
       go true = (
         record {
           low = end_low piece q.audio q.margin P A M q.sideband;
@@ -114,7 +112,7 @@ module _ (table : Table) (q : Request) (S : Spans table) (M : MarginFigures q.ma
       → Every RowEnds (on_shared (intersect_of a b) f)
   shared_ends a b FA FB f h = go (lengthy (common_of a b))
     where
-      go : (t : Bool) → Every RowEnds (on_shared (cond t (Stretch (common_of a b)) Nothing) f)
+      go : (t : Bool) → Every RowEnds (on_shared (cond t (Some (common_of a b)) None) f)
       go true = h (common_of a b) (common_figures a b FA FB)
       go false = tt
 

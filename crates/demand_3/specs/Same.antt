@@ -1,6 +1,6 @@
 -- In a tidy table at most one band, one segment and one privilege of a class hold a signal of positive length, and a segment's band is
 -- the signal's. So what the verdict finds first is what the list has a row for.
-use Rattle.std.specs.Prelude.{ℕ, suc, ◌<◌, ◌≤◌, Bool, not, ◌&&◌, ◌||◌, Float}
+use Rattle.std.specs.Prelude.{ℕ, suc, ◌<◌, ◌≤◌, Bool, not, ◌&&◌, ◌||◌, Float, Option, Some, None}
 use Rattle.std.proofs.Math.Bool.{true, false, cond}
 use Rattle.std.proofs.Common.{true≢false, ◌∙◌}
 use Rattle.std.proofs.Math.Path.{◌≡◌, refl, sym, ap, subst}
@@ -16,8 +16,6 @@ use Rattle.profile.specs.Limit.{allows_of}
 use Rattle.profile.specs.declared.Range.{Range}
 use Rattle.scan.specs.First.{first, on_found}
 use Rattle.scan.specs.Laws.{first_at, first_nothing, some_false, and_true}
-use Rattle.scan.specs.declared.Found.{Found}
-use Rattle.scan.specs.declared.Found.TheVariants.{At, Nothing}
 use Rattle.layout.specs.Layout.{tables, bands, segments, privileges, automatic, excluded}
 use Rattle.table.specs.Table.{Table}
 use Rattle.table.specs.Parts.{span_of, elsewhere_of, segment_of, privilege_of}
@@ -43,12 +41,12 @@ use Rattle.demand_3.specs.Judged.{automatic_met, Judged, OffChannels}
 
 -- ---- the only one that passes is the first
 
-pub first_alone : (test : ℕ → Bool) (n i : ℕ) → i < n → test i ≡ true → ((k : ℕ) → k < n → test k ≡ true → k ≡ i) → first test n ≡ At i
+pub first_alone : (test : ℕ → Bool) (n i : ℕ) → i < n → test i ≡ true → ((k : ℕ) → k < n → test k ≡ true → k ≡ i) → first test n ≡ Some i
 first_alone test n i h e alone = go (first test n) refl
   where
-    go : (f : Found) → first test n ≡ f → f ≡ At i
-    go (At k) p = let w = first_at test n k p in ap At (alone k w.below w.passes)
-    go Nothing p = absurd (true≢false (sym e ∙ first_nothing test n p i h))
+    go : (f : Option ℕ) → first test n ≡ f → f ≡ Some i
+    go (Some k) p = let w = first_at test n k p in ap Some (alone k w.below w.passes)
+    go None p = absurd (true≢false (sym e ∙ first_nothing test n p i h))
 
 -- ---- a tidy table
 
@@ -148,7 +146,7 @@ pub record Match (table : Table) (q : Request) (c : Case) (dial : Float) : Type 
   pub width : q.width_hz ≡ c.width
   pub automatic : q.automatic ≡ c.automatic
   pub elsewhere : q.elsewhere_ok ≡ elsewhere_allows (elsewhere_of table.general) c.width c.direction
-  pub general : (s : ℕ) → too_wide q (segment_of (table.at segments s)) ≡ lt (limit_for table (At s)).max_bandwidth_hz c.width
+  pub general : (s : ℕ) → too_wide q (segment_of (table.at segments s)) ≡ lt (limit_for table (Some s)).max_bandwidth_hz c.width
 
 or_other : (a b : Bool) → (a || b) ≡ true → b ≡ false → a ≡ true
 or_other true b e f = refl
@@ -178,18 +176,18 @@ module _
 
     -- the only record of a table that holds the signal is the first
     found_first :
-        (t : ℕ) → t < tables → two_share table t false ≡ false → (i : ℕ) → i < table.count t → held t i ≡ true → first_in table t (Holds c.guarded) ≡ At i
+        (t : ℕ) → t < tables → two_share table t false ≡ false → (i : ℕ) → i < table.count t → held t i ≡ true → first_in table t (Holds c.guarded) ≡ Some i
     found_first t ht apart i h e =
-        subst (λ (g : Range). first_in table t (Holds g) ≡ At i) (sym m.guarded)
+        subst (λ (g : Range). first_in table t (Holds g) ≡ Some i) (sym m.guarded)
         (first_alone (λ k. asks (Holds signal) (table.at t k)) (table.count t) i h (asks_holds signal (table.at t i) ∙ e)
         (λ k hk ek. alone table S signal G long t ht apart k i hk h (sym (asks_holds signal (table.at t k)) ∙ ek) e))
 
     -- and the first is a record that holds it
-    first_held : (t i : ℕ) → first_in table t (Holds c.guarded) ≡ At i → (i < table.count t) × (held t i ≡ true)
+    first_held : (t i : ℕ) → first_in table t (Holds c.guarded) ≡ Some i → (i < table.count t) × (held t i ≡ true)
     first_held t i e =
         let h =
         first_at (λ k. asks (Holds signal) (table.at t k)) (table.count t) i
-        (subst (λ (g : Range). first_in table t (Holds g) ≡ At i) m.guarded e) in
+        (subst (λ (g : Range). first_in table t (Holds g) ≡ Some i) m.guarded e) in
         (h.below, sym (asks_holds signal (table.at t i)) ∙ h.passes)
 
     -- a segment's band holds what the segment holds
@@ -210,7 +208,7 @@ module _
     unfolding asks
     asked_as p = refl
 
-    abbrev verdict_on : Found → Privileged
+    abbrev verdict_on : Option ℕ → Privileged
     verdict_on f = on_found f (λ p. cond (allows_of (privilege_at table p).emissions Data) Granted Forbidden) Unheld
 
     granted_in :
@@ -222,8 +220,8 @@ module _
         subst (λ (n : ℕ). eqb (table.at privileges p).class n ≡ true) m.class
         (and_true (eqb (table.at privileges p).class q.class) (allows_of (privilege_at table p).emissions Data) u).0 in
         let allows = (and_true (eqb (table.at privileges p).class q.class) (allows_of (privilege_at table p).emissions Data) u).1 in
-        let found : first (asked c.guarded) (table.count privileges) ≡ At p =
-        subst (λ (g : Range). first (asked g) (table.count privileges) ≡ At p) (sym m.guarded)
+        let found : first (asked c.guarded) (table.count privileges) ≡ Some p =
+        subst (λ (g : Range). first (asked g) (table.count privileges) ≡ Some p) (sym m.guarded)
         (first_alone (asked signal) (table.count privileges) p h (asked_as p ∙ and_both _ _ own e)
         (λ k hk ek.
         let both = sym (asked_as k) ∙ ek in
@@ -249,11 +247,11 @@ module _
         forbids true e = refl
         forbids false e = cc
 
-        go : (f : Found) → first (asked c.guarded) (table.count privileges) ≡ f → verdict_on f ≡ Granted → Grant
-        go (At p) g v =
+        go : (f : Option ℕ) → first (asked c.guarded) (table.count privileges) ≡ f → verdict_on f ≡ Granted → Grant
+        go (Some p) g v =
             let h =
             first_at (asked signal) (table.count privileges) p
-            (subst (λ (r : Range). first (asked r) (table.count privileges) ≡ At p) m.guarded g) in
+            (subst (λ (r : Range). first (asked r) (table.count privileges) ≡ Some p) m.guarded g) in
             let both = sym (asked_as p) ∙ h.passes in
             record {
               privilege = p;
@@ -264,7 +262,7 @@ module _
                   (forbids (allows_of (privilege_at table p).emissions Data) v);
               holds = (and_true (eqb (table.at privileges p).class mine) (held privileges p) both).1;
             }
-        go Nothing g v = absurd (unheld v)
+        go None g v = absurd (unheld v)
 
     -- ---- 97.221
 

@@ -1,20 +1,16 @@
 -- Document 01's words for demand 3, each a definition of its own, and the premises by what they are about: the table, the station and the
 -- signal. Tidy is the tidy question's (Rattle.tidy), in eighths the grid's (Rattle.eighths).
-use Rattle.std.specs.Prelude.{ℕ, ◌*◌, ◌<◌, Bool, true, false, not, ◌&&◌, ◌||◌, List, ◌≡◌, eqb, Float}
+use Rattle.std.specs.Prelude.{ℕ, ◌*◌, ◌<◌, Bool, true, false, not, ◌&&◌, ◌||◌, List, ◌≡◌, eqb, Float, Option, Some, None, Result, Ok, Err}
+use Rattle.codes.specs.Refusal.{Checked, refusal_of}
+use Rattle.codes.specs.declared.ControlMode.{ControlMode}
+use Rattle.codes.specs.declared.LicenseClass.{LicenseClass}
+use Rattle.codes.specs.declared.Sideband.{Sideband}
+use Rattle.codes.specs.declared.Refusal.{Refusal}
 use Rattle.std.specs.Float.{binary64}
 use Rattle.std.specs.Float.Ieee.{add, lt, eq}
 use Rattle.figures.specs.Figure.{zero_hz, figure_of, read_hz}
 use Rattle.codes.specs.Code.{bit_of, policy_code}
-use Rattle.codes.specs.Refusal.{refusal_of}
-use Rattle.codes.specs.declared.Checked.{Checked}
-use Rattle.codes.specs.declared.Checked.TheVariants.{Accepted, Refused}
 use Rattle.codes.specs.declared.Policy.TheVariants.{Rules}
-use Rattle.codes.specs.declared.Control.{Control}
-use Rattle.codes.specs.declared.Control.TheVariants.{ControlIs, NoControl}
-use Rattle.codes.specs.declared.License.{License}
-use Rattle.codes.specs.declared.License.TheVariants.{LicenseIs, NoLicense}
-use Rattle.codes.specs.declared.SidebandSet.{SidebandSet}
-use Rattle.codes.specs.declared.SidebandSet.TheVariants.{SidebandIs, NoSideband}
 use Rattle.profile.specs.declared.Range.{Range}
 use Rattle.occupancy.specs.Edges.{range_of}
 use Rattle.occupancy.specs.declared.Edges.{Edges}
@@ -22,8 +18,6 @@ use Rattle.air.specs.Air.{rf_range_of, guarded_of, width_of}
 use Rattle.air.specs.declared.Margins.{Margins}
 use Rattle.scan.specs.First.{some}
 use Rattle.station.specs.Station.{situation_of}
-use Rattle.station.specs.declared.Figure.{Figure}
-use Rattle.station.specs.declared.Figure.TheVariants.{Known, Absent}
 use Rattle.station.specs.declared.StationRecord.{StationRecord}
 use Rattle.station.specs.declared.Situation.{Situation}
 use Rattle.layout.specs.Layout.{tables, bands, power, general_of}
@@ -41,11 +35,7 @@ use Rattle.decision.specs.declared.Verdict.{Verdict}
 use Rattle.decision.specs.declared.Verdict.TheVariants.{Legal, Warning, Blocked}
 use Rattle.decision.specs.declared.Decision.{Decision}
 use Rattle.verdict.specs.Verdict.{evaluate_of}
-use Rattle.dials.specs.declared.DialList.{DialList}
-use Rattle.dials.specs.declared.DialList.TheVariants.{Rows}
 use Rattle.distance.specs.Distance.{distance_of, is_outside}
-use Rattle.distance.specs.declared.Distance.{Distance}
-use Rattle.distance.specs.declared.Distance.TheVariants.{Hertz, NoneListed, Refused as NoAnswer}
 use Rattle.rows.specs.Rows.{row_size, row_band}
 
 -- ---- in eighths: "Hertz figures are those of image, edges, station record and dial asked; watts are none."
@@ -78,9 +68,9 @@ unfoldable pub edges_in_eighths : Edges → Bool
 edges_in_eighths e = range_in_eighths e.power && range_in_eighths e.spectral
 
 -- "at 0 the figure isn't looked at"; negative zero, which reads as zero, is in eighths as zero is
-abbrev pub dial_in_eighths : Figure → Bool
-dial_in_eighths (Known x) = in_eighths x
-dial_in_eighths Absent = true
+abbrev pub dial_in_eighths : Option Float → Bool
+dial_in_eighths (Some x) = in_eighths x
+dial_in_eighths None = true
 
 abbrev pub margins_in_eighths : Margins → Bool
 margins_in_eighths m = in_eighths m.lower_hz && in_eighths m.upper_hz
@@ -113,8 +103,8 @@ audio_of table e = range_of e (reading_of table.general)
 -- ---- in force: "A table is in force if the policy is Rules and no image check refuses it."
 
 abbrev pub accepted : Checked → Bool
-accepted Accepted = true
-accepted (Refused n) = false
+accepted (Ok tt) = true
+accepted (Err n) = false
 
 abbrev pub rules_in_force : Situation → Bool
 rules_in_force s = eqb (policy_code s.policy) (policy_code Rules)
@@ -125,21 +115,21 @@ unrefused table = accepted (refusal_of (content_tests table))
 
 -- ---- prerequisites: "Prerequisites are met if none of the five tests fails, in the list call or in the verdict."
 
-abbrev pub has_control : Control → Bool
-has_control (ControlIs c) = true
-has_control NoControl = false
+abbrev pub has_control : Option ControlMode → Bool
+has_control (Some c) = true
+has_control None = false
 
-abbrev pub has_license : License → Bool
-has_license (LicenseIs c) = true
-has_license NoLicense = false
+abbrev pub has_license : Option LicenseClass → Bool
+has_license (Some c) = true
+has_license None = false
 
-abbrev pub has_sideband : SidebandSet → Bool
-has_sideband (SidebandIs s) = true
-has_sideband NoSideband = false
+abbrev pub has_sideband : Option Sideband → Bool
+has_sideband (Some s) = true
+has_sideband None = false
 
-abbrev pub has_dial : Figure → Bool
-has_dial (Known x) = true
-has_dial Absent = false
+abbrev pub has_dial : Option Float → Bool
+has_dial (Some x) = true
+has_dial None = false
 
 -- region, control, licence, sideband, dial; the list call tests the middle three
 unfoldable pub prerequisites_met : Table → Situation → Bool
@@ -161,9 +151,9 @@ unfoldable pub channel_band_holds : Table → Range → Bool
 channel_band_holds table r = bit_of table.general.flags 2 && some_in table bands (BandHolds table.general.channel_band r)
 
 -- it holds the guarded range of the signal at a dial, on the station's sideband
-abbrev pub channels_hold : Table → Range → Margins → Float → SidebandSet → Bool
-channels_hold table audio margin dial (SidebandIs sideband) = channel_band_holds table (guarded_of margin (rf_range_of dial sideband audio))
-channels_hold table audio margin dial NoSideband = false
+abbrev pub channels_hold : Table → Range → Margins → Float → Option Sideband → Bool
+channels_hold table audio margin dial (Some sideband) = channel_band_holds table (guarded_of margin (rf_range_of dial sideband audio))
+channels_hold table audio margin dial None = false
 
 unfoldable pub on_channel_band : Table → Situation → Range → Float → Bool
 on_channel_band table s audio dial = channels_hold table audio s.margin dial s.sideband
@@ -185,8 +175,8 @@ signal_met table s e = edges_in_eighths e && positive_width s (audio_of table e)
 
 -- ---- fitted: "A list fitted if its call wasn't refused."
 
-abbrev pub Fitted : DialList → ℕ → Type 0
-Fitted answer count = answer ≡ Rows count
+abbrev pub Fitted : Result ℕ Refusal → ℕ → Type 0
+Fitted answer count = answer ≡ Ok count
 
 -- ---- the three answers
 
@@ -205,20 +195,20 @@ abbrev pub allows : Decision → Bool
 allows d = sent d.verdict
 
 -- the distance of a dial from the rows that the list call left
-abbrev pub distance_at : List ℕ → ℕ → List ℕ → Float → Distance
+abbrev pub distance_at : List ℕ → ℕ → List ℕ → Float → Result (Option Float) Refusal
 distance_at l count left dial = distance_of dial (general_of l).flags (general_of l).channel_band count left
 
 -- nought
-abbrev pub nought : Distance → Bool
-nought (Hertz d) = eq d zero_hz
-nought NoneListed = false
-nought (NoAnswer n) = false
+abbrev pub nought : Result (Option Float) Refusal → Bool
+nought (Ok (Some d)) = eq d zero_hz
+nought (Ok None) = false
+nought (Err n) = false
 
 -- a distance or "none listed", and no refusal
-abbrev pub answers : Distance → Bool
-answers (Hertz d) = true
-answers NoneListed = true
-answers (NoAnswer n) = false
+abbrev pub answers : Result (Option Float) Refusal → Bool
+answers (Ok (Some d)) = true
+answers (Ok None) = true
+answers (Err n) = false
 
 -- no row that was left lies outside the channel band
 abbrev pub NoneOutside : List ℕ → ℕ → List ℕ → Type 0
@@ -227,7 +217,7 @@ NoneOutside l count left =
 
 -- ---- the premises, and what demand 3 says
 
-pub record Premises (r : StationRecord) (direction : ℕ) (e : Edges) (l : List ℕ) (count : ℕ) (answer : DialList) (dial : Float) : Type 0 where
+pub record Premises (r : StationRecord) (direction : ℕ) (e : Edges) (l : List ℕ) (count : ℕ) (answer : Result ℕ Refusal) (dial : Float) : Type 0 where
   pub table : table_met (table_of l) ≡ true
   -- at the dial asked; the list's own dial is in eighths too
   pub station : station_met (table_of l) (situation_of (tuned r dial)) ≡ true
@@ -235,7 +225,7 @@ pub record Premises (r : StationRecord) (direction : ℕ) (e : Edges) (l : List 
   pub signal : signal_met (table_of l) (situation_of r) (edges_read e) ≡ true
   pub fitted : Fitted answer count
   -- the gate does not refuse the dial
-  pub not_refused : (verdict_at r direction e l dial).refusal ≡ Accepted
+  pub not_refused : (verdict_at r direction e l dial).refusal ≡ Ok tt
   pub off_channels : on_channel_band (table_of l) (situation_of r) (audio_of (table_of l) (edges_read e)) (read_hz dial) ≡ false
 
 pub record Demand3 (r : StationRecord) (direction : ℕ) (e : Edges) (l : List ℕ) (count : ℕ) (left : List ℕ) (dial : Float) : Type 0 where
@@ -246,5 +236,5 @@ pub record Demand3 (r : StationRecord) (direction : ℕ) (e : Edges) (l : List �
   -- with none listed the answer says so and is not nought, and the gate blocks data at that dial
   pub none_listed :
       NoneOutside l count left
-      → (distance_at l count left dial ≡ NoneListed) × (nought (distance_at l count left dial) ≡ false)
+      → (distance_at l count left dial ≡ Ok None) × (nought (distance_at l count left dial) ≡ false)
       × ((verdict_at r direction e l dial).verdict ≡ Blocked)

@@ -1,6 +1,7 @@
 -- Demand 3 over the exports: of the flat answers that the library hands out, distance_hz is nought exactly when the verdict is not 2, and
 -- with none listed it is not nought. No mark is looked at.
-use Rattle.std.specs.Prelude.{ℕ, true, false, not, List, ◌≡◌, refl, eqb, Float}
+use Rattle.std.specs.Prelude.{ℕ, Bool, true, false, not, List, ◌≡◌, refl, eqb, Float, Option, Some, None, Result, Ok, Err}
+use Rattle.codes.specs.declared.Refusal.{Refusal}
 use Rattle.std.proofs.Common.{true≢false, sym, ap, ◌∙◌, arith}
 use Rattle.std.specs.Float.Ieee.{eq, of_bits}
 use Rattle.figures.specs.Figure.{zero_hz, read_hz}
@@ -10,15 +11,11 @@ use Rattle.layout.specs.Layout.{general_of}
 use Rattle.table.specs.Table.{table_of}
 use Rattle.entry.specs.Entry.{edges_read}
 use Rattle.tidy.specs.Tidy.{tidy_of}
-use Rattle.tidy.specs.declared.Tidiness.{Tidiness}
-use Rattle.tidy.specs.declared.Tidiness.TheVariants.{Tidy, Untidy, NotJudged}
 use Rattle.decision.specs.Number.{verdict_number}
 use Rattle.decision.specs.declared.Verdict.{Verdict}
 use Rattle.decision.specs.declared.Verdict.TheVariants.{Legal, Warning, Blocked}
 use Rattle.verdict.specs.Verdict.{evaluate_of}
 use Rattle.distance.specs.Distance.{distance_of}
-use Rattle.distance.specs.declared.Distance.{Distance}
-use Rattle.distance.specs.declared.Distance.TheVariants.{Hertz, NoneListed, Refused as NoAnswer}
 use Rattle.demand_3.specs.Words.{table_in_eighths, dial_in_eighths, tuned, audio_of, on_channel_band, station_met}
 use Rattle.demand_3.specs.Words.{signal_met, verdict_at, sent, allows, distance_at, nought, answers, NoneOutside}
 use Rattle.demand_3.specs.Grounds.{tidy_met}
@@ -80,21 +77,21 @@ pub record FlatDemand3 (verdict : FlatDecision) (distance : FlatDistance) (l : L
 
 -- ---- the flat parts by the others
 
-tidy_flat : (t : Tidiness) → (tidiness_flat t).tidy ≡ 1 → t ≡ Tidy
-tidy_flat Tidy e = refl
-tidy_flat Untidy e = absurd (omega (arith, e))
-tidy_flat (NotJudged n) e = absurd (omega (arith, e))
+tidy_flat : (t : Result Bool Refusal) → (tidiness_flat t).tidy ≡ 1 → t ≡ Ok true
+tidy_flat (Ok true) e = refl
+tidy_flat (Ok false) e = absurd (omega (arith, e))
+tidy_flat (Err n) e = absurd (omega (arith, e))
 
-nought_flat : (d : Distance) → eq (distance_flat d).distance_hz zero_hz ≡ nought d
+nought_flat : (d : Result (Option Float) Refusal) → eq (distance_flat d).distance_hz zero_hz ≡ nought d
 unfolding eq of_bits
-nought_flat (Hertz x) = refl
-nought_flat NoneListed = refl
-nought_flat (NoAnswer n) = refl
+nought_flat (Ok (Some x)) = refl
+nought_flat (Ok None) = refl
+nought_flat (Err n) = refl
 
-answered_flat : (d : Distance) → answers d ≡ true → (distance_flat d).refusal ≡ 0
-answered_flat (Hertz x) e = refl
-answered_flat NoneListed e = refl
-answered_flat (NoAnswer n) e = absurd (true≢false (sym e))
+answered_flat : (d : Result (Option Float) Refusal) → answers d ≡ true → (distance_flat d).refusal ≡ 0
+answered_flat (Ok (Some x)) e = refl
+answered_flat (Ok None) e = refl
+answered_flat (Err n) e = absurd (true≢false (sym e))
 
 sent_flat : (v : Verdict) → not (eqb (verdict_number v) 2) ≡ sent v
 sent_flat Legal = refl
@@ -141,7 +138,7 @@ demand_3_flat s direction e l lent left list dial L P =
           ∙ sym (sent_flat (evaluate_of (station_record_of (tuned_flat s dial)) 0 direction (edges_of e) l).verdict);
       none_listed = λ none.
           let n = D.none_listed none in (
-            ap (λ (d : Distance). (distance_flat d).listed) n.0,
+            ap (λ (d : Result (Option Float) Refusal). (distance_flat d).listed) n.0,
             nought_flat distance ∙ n.1,
             ap (λ d. verdict_number d.verdict) verdict ∙ ap verdict_number n.2,
           );

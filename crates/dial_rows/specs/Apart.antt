@@ -1,12 +1,11 @@
 -- Ranges that lie apart by the bits of their ends share nothing, so a list asks no more of such a pair.
-use Rattle.std.specs.Prelude.{ℕ, ◌≤◌, Bool, true, false, cond, ◌&&◌, ◌||◌, ◌≡◌, refl, leb}
+use Rattle.std.specs.Prelude.{ℕ, ◌≤◌, Bool, true, false, cond, ◌&&◌, ◌||◌, ◌≡◌, refl, leb, Some, None}
 use Rattle.std.proofs.Common.{ap, ◌∙◌, arith, leb-true}
 use Rattle.std.proofs.lemmas.Bool.{false≢true}
 use Rattle.std.specs.Float.Ieee.{le}
 use Rattle.figures.specs.Figure.{figure_of}
 use Rattle.bit_order.specs.Order.{limit_bits, bits_le}
 use Rattle.profile.specs.Range.{lengthy, common_of, intersect_of}
-use Rattle.profile.specs.declared.Shared.TheVariants.{Stretch, Nothing}
 use Rattle.layout.specs.declared.Record.{Record}
 use Rattle.table.specs.Parts.{span_of}
 use Rattle.apart.specs.Apart.{below_shares, above_shares}
@@ -33,9 +32,9 @@ below_figures high low e = go (leb high low) refl (leb low limit_bits) refl e
     go true a false b t = absurd (false≢true t)
     go false a q b t = absurd (false≢true t)
 
-pub apart_nothing : (a b : Record) → apart_of a b ≡ true → intersect_of (span_of a) (span_of b) ≡ Nothing
+pub apart_nothing : (a b : Record) → apart_of a b ≡ true → intersect_of (span_of a) (span_of b) ≡ None
 apart_nothing a b e =
-    ap (λ (t : Bool). cond t (Stretch (common_of (span_of a) (span_of b))) Nothing)
+    ap (λ (t : Bool). cond t (Some (common_of (span_of a) (span_of b))) None)
     (go (below_bits a.high b.low) refl (below_bits b.high a.low) refl e)
   where
     go :

@@ -1,7 +1,9 @@
 -- Where the privileges of a class lie in their table: none before a first place, none from an end on. The others give no row, so a
 -- search passes over them.
-use Rattle.std.specs.Prelude.{ℕ, suc, ◌+◌, ◌-◌, ◌<◌, ◌≤◌, Bool, false, List, ◌≡◌, eqb}
-use Rattle.std.proofs.Common.{subst, ap, arith}
+use Rattle.std.specs.Prelude.{ℕ, suc, ◌-◌, ◌<◌, ◌≤◌, Bool, false, List, ◌≡◌, eqb, Option, Some, None, unwrap_or}
+use Rattle.std.proofs.Common.{subst, sym, ap, arith}
+use Rattle.scan.specs.First.{first}
+use Rattle.scan.specs.Laws.{first_at, first_nothing}
 use Rattle.std.proofs.Math.Decide.{dec_le}
 use Rattle.layout.specs.Layout.{privileges, record_of, count_of}
 use Rattle.layout.specs.declared.Record.{Record}
@@ -33,20 +35,12 @@ either_way P i k (yes h) f g = f h
 either_way P i k (no h) f g = g (omega arith)
 
 module _ (l : List ℕ) (class : ℕ) where
-  pub ahead_none : Ahead l class 0
-  ahead_none = record { within = omega arith; none = λ i h. absurd (omega arith) }
-
-  pub ahead_step : (k : ℕ) → k < count_of l privileges → Ahead l class k → is_of l class k ≡ false → Ahead l class (k + 1)
-  ahead_step k h a e =
-      record {
-        within = omega arith;
-        none =
-            λ i b. either_way (is_of l class i ≡ false) i k (dec_le (suc i) k) (a.none i)
-            (λ d. let s : k ≡ i = omega arith in subst (λ (j : ℕ). is_of l class j ≡ false) s e);
-      }
-
-  pub past_none : Past l class (count_of l privileges)
-  past_none = record { within = omega arith; none = λ i a b. absurd (omega arith) }
+  -- the first that is the class's, or the end
+  pub ahead_first : (f : Option ℕ) → f ≡ first (is_of l class) (count_of l privileges) → Ahead l class (unwrap_or f (count_of l privileges))
+  ahead_first (Some k) e =
+      let h = first_at (is_of l class) (count_of l privileges) k (sym e) in
+      record { within = omega (arith, h.below); none = h.earlier }
+  ahead_first None e = record { within = omega arith; none = first_nothing (is_of l class) (count_of l privileges) (sym e) }
 
   pub past_step : (k : ℕ) → 0 < k → Past l class k → is_of l class (k - 1) ≡ false → Past l class (k - 1)
   past_step k h p e =

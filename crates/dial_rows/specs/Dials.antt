@@ -1,6 +1,6 @@
 -- The rows of a dial list, before they are sorted, from an accepted table: segment by segment, privilege by privilege, under 97.221(b)
 -- automatic segment by automatic segment, and then the 60 m channels. The margins enter through the guarded range and the dial range.
-use Rattle.std.specs.Prelude.{ℕ, Bool, true, false, not, cond, ◌&&◌, ◌||◌, List, [], ◌∷◌, ◌++◌, eqb, Float}
+use Rattle.std.specs.Prelude.{ℕ, Bool, true, false, not, cond, ◌&&◌, ◌||◌, List, [], ◌∷◌, ◌++◌, eqb, Float, Option, Some, None}
 use Rattle.std.specs.Float.{binary64}
 use Rattle.std.specs.Float.Ieee.{sub, le}
 use Rattle.codes.specs.Code.{class_code}
@@ -13,12 +13,8 @@ use Rattle.codes.specs.declared.EmissionKind.TheVariants.{Data}
 use Rattle.profile.specs.Range.{range, holds_of, intersect_of, channel_range_of}
 use Rattle.profile.specs.Limit.{data_limit_of, allows_of}
 use Rattle.profile.specs.declared.Range.{Range}
-use Rattle.profile.specs.declared.Shared.{Shared}
-use Rattle.profile.specs.declared.Shared.TheVariants.{Stretch, Nothing}
 use Rattle.air.specs.Air.{rf_range_of, guarded_of, width_of, wider, dial_range_of}
 use Rattle.air.specs.declared.Margins.{Margins}
-use Rattle.air.specs.declared.DialRange.{DialRange}
-use Rattle.air.specs.declared.DialRange.TheVariants.{Dials, NoDial}
 use Rattle.scan.specs.First.{some}
 use Rattle.layout.specs.Layout.{segments, channels, privileges, automatic, excluded}
 use Rattle.layout.specs.declared.General.{General}
@@ -28,8 +24,6 @@ use Rattle.table.specs.Parts.{span_of, segment_of, centre_of, privilege_of, data
 use Rattle.table.specs.declared.Segment.{Segment}
 use Rattle.table.specs.declared.Privilege.{Privilege}
 use Rattle.table.specs.declared.Channels.{Channels}
-use Rattle.table.specs.declared.ChannelBand.{ChannelBand}
-use Rattle.table.specs.declared.ChannelBand.TheVariants.{On, NoChannels}
 use Rattle.find.specs.Question.{some_in}
 use Rattle.find.specs.declared.Question.TheVariants.{OfBand}
 use Rattle.automatic_97_221.specs.Automatic.{applies_of, elsewhere_allows}
@@ -66,18 +60,18 @@ safe_dial band rule piece dials =
     }
 
 -- "`dial_range` low ≤ high": else there is no row
-abbrev pub dial_rows : ℕ → ℕ → Range → DialRange → List SafeDial
-dial_rows band rule piece (Dials ends) = safe_dial band rule piece ends ∷ []
-dial_rows band rule piece NoDial = []
+abbrev pub dial_rows : ℕ → ℕ → Range → Option Range → List SafeDial
+dial_rows band rule piece (Some ends) = safe_dial band rule piece ends ∷ []
+dial_rows band rule piece None = []
 
 -- the dials that put the guarded signal inside a piece: (low − audio) + lower margin, in that order
 unfoldable pub piece_rows : Request → ℕ → ℕ → Range → List SafeDial
 piece_rows q band rule piece = dial_rows band rule piece (dial_range_of piece q.sideband q.audio q.margin)
 
 -- what becomes of the stretch that two ranges share: "`intersect` needs low < high"
-abbrev pub on_shared : Shared → (Range → List SafeDial) → List SafeDial
-on_shared (Stretch piece) f = f piece
-on_shared Nothing f = []
+abbrev pub on_shared : Option Range → (Range → List SafeDial) → List SafeDial
+on_shared (Some piece) f = f piece
+on_shared None f = []
 
 -- ---- data segments
 
@@ -181,9 +175,9 @@ channel_rows table q c = each (table.count channels) (channel_rows_at table q c)
 unfoldable pub open_rows : Table → Request → Channels → List SafeDial
 open_rows table q c = cond (channels_open q && channel_found table q) (channel_rows table q c) []
 
-abbrev pub band_rows : Table → Request → ChannelBand → List SafeDial
-band_rows table q (On c) = open_rows table q c
-band_rows table q NoChannels = []
+abbrev pub band_rows : Table → Request → Option Channels → List SafeDial
+band_rows table q (Some c) = open_rows table q c
+band_rows table q None = []
 
 -- ---- the whole list
 

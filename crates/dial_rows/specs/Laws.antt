@@ -1,42 +1,28 @@
 -- How many rows there can be, that their dials are figures of a double and the lower one a number, and the request and its flags by cases.
-use Rattle.std.specs.Prelude.{ℕ, ◌+◌, ◌*◌, ◌≤◌, Bool, true, false, cond, ◌&&◌, ◌||◌, List, [], ◌∷◌, ◌++◌, ◌≡◌, refl, T, length, Float}
+use Rattle.std.specs.Prelude.{ℕ, ◌+◌, ◌*◌, ◌≤◌, Bool, true, false, cond, ◌&&◌, ◌||◌, List, [], ◌∷◌, ◌++◌, ◌≡◌, refl, T, length, Float, Option, Some, None}
 use Rattle.std.proofs.Common.{arith, length-append}
 use Rattle.std.specs.Float.{nan, inf, fin, binary64}
 use Rattle.std.specs.Float.Ieee.{fits, is_nan, add, sub, le}
 use Rattle.std.specs.Float.Ieee.Fits.{add-fits, sub-fits}
-use Rattle.codes.specs.Code.{class_code}
-use Rattle.codes.specs.declared.LicenseClass.{LicenseClass}
-use Rattle.codes.specs.declared.ControlMode.{ControlMode}
-use Rattle.codes.specs.declared.Direction.{Direction}
 use Rattle.codes.specs.declared.Sideband.{Sideband}
 use Rattle.codes.specs.declared.Sideband.TheVariants.{Usb, Lsb}
 use Rattle.profile.specs.Range.{holds_of, intersect_of, channel_range_of}
 use Rattle.profile.specs.declared.Range.{Range}
-use Rattle.profile.specs.declared.Shared.{Shared}
-use Rattle.profile.specs.declared.Shared.TheVariants.{Stretch, Nothing}
-use Rattle.profile.specs.declared.DataLimit.{DataLimit}
 use Rattle.scan.specs.Laws.{and_true}
-use Rattle.air.specs.Air.{rf_range_of, guarded_of, width_of, dial_range_of, dial_ends_of}
+use Rattle.air.specs.Air.{rf_range_of, guarded_of, dial_range_of, dial_ends_of}
 use Rattle.air.specs.declared.Margins.{Margins}
-use Rattle.air.specs.declared.DialRange.{DialRange}
-use Rattle.air.specs.declared.DialRange.TheVariants.{Dials, NoDial}
 use Rattle.layout.specs.Layout.{segments, channels, privileges, automatic, count_of, general_of}
-use Rattle.layout.specs.declared.General.{General}
 use Rattle.layout.specs.Form.{Whole}
 use Rattle.table.specs.Table.{record_in, table_of}
-use Rattle.table.specs.Parts.{span_of, segment_of, centre_of, privilege_of, data_of, elsewhere_of, channels_of}
+use Rattle.table.specs.Parts.{span_of, segment_of, centre_of, privilege_of, channels_of}
 use Rattle.table.specs.declared.Segment.{Segment}
 use Rattle.table.specs.declared.Privilege.{Privilege}
 use Rattle.table.specs.declared.Channels.{Channels}
-use Rattle.table.specs.declared.ChannelBand.{ChannelBand}
-use Rattle.table.specs.declared.ChannelBand.TheVariants.{On, NoChannels}
-use Rattle.table.specs.declared.ElsewhereRule.{ElsewhereRule}
-use Rattle.automatic_97_221.specs.Automatic.{applies_of, elsewhere_allows}
 use Rattle.lists.specs.Each.{each}
 use Rattle.lists.specs.Laws.{Every, each_few, every_append, every_each, every_map}
 use Rattle.rows.specs.Back.{LowNumber}
 use Rattle.rows.specs.declared.SafeDial.{SafeDial}
-use Rattle.dial_rows.specs.Dials.{request_of, dial_rows, piece_rows, on_shared, automatic_rows_at, automatic_rows, cut, cut_rows}
+use Rattle.dial_rows.specs.Dials.{dial_rows, piece_rows, on_shared, automatic_rows_at, automatic_rows, cut, cut_rows}
 use Rattle.dial_rows.specs.Dials.{may_use, privilege_rows, privilege_rows_at, too_wide, excluded_band, privileges_rows}
 use Rattle.dial_rows.specs.Dials.{segment_rows, segment_rows_at, data_rows, channel_dial, channel_holds, channel_safe, channel_row}
 use Rattle.dial_rows.specs.Dials.{channel_rows_at, channels_open, channel_found, channel_rows, open_rows, band_rows, rows_of}
@@ -53,17 +39,17 @@ cond_one : (b : Bool) (x : SafeDial) → length (cond b (x ∷ []) []) ≤ 1
 cond_one true x = omega arith
 cond_one false x = omega arith
 
-dial_few : (band rule : ℕ) (piece : Range) (d : DialRange) → length (dial_rows band rule piece d) ≤ 1
-dial_few band rule piece (Dials ends) = omega arith
-dial_few band rule piece NoDial = omega arith
+dial_few : (band rule : ℕ) (piece : Range) (d : Option Range) → length (dial_rows band rule piece d) ≤ 1
+dial_few band rule piece (Some ends) = omega arith
+dial_few band rule piece None = omega arith
 
 piece_few : (q : Request) (band rule : ℕ) (piece : Range) → length (piece_rows q band rule piece) ≤ 1
 unfolding piece_rows
 piece_few q band rule piece = dial_few band rule piece (dial_range_of piece q.sideband q.audio q.margin)
 
-shared_few : (s : Shared) (f : Range → List SafeDial) (k : ℕ) → ((r : Range) → length (f r) ≤ k) → length (on_shared s f) ≤ k
-shared_few (Stretch piece) f k h = h piece
-shared_few Nothing f k h = omega arith
+shared_few : (s : Option Range) (f : Range → List SafeDial) (k : ℕ) → ((r : Range) → length (f r) ≤ k) → length (on_shared s f) ≤ k
+shared_few (Some piece) f k h = h piece
+shared_few None f k h = omega arith
 
 automatic_at_few : (l : List ℕ) (q : Request) (band : ℕ) (piece : Range) (a : ℕ) → length (automatic_rows_at (table_of l) q band piece a) ≤ 1
 automatic_at_few l q band piece a = shared_few (intersect_of piece (span_of (record_in l automatic a)))
@@ -116,17 +102,20 @@ channel_few : (q : Request) (c : Channels) (centre : Float) → length (channel_
 unfolding channel_row
 channel_few q c centre = cond_one (channel_holds q c centre) (channel_safe c centre)
 
-pub band_few : (l : List ℕ) → Whole l → (q : Request) (b : ChannelBand) → length (band_rows (table_of l) q b) ≤ 256
+pub open_few : (l : List ℕ) → Whole l → (q : Request) (c : Channels) → length (open_rows (table_of l) q c) ≤ 256
 unfolding open_rows channel_rows
-band_few l w q (On c) =
+open_few l w q c =
     let a : length (each (count_of l channels) (channel_rows_at (table_of l) q c)) ≤ count_of l channels * 1 =
     each_few (count_of l channels) 1 (channel_rows_at (table_of l) q c) (λ i. channel_few q c (centre_of (record_in l channels i))) in
     let b : count_of l channels ≤ 256 = w.few channels (omega arith) in
     cond_few (channels_open q && channel_found (table_of l) q) (channel_rows (table_of l) q c) [] 256 (omega arith) (omega arith)
-band_few l w q NoChannels = omega arith
+
+pub band_few : (l : List ℕ) → Whole l → (q : Request) (b : Option Channels) → length (band_rows (table_of l) q b) ≤ 256
+band_few l w q (Some c) = open_few l w q c
+band_few l w q None = omega arith
 
 pub gathered_few :
-    (l : List ℕ) → Whole l → (q : Request) (b : ChannelBand) → length (data_rows (table_of l) q ++ band_rows (table_of l) q b) ≤ 16777472
+    (l : List ℕ) → Whole l → (q : Request) (b : Option Channels) → length (data_rows (table_of l) q ++ band_rows (table_of l) q b) ≤ 16777472
 gathered_few l w q b =
     let s : length (data_rows (table_of l) q ++ band_rows (table_of l) q b) ≡ length (data_rows (table_of l) q) + length (band_rows (table_of l) q b) =
     length-append (data_rows (table_of l) q) (band_rows (table_of l) q b) in
@@ -156,7 +145,7 @@ ends_fit piece Lsb audio margin = (
 
 dial_fit :
     (band rule : ℕ) (piece : Range) (ends : Range) (b : Bool) → RangeFits ends → (b ≡ true → is_nan ends.low_hz ≡ false)
-    → Every DialsFit (dial_rows band rule piece (cond b (Dials ends) NoDial))
+    → Every DialsFit (dial_rows band rule piece (cond b (Some ends) None))
 dial_fit band rule piece ends true h n = ((h.0, h.1, n refl), tt)
 dial_fit band rule piece ends false h n = tt
 
@@ -168,9 +157,9 @@ piece_fit q band rule piece =
     (ends_fit piece q.sideband q.audio q.margin)
     (λ e. (le_number (dial_ends_of piece q.sideband q.audio q.margin).low_hz _ e).0)
 
-shared_fit : (s : Shared) (f : Range → List SafeDial) → ((r : Range) → Every DialsFit (f r)) → Every DialsFit (on_shared s f)
-shared_fit (Stretch piece) f h = h piece
-shared_fit Nothing f h = tt
+shared_fit : (s : Option Range) (f : Range → List SafeDial) → ((r : Range) → Every DialsFit (f r)) → Every DialsFit (on_shared s f)
+shared_fit (Some piece) f h = h piece
+shared_fit None f h = tt
 
 automatic_fit : (l : List ℕ) (q : Request) (band : ℕ) (piece : Range) → Every DialsFit (automatic_rows (table_of l) q band piece)
 unfolding automatic_rows
@@ -223,19 +212,19 @@ channel_fit q c centre =
     one_fit (channel_holds q c centre) (channel_safe c centre)
     (λ e. (f, f, held_number (channel_dial c centre) q.sideband q.audio q.margin (channel_range_of c.width_hz centre) e))
 
-band_fit : (l : List ℕ) (q : Request) (b : ChannelBand) → Every DialsFit (band_rows (table_of l) q b)
+band_fit : (l : List ℕ) (q : Request) (b : Option Channels) → Every DialsFit (band_rows (table_of l) q b)
 unfolding open_rows channel_rows
-band_fit l q (On c) =
+band_fit l q (Some c) =
     cond_fit (channels_open q && channel_found (table_of l) q) (channel_rows (table_of l) q c) []
     (every_each DialsFit (count_of l channels) (channel_rows_at (table_of l) q c) (λ i. channel_fit q c (centre_of (record_in l channels i))))
     tt
-band_fit l q NoChannels = tt
+band_fit l q None = tt
 
-pub gathered_fit : (l : List ℕ) (q : Request) (b : ChannelBand) → Every DialsFit (data_rows (table_of l) q ++ band_rows (table_of l) q b)
+pub gathered_fit : (l : List ℕ) (q : Request) (b : Option Channels) → Every DialsFit (data_rows (table_of l) q ++ band_rows (table_of l) q b)
 gathered_fit l q b = every_append DialsFit (data_rows (table_of l) q) (band_rows (table_of l) q b) (data_fit l q) (band_fit l q b)
 
 -- each lower dial alone, which the insertion reads back and compares
-pub gathered_low : (l : List ℕ) (q : Request) (b : ChannelBand) → Every LowNumber (data_rows (table_of l) q ++ band_rows (table_of l) q b)
+pub gathered_low : (l : List ℕ) (q : Request) (b : Option Channels) → Every LowNumber (data_rows (table_of l) q ++ band_rows (table_of l) q b)
 gathered_low l q b = every_map DialsFit LowNumber (λ x h. (h.0, h.2)) (data_rows (table_of l) q ++ band_rows (table_of l) q b) (gathered_fit l q b)
 
 pub rows_fit : (l : List ℕ) (q : Request) → Every DialsFit (rows_of (table_of l) q)
@@ -243,25 +232,3 @@ unfolding rows_of
 rows_fit l q = gathered_fit l q (channels_of (general_of l))
 
 -- ---- the request, from its parts
-
-pub request_made :
-    (g : General) (license : LicenseClass) (sideband : Sideband) (control : ControlMode) (direction : Direction) (margin : Margins) (audio : Range)
-    (class : ℕ) (width : Float) (automatic : Bool) (elsewhere : ElsewhereRule) (ok : Bool) (d : DataLimit)
-    → class ≡ class_code license → width ≡ width_of audio → automatic ≡ applies_of control direction → elsewhere ≡ elsewhere_of g
-    → ok ≡ elsewhere_allows elsewhere width direction → d ≡ data_of g
-    → ◌≡◌ {A = Request}
-    (record {
-      class = class;
-      sideband = sideband;
-      audio = audio;
-      width_hz = width;
-      margin = margin;
-      automatic = automatic;
-      elsewhere_ok = ok;
-      «data» = d;
-      segments_rule = g.automatic_rule;
-    })
-    (request_of g license sideband control direction margin audio)
-unfolding request_of
-request_made g license sideband control direction margin audio class width automatic elsewhere ok d a b c e f h =
-    rw a (rw f (rw b (rw c (rw e (rw h)))))

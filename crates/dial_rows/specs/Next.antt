@@ -1,6 +1,6 @@
 -- The rows of a segment and of the channels from a place on. A search gives the first of them and the place behind it, so that whoever
 -- asks does with the rows what it will: the list writes them.
-use Rattle.std.specs.Prelude.{ℕ, suc, ◌+◌, ◌*◌, ◌≤◌, ◌<◌, Bool, true, false, ◌&&◌, ◌||◌, ◌≡◌, refl, eqb, ltb, length}
+use Rattle.std.specs.Prelude.{ℕ, suc, ◌+◌, ◌*◌, ◌≤◌, ◌<◌, Bool, true, false, ◌&&◌, ◌||◌, ◌≡◌, refl, eqb, ltb, Option, Some, None}
 use Rattle.std.proofs.Math.Bool.{cond}
 use Rattle.std.proofs.lemmas.Bool.{false≢true}
 use mathlib.Core.List.{List, [], ◌∷◌, ◌++◌}
@@ -9,16 +9,12 @@ use Rattle.std.proofs.Common.{◌∙◌, arith, lt-ltb, le-ltb}
 use Rattle.std.proofs.Math.Decide.{dec_le}
 use Rattle.lists.specs.Each.{each}
 use Rattle.lists.specs.Laws.{each_bare}
-use Rattle.lists.specs.From.{from, from_all, from_each, from_row, from_skip, from_end}
-use Rattle.lists.specs.From.{resume, resume_row, resume_bare, resume_from, resume_over}
+use Rattle.lists.specs.From.{from, from_all, from_each, from_end, resume, resume_row, resume_bare, resume_from, resume_over}
 use Rattle.codes.specs.declared.EmissionKind.TheVariants.{Data}
 use Rattle.profile.specs.Limit.{allows_of}
 use Rattle.profile.specs.Range.{intersect_of}
 use Rattle.profile.specs.declared.Range.{Range}
-use Rattle.profile.specs.declared.Shared.{Shared}
-use Rattle.profile.specs.declared.Shared.TheVariants.{Stretch, Nothing}
 use Rattle.layout.specs.Form.{Whole}
-use Rattle.layout.specs.Laws.{table_within}
 use Rattle.layout.specs.Layout.{record_size, segments, channels, privileges, automatic, record_at, count_of, start_of}
 use Rattle.layout.specs.declared.Record.{Record}
 use Rattle.table.specs.Table.{Table, record_in, table_of}
@@ -27,37 +23,29 @@ use Rattle.table.specs.Parts.{span_of, segment_of, privilege_of}
 use Rattle.table.specs.declared.Segment.{Segment}
 use Rattle.table.specs.declared.Privilege.{Privilege}
 use Rattle.table.specs.declared.Channels.{Channels}
-use Rattle.table.specs.declared.ChannelBand.{ChannelBand}
-use Rattle.table.specs.declared.ChannelBand.TheVariants.{On, NoChannels}
 use Rattle.rows.specs.declared.SafeDial.{SafeDial}
 use Rattle.dial_rows.specs.Dials.{piece_rows, on_shared, automatic_rows_at, automatic_rows, cut, cut_rows, may_use, privilege_rows}
 use Rattle.dial_rows.specs.Dials.{privilege_rows_at, privileges_rows, too_wide, excluded_band, segment_rows, segment_rows_at}
-use Rattle.dial_rows.specs.Dials.{data_rows, channel_rows_at, channel_rows, channels_open, channel_found, open_rows, band_rows}
+use Rattle.dial_rows.specs.Dials.{data_rows, channel_rows_at, channel_rows, channels_open, channel_found, open_rows}
 use Rattle.dial_rows.specs.Class.{is_of, Ahead, Past}
 use Rattle.dial_rows.specs.declared.Request.{Request}
 use Rattle.dial_rows.specs.declared.Search.{Search}
 use Rattle.dial_rows.specs.declared.Spot.{Spot}
-use Rattle.dial_rows.specs.declared.Arise.{Arise}
-use Rattle.dial_rows.specs.declared.Arise.TheVariants.{Row as One, NoRow as NoOne}
-use Rattle.dial_rows.specs.declared.CutRow.{CutRow}
-use Rattle.dial_rows.specs.declared.CutRow.TheVariants.{Row as Cut, NoRow as NoCut}
-use Rattle.dial_rows.specs.declared.SegmentRow.{SegmentRow}
-use Rattle.dial_rows.specs.declared.SegmentRow.TheVariants.{Row as InSegment, NoRow as NotInSegment}
 
 -- ---- what an answer says of the rows
 
-abbrev pub rows_in : Arise → List SafeDial
-rows_in (One x) = x ∷ []
-rows_in NoOne = []
+abbrev pub rows_in : Option SafeDial → List SafeDial
+rows_in (Some x) = x ∷ []
+rows_in None = []
 
 -- the rows from a place on, where `more` says them from the place behind the first
-abbrev pub cut_next : (ℕ → List SafeDial) → CutRow → List SafeDial
-cut_next more (Cut x k) = x ∷ more k
-cut_next more NoCut = []
+abbrev pub cut_next : (ℕ → List SafeDial) → Option (SafeDial × ℕ) → List SafeDial
+cut_next more (Some (x, k)) = x ∷ more k
+cut_next more None = []
 
-abbrev pub segment_next : (Spot → List SafeDial) → SegmentRow → List SafeDial
-segment_next more (InSegment x spot) = x ∷ more spot
-segment_next more NotInSegment = []
+abbrev pub segment_next : (Spot → List SafeDial) → Option (SafeDial × Spot) → List SafeDial
+segment_next more (Some (x, spot)) = x ∷ more spot
+segment_next more None = []
 
 -- ---- the rows from a place on
 
@@ -100,9 +88,9 @@ abbrev pub closed_of : Table → Request → Segment → Bool
 closed_of table q s = too_wide q s || excluded_band table q s
 
 -- how many channels are gone through
-abbrev pub channel_count_of : Table → Request → ChannelBand → ℕ
-channel_count_of table q (On c) = cond (channels_open q && channel_found table q) (table.count channels) 0
-channel_count_of table q NoChannels = 0
+abbrev pub channel_count_of : Table → Request → Option Channels → ℕ
+channel_count_of table q (Some c) = cond (channels_open q && channel_found table q) (table.count channels) 0
+channel_count_of table q None = 0
 
 abbrev pub channels_from : Table → Request → Channels → ℕ → ℕ → List SafeDial
 channels_from table q c n k = from n (channel_rows_at table q c) k
@@ -123,15 +111,15 @@ pub record Known (l : List ℕ) (q : Request) (w : Search) : Type 0 where
   pub channel_most : w.channel_count ≤ count_of l channels
 
 -- and how many channels are gone through
-abbrev pub Searched : List ℕ → Request → ChannelBand → Search → Type 0
+abbrev pub Searched : List ℕ → Request → Option Channels → Search → Type 0
 Searched l q b w = Known l q w × (w.channel_count ≡ channel_count_of (table_of l) q b)
 
 -- ---- rows that are the same from every place on
 
 pub cut_same :
-    (f g : ℕ → List SafeDial) → ((k : ℕ) → f k ≡ g k) → (k : ℕ) (a : CutRow) → g k ≡ cut_next g a → f k ≡ cut_next f a
-cut_same f g h k (Cut x n) e = h k ∙ e ∙ ap (λ (xs : List SafeDial). x ∷ xs) (sym (h n))
-cut_same f g h k NoCut e = h k ∙ e
+    (f g : ℕ → List SafeDial) → ((k : ℕ) → f k ≡ g k) → (k : ℕ) (a : Option (SafeDial × ℕ)) → g k ≡ cut_next g a → f k ≡ cut_next f a
+cut_same f g h k (Some (x, n)) e = h k ∙ e ∙ ap (λ (xs : List SafeDial). x ∷ xs) (sym (h n))
+cut_same f g h k None e = h k ∙ e
 
 -- ---- from the first place on, all rows
 
@@ -145,9 +133,9 @@ unfolding cuts_from cut_rows automatic_rows
 cuts_all table q s piece =
     cuts_by (cut q) (table.count automatic) (automatic_rows_at table q s.band piece) (piece_rows q s.band s.rule piece)
 
-shared_same : (x : Shared) (f g : Range → List SafeDial) → ((r : Range) → f r ≡ g r) → on_shared x f ≡ on_shared x g
-shared_same (Stretch r) f g h = h r
-shared_same Nothing f g h = refl
+shared_same : (x : Option Range) (f g : Range → List SafeDial) → ((r : Range) → f r ≡ g r) → on_shared x f ≡ on_shared x g
+shared_same (Some r) f g h = h r
+shared_same None f g h = refl
 
 privilege_all : (table : Table) (q : Request) (s : Segment) (p : Privilege) → privilege_from table q s p 0 ≡ privilege_rows table q s p
 unfolding privilege_from privilege_rows
@@ -165,41 +153,6 @@ module _ (l : List ℕ) (q : Request) (w : Search) (h : Known l q w) where
   pub cut_below : (k : ℕ) → k < w.cuts → w.cut ≡ true → k < count_of l automatic
   cut_below k m e = many (cut q) (count_of l automatic) k (sym h.is_cut ∙ e) (rw h.cut_count at m)
 
-  pub cut_placed : (k : ℕ) → k < w.cuts → w.cut ≡ true → w.automatic + record_size * k + record_size ≤ length l
-  cut_placed k m e =
-      let b : k < count_of l automatic = cut_below k m e in
-      omega (arith, table_within l h.whole automatic (omega arith), h.automatic_from)
-
-  module _ (s : Segment) (piece : Range) where
-    pub cut_in :
-        (k : ℕ) → k < w.cuts → w.cut ≡ true
-        → automatic_in q s.band piece (record_at l (w.automatic + record_size * k)) ≡ cut_at (table_of l) q s piece k
-    cut_in k m e =
-        ap (automatic_in q s.band piece)
-        (read_in l automatic k w.automatic (record_at l (w.automatic + record_size * k)) (omega arith) (cut_below k m e) h.automatic_from refl)
-        ∙ ap (λ (b : Bool). cond b (automatic_rows_at (table_of l) q s.band piece k) (piece_rows q s.band s.rule piece))
-        (sym (sym h.is_cut ∙ e))
-
-    pub cut_whole : (k : ℕ) → w.cut ≡ false → piece_rows q s.band s.rule piece ≡ cut_at (table_of l) q s piece k
-    cut_whole k e =
-        ap (λ (b : Bool). cond b (automatic_rows_at (table_of l) q s.band piece k) (piece_rows q s.band s.rule piece))
-        (sym (sym h.is_cut ∙ e))
-
-    pub cuts_row :
-        (k : ℕ) (x : SafeDial) → k < w.cuts → cut_at (table_of l) q s piece k ≡ x ∷ []
-        → cuts_from (table_of l) q s piece k ≡ x ∷ cuts_from (table_of l) q s piece (k + 1)
-    unfolding cuts_from
-    cuts_row k x m e = from_row (cuts (table_of l) q) k (cut_at (table_of l) q s piece) x (rw h.cut_count at m) e
-
-    pub cuts_over :
-        (k : ℕ) → k < w.cuts → cut_at (table_of l) q s piece k ≡ [] → cuts_from (table_of l) q s piece k ≡ cuts_from (table_of l) q s piece (k + 1)
-    unfolding cuts_from
-    cuts_over k m e = from_skip (cuts (table_of l) q) k (cut_at (table_of l) q s piece) (rw h.cut_count at m) e
-
-    pub cuts_end : (k : ℕ) → w.cuts ≤ k → cuts_from (table_of l) q s piece k ≡ []
-    unfolding cuts_from
-    cuts_end k m = from_end (cuts (table_of l) q) k (cut_at (table_of l) q s piece) (rw h.cut_count at m)
-
 -- ---- privilege by privilege
 
 and_none : (a b : Bool) → a ≡ false → (a && b) ≡ false
@@ -209,9 +162,9 @@ none_either_way : (b : Bool) (xs : List SafeDial) → xs ≡ [] → cond b xs []
 none_either_way true xs e = e
 none_either_way false xs e = refl
 
-shared_none : (x : Shared) (f : Range → List SafeDial) → ((r : Range) → f r ≡ []) → on_shared x f ≡ []
-shared_none (Stretch r) f h = h r
-shared_none Nothing f h = refl
+shared_none : (x : Option Range) (f : Range → List SafeDial) → ((r : Range) → f r ≡ []) → on_shared x f ≡ []
+shared_none (Some r) f h = h r
+shared_none None f h = refl
 
 module _ (table : Table) (q : Request) (s : Segment) where
   -- past the last cut
@@ -224,24 +177,6 @@ module _ (table : Table) (q : Request) (s : Segment) where
   pub other_class : (r : Record) (k : ℕ) → eqb r.class q.class ≡ false → privilege_from table q s (privilege_of r) k ≡ []
   unfolding privilege_from
   other_class r k e = rw (and_none (eqb r.class q.class) (allows_of (privilege_of r).emissions Data) e)
-
-  pub not_used : (p : Privilege) (k : ℕ) → may_use q p ≡ false → privilege_from table q s p k ≡ []
-  unfolding privilege_from
-  not_used p k e = ap (λ (b : Bool). cond b (on_shared (intersect_of s.range p.range) (λ r. cuts_from table q s r k)) []) e
-
-  pub nothing_shared : (p : Privilege) (k : ℕ) → intersect_of s.range p.range ≡ Nothing → privilege_from table q s p k ≡ []
-  unfolding privilege_from
-  nothing_shared p k e =
-      none_either_way (may_use q p) (on_shared (intersect_of s.range p.range) (λ r. cuts_from table q s r k))
-      (ap (λ (x : Shared). on_shared x (λ r. cuts_from table q s r k)) e)
-
-  pub used :
-      (p : Privilege) (piece : Range) → may_use q p ≡ true → intersect_of s.range p.range ≡ Stretch piece
-      → (k : ℕ) → privilege_from table q s p k ≡ cuts_from table q s piece k
-  unfolding privilege_from
-  used p piece e f k =
-      ap (λ (b : Bool). cond b (on_shared (intersect_of s.range p.range) (λ r. cuts_from table q s r k)) []) e
-      ∙ ap (λ (x : Shared). on_shared x (λ r. cuts_from table q s r k)) f
 
   begun : (i : ℕ) → i < table.count privileges → privilege_from_at table q s i 0 ≡ privilege_rows_at table q s i
   begun i h = privilege_all table q s (privilege_of (table.at privileges i))
@@ -302,19 +237,16 @@ module _ (l : List ℕ) (q : Request) (s : Segment) where
   segment_open e = segment_by false e
 
 -- what a turn over a privilege leaves: a row and what is behind it, or what the next privilege gives
-abbrev pub privilege_turn : ℕ → ℕ → (Spot → List SafeDial) → CutRow → List SafeDial
-privilege_turn n i more (Cut x k) = x ∷ more (behind_of n i k)
-privilege_turn n i more NoCut = more (spot_of (i + 1) 0)
+abbrev pub privilege_turn : ℕ → ℕ → (Spot → List SafeDial) → Option (SafeDial × ℕ) → List SafeDial
+privilege_turn n i more (Some (x, k)) = x ∷ more (behind_of n i k)
+privilege_turn n i more None = more (spot_of (i + 1) 0)
 
 module _ (l : List ℕ) (q : Request) (w : Search) (h : Known l q w) (i : ℕ) (m : i < w.end) where
   pub privilege_below : i < count_of l privileges
   privilege_below = omega (arith, m, h.past.within)
 
-  pub privilege_placed : w.privileges + record_size * i + record_size ≤ length l
-  privilege_placed = omega (arith, privilege_below, table_within l h.whole privileges (omega arith), h.privileges_from_holds)
-
   pub privilege_turn_holds :
-      (r : Record) (k : ℕ) (a : CutRow)
+      (r : Record) (k : ℕ) (a : Option (SafeDial × ℕ))
       → pair_from l q r (w.privileges + record_size * i) k ≡ cut_next (pair_from l q r (w.privileges + record_size * i)) a
       → privileges_from (table_of l) q (segment_of r) (spot_of i k) ≡ privilege_turn w.cuts i (privileges_from (table_of l) q (segment_of r)) a
   privilege_turn_holds r k a e =
@@ -328,21 +260,18 @@ module _ (l : List ℕ) (q : Request) (w : Search) (h : Known l q w) (i : ℕ) (
           h.privileges_from_holds refl
 
       go :
-          (a : CutRow)
+          (a : Option (SafeDial × ℕ))
           → privilege_from_at (table_of l) q (segment_of r) i k ≡ cut_next (privilege_from_at (table_of l) q (segment_of r) i) a
           → privileges_from (table_of l) q (segment_of r) (spot_of i k)
           ≡ privilege_turn w.cuts i (privileges_from (table_of l) q (segment_of r)) a
-      go (Cut x n) d =
+      go (Some (x, n)) d =
           privileges_row (table_of l) q (segment_of r) i k n x privilege_below d
           ∙ ap (λ (c : ℕ). x ∷ privileges_from (table_of l) q (segment_of r) (behind_of c i n)) (sym h.cut_count)
-      go NoCut d = privileges_over (table_of l) q (segment_of r) i k privilege_below d
+      go None d = privileges_over (table_of l) q (segment_of r) i k privilege_below d
 
 module _ (l : List ℕ) (q : Request) (w : Search) (h : Known l q w) (i : ℕ) (m : i < w.segment_count) where
   segment_below : i < count_of l segments
   segment_below = omega (arith, m, h.segment_count)
-
-  pub segment_placed : w.segments + record_size * i + record_size ≤ length l
-  segment_placed = omega (arith, segment_below, table_within l h.whole segments (omega arith), h.segments_from)
 
   -- the segment that begins at its place
   pub segment_read : (r : Record) → r ≡ record_at l (w.segments + record_size * i) → segment_rows (table_of l) q (segment_of r) ≡ segment_rows_at (table_of l) q i
@@ -361,24 +290,16 @@ unfolding each
 open_by true n f = from_all n f
 open_by false n f = from_all 0 f
 
-module _ (l : List ℕ) (q : Request) (w : Search) (h : Known l q w) (i : ℕ) (m : i < w.channel_count) where
-  pub channel_placed : w.channels + record_size * i + record_size ≤ length l
-  channel_placed = omega (arith, m, h.channel_most, table_within l h.whole channels (omega arith), h.channels_from_holds)
-
-  pub channel_read : record_at l (w.channels + record_size * i) ≡ record_in l channels i
-  channel_read =
-      read_in l channels i w.channels (record_at l (w.channels + record_size * i)) (omega arith) (omega (arith, m, h.channel_most))
-      h.channels_from_holds refl
-
-pub count_most : (table : Table) (q : Request) (b : ChannelBand) (n : ℕ) → n ≡ channel_count_of table q b → n ≤ table.count channels
-count_most table q (On c) n e = go (channels_open q && channel_found table q) e
+pub count_most : (table : Table) (q : Request) (b : Option Channels) (n : ℕ) → n ≡ channel_count_of table q b → n ≤ table.count channels
+count_most table q (Some c) n e = go (channels_open q && channel_found table q) e
   where
     go : (b : Bool) → n ≡ cond b (table.count channels) 0 → n ≤ table.count channels
     go true d = omega arith
     go false d = omega arith
-count_most table q NoChannels n e = omega arith
+count_most table q None n e = omega arith
 
 pub band_all :
-    (table : Table) (q : Request) (c : Channels) → channels_from table q c (channel_count_of table q (On c)) 0 ≡ band_rows table q (On c)
+    (table : Table) (q : Request) (c : Channels) (n : ℕ) → n ≡ channel_count_of table q (Some c)
+    → channels_from table q c n 0 ≡ open_rows table q c
 unfolding open_rows channel_rows
-band_all table q c = open_by (channels_open q && channel_found table q) (table.count channels) (channel_rows_at table q c)
+band_all table q c n e = rw e (open_by (channels_open q && channel_found table q) (table.count channels) (channel_rows_at table q c))

@@ -1,28 +1,30 @@
 // The rows of a dial list, segment by segment, privilege by privilege, automatic segment by automatic segment, and then the 60 m
-// channels: searches that give one row after the other. It uses codes, profile, air, layout, table, find, automatic_97_221 and
-// rows; its laws use apart, lists, order and bit_order.
+// channels: searches that give one row after the other. It uses codes, profile, air, scan, layout, table, find,
+// automatic_97_221 and rows; its laws use apart, lists, order and bit_order.
 #![tactic(auto)]
 
-ghost use Rattle.std.specs.Prelude.{◌≡◌, ◌+◌, ◌≤◌, ◌<◌, length};
+ghost use Rattle.std.specs.Prelude.{◌≡◌, ◌+◌, ◌≤◌, ◌<◌, ℕ, List, Option, length};
+ghost use Rattle.lists.specs.From.{from as gathered_from};
 ghost use Rattle.profile.specs.Range.{holds_of};
 ghost use Rattle.layout.specs.Form.{Whole};
 ghost use Rattle.table.specs.Table.{table_of};
-ghost use Rattle.layout.specs.Layout.{record_at};
+ghost use Rattle.layout.specs.Layout.{channels, count_of, record_at, start_of};
 ghost use Rattle.table.specs.Parts.{segment_of};
 ghost use Rattle.dial_rows.specs.Apart.{below_bits, apart_of};
 ghost use Rattle.dial_rows.specs.Class.{Ahead, Past};
+ghost use Rattle.rows.specs.declared.SafeDial.{SafeDial};
 ghost use Rattle.dial_rows.specs.Dials.{request_of, piece_rows, cut, may_use, too_wide, excluded_band};
-ghost use Rattle.dial_rows.specs.Dials.{centre_span, channel_found, is_upper, channels_open, channel_row};
+ghost use Rattle.dial_rows.specs.Dials.{centre_span, channel_found, channels_open, channel_row, channel_rows_at};
 ghost use Rattle.dial_rows.specs.Next.{rows_in, cut_next, segment_next, cuts, automatic_in, cut_at, cuts_from, privilege_from, pair_from};
 ghost use Rattle.dial_rows.specs.Next.{behind_of, privileges_from, closed_of, channel_count_of, channels_from, Known, Searched};
 
-use air::{DialRange, Margins};
+use air::Margins;
 use codes::{ControlMode, Direction, EmissionKind, LicenseClass, Sideband};
 use find::Question;
 use layout::{General, Record};
-use profile::{DataLimit, Range, Shared};
+use profile::{DataLimit, Range};
 use rows::SafeDial;
-use table::{ChannelBand, Channels, Privilege, Segment};
+use table::{Channels, Privilege, Segment};
 
 // The bits of 2^40.
 const LIMIT_BITS: u64 = 0x4270_0000_0000_0000;
@@ -46,6 +48,7 @@ pub struct Request {
     pub segments_rule: u16,
 }
 
+#[tactic(auto, unfolding(crate::specs::Dials::request_of))]
 pub fn request_of(
     g: General,
     license: LicenseClass,
@@ -59,7 +62,7 @@ pub fn request_of(
 {
     let width = air::width(audio);
     Request {
-        class: codes::class_code(license),
+        class: u8::from(license),
         sideband,
         audio,
         width_hz: width,
@@ -71,31 +74,11 @@ pub fn request_of(
     }
 }
 
-// A row, or none.
-#[derive(Clone, Copy)]
-pub enum Arise {
-    Row(SafeDial),
-    NoRow,
-}
-
-// The first row from an index on, a cut of a piece or a channel, and the index after it; or no row.
-#[derive(Clone, Copy)]
-pub enum CutRow {
-    Row(SafeDial, usize),
-    NoRow,
-}
-
 // A place among the rows of a segment: the privilege, and the cut of the piece that the two share.
 #[derive(Clone, Copy)]
 pub struct Spot {
     pub privilege: usize,
     pub cut: usize,
-}
-
-#[derive(Clone, Copy)]
-pub enum SegmentRow {
-    Row(SafeDial, Spot),
-    NoRow,
 }
 
 // What a search for rows knows beforehand: where the tables begin and how much of each is gone through.
@@ -116,78 +99,99 @@ pub struct Search {
 }
 
 // The row of a piece.
-fn piece_row(q: Request, band: u8, rule: u16, piece: Range) -> Arise
+#[tactic(auto, unfolding(crate::specs::Dials::piece_rows))]
+fn piece_row(q: Request, band: u8, rule: u16, piece: Range) -> Option<SafeDial>
     ensures { rows_in result ≡ piece_rows q band rule piece }
 {
-    let sideband = q.sideband;
-    let audio = q.audio;
-    match air::dial_range(piece, sideband, audio, q.margin) {
-        DialRange::Dials(ends) => Arise::Row(SafeDial {
-            band,
-            segment: piece,
-            rule,
-            dial_low_hz: ends.low_hz,
-            dial_high_hz: ends.high_hz,
-        }),
-        DialRange::NoDial => Arise::NoRow,
-    }
+    let ends = air::dial_range(piece, q.sideband, q.audio, q.margin)?;
+    Some(SafeDial {
+        band,
+        segment: piece,
+        rule,
+        dial_low_hz: ends.low_hz,
+        dial_high_hz: ends.high_hz,
+    })
 }
 
 // The row of a piece inside the automatic segment that begins at a place.
-fn automatic_row(image: &[u8], q: Request, band: u8, piece: Range, at: usize) -> Arise
+fn automatic_row(image: &[u8], q: Request, band: u8, piece: Range, at: usize) -> Option<SafeDial>
     requires { at + 32 ≤ length image.now }
     ensures { rows_in result ≡ automatic_in q band piece (record_at image.now at) }
 {
-    match profile::intersect(piece, table::span_of(layout::record_at(image, at))) {
-        Shared::Stretch(inside) => piece_row(q, band, q.segments_rule, inside),
-        Shared::Nothing => Arise::NoRow,
-    }
+    let inside = profile::intersect(piece, table::span_of(layout::record_at(image, at)))?;
+    piece_row(q, band, q.segments_rule, inside)
 }
 
 // The row of a cut of a piece.
-fn cut_row(image: &[u8], q: Request, w: Search, s: Segment, piece: Range, k: usize) -> Arise
+#[tactic(auto, using(layout::specs::Laws::table_within, crate::specs::Next::cut_below, table::specs::Laws::at_in))]
+fn cut_row(
+    image: &[u8],
+    q: Request,
+    w: Search,
+    s: Segment,
+    piece: Range,
+    k: usize,
+) -> Option<SafeDial>
     requires { (Known image.now q w) × (k < w.cuts) }
     ensures { rows_in result ≡ cut_at (table_of image.now) q s piece k }
 {
     if w.cut {
-        return automatic_row(
+        automatic_row(
             image,
             q,
             s.band,
             piece,
             w.automatic + layout::RECORD_SIZE * k,
-        );
+        )
+    } else {
+        piece_row(q, s.band, s.rule, piece)
     }
-    piece_row(q, s.band, s.rule, piece)
+}
+
+// The first row that the indices from one to below end give, and the index after it.
+#[tactic(auto, using(lists::specs::From::from_row, lists::specs::From::from_skip, lists::specs::From::from_end))]
+fn row_from<F: Fn(usize) -> Option<SafeDial>>(
+    from: usize,
+    end: usize,
+    row: F,
+) -> Option<(SafeDial, usize)>
+    requires { (i : ℕ) → i < end → F.pre row i }
+    ensures { (f : ℕ → List SafeDial) → ((i : ℕ) (r : Option SafeDial) → i < end → F.post row i r → rows_in r ≡ f i)
+        → gathered_from end f from ≡ cut_next (gathered_from end f) result }
+{
+    for i in from..end {
+        if let Some(x) = row(i) {
+            return Some((x, i + 1));
+        }
+    }
+    None
 }
 
 // The first row of a piece from a cut on.
-fn cuts_from(image: &[u8], q: Request, w: Search, s: Segment, piece: Range, from: usize) -> CutRow
+#[tactic(auto, unfolding(crate::specs::Next::cuts_from))]
+fn cuts_from(
+    image: &[u8],
+    q: Request,
+    w: Search,
+    s: Segment,
+    piece: Range,
+    from: usize,
+) -> Option<(SafeDial, usize)>
     requires { Known image.now q w }
     ensures { cuts_from (table_of image.now) q s piece from ≡ cut_next (cuts_from (table_of image.now) q s piece) result }
 {
-    let mut k = from;
-    while k < w.cuts {
-        match cut_row(image, q, w, s, piece, k) {
-            Arise::Row(x) => {
-                return CutRow::Row(x, k + 1);
-            }
-            Arise::NoRow => {}
-        }
-        k += 1;
-    }
-    CutRow::NoRow
+    row_from(from, w.cuts, |k| cut_row(image, q, w, s, piece, k))
 }
 
 // Whether a privilege is the class's and allows data.
 fn may_use(q: Request, p: Privilege) -> bool
     ensures { result ≡ may_use q p }
 {
-    let emissions = p.emissions;
-    p.class == q.class && profile::allows(emissions, EmissionKind::Data)
+    p.class == q.class && profile::allows(p.emissions, EmissionKind::Data)
 }
 
 // The first row of a segment under one privilege, from a cut on.
+#[tactic(auto, unfolding(crate::specs::Next::privilege_from))]
 fn privilege_from(
     image: &[u8],
     q: Request,
@@ -195,20 +199,15 @@ fn privilege_from(
     s: Segment,
     p: Privilege,
     from: usize,
-) -> CutRow
+) -> Option<(SafeDial, usize)>
     requires { Known image.now q w }
     ensures { privilege_from (table_of image.now) q s p from ≡ cut_next (privilege_from (table_of image.now) q s p) result }
 {
-    let a = s.range;
-    let b = p.range;
-    match profile::intersect(a, b) {
-        Shared::Stretch(piece) => {
-            if may_use(q, p) {
-                return cuts_from(image, q, w, s, piece, from);
-            }
-            CutRow::NoRow
-        }
-        Shared::Nothing => CutRow::NoRow,
+    let piece = profile::intersect(s.range, p.range)?;
+    if may_use(q, p) {
+        cuts_from(image, q, w, s, piece, from)
+    } else {
+        None
     }
 }
 
@@ -216,11 +215,7 @@ fn privilege_from(
 fn too_wide(q: Request, s: Segment) -> bool
     ensures { result ≡ too_wide q s }
 {
-    let own = s.own;
-    let second = s.second;
-    let general = q.data;
-    let limit = profile::data_limit(own, second, general);
-    limit.max_bandwidth_hz < q.width_hz
+    profile::data_limit(s.own, s.second, q.data).max_bandwidth_hz < q.width_hz
 }
 
 // Whether 97.221 keeps the signal out of a segment's band.
@@ -228,43 +223,38 @@ fn excluded(image: &[u8], q: Request, s: Segment) -> bool
     requires { Whole image.now }
     ensures { result ≡ excluded_band (table_of image.now) q s }
 {
-    if q.automatic {
-        return find::some_in(image, layout::EXCLUDED, Question::OfBand(s.band));
-    }
-    false
+    q.automatic && find::some_in(image, layout::EXCLUDED, Question::OfBand(s.band))
 }
 
 // The first privilege of a class; where there is none, how many privileges there are.
+#[tactic(auto, using(layout::specs::Laws::table_within))]
 fn class_first(image: &[u8], class: u8) -> usize
     requires { Whole image.now }
     ensures { Ahead image.now class result }
 {
     let start = layout::start_of(image, layout::PRIVILEGES);
     let count = layout::count_of(image, layout::PRIVILEGES) as usize;
-    let mut i: usize = 0;
-    while i < count {
-        if layout::class_at(image, start + layout::RECORD_SIZE * i) == class {
-            return i;
-        }
-        i += 1;
-    }
-    i
+    scan::first(
+        count,
+        |i| layout::class_at(image, start + layout::RECORD_SIZE * i) == class,
+    )
+    .unwrap_or(count)
 }
 
 // The place after the last privilege of a class; where there is none, 0.
+#[tactic(auto, using(layout::specs::Laws::table_within, crate::specs::Class::of_in, crate::specs::Class::past_step))]
 fn class_end(image: &[u8], class: u8) -> usize
     requires { Whole image.now }
     ensures { Past image.now class result }
 {
     let start = layout::start_of(image, layout::PRIVILEGES);
-    let mut k = layout::count_of(image, layout::PRIVILEGES) as usize;
-    while 0 < k {
-        if layout::class_at(image, start + layout::RECORD_SIZE * (k - 1)) == class {
-            return k;
+    let count = layout::count_of(image, layout::PRIVILEGES) as usize;
+    for i in (0..count).rev() {
+        if layout::class_at(image, start + layout::RECORD_SIZE * i) == class {
+            return i + 1;
         }
-        k -= 1;
     }
-    k
+    0
 }
 
 // Whether a range that ends at high lies below one that begins at low, by their bits.
@@ -284,19 +274,27 @@ fn apart(image: &[u8], at: usize, r: Record) -> bool
 
 // The same of a segment's record and the privilege that begins at a place: its class and its range's bits are asked before the rest is
 // read.
-fn pair_from(image: &[u8], q: Request, w: Search, r: Record, at: usize, from: usize) -> CutRow
+#[tactic(auto, using(crate::specs::Apart::apart_nothing), unfolding(crate::specs::Next::privilege_from))]
+fn pair_from(
+    image: &[u8],
+    q: Request,
+    w: Search,
+    r: Record,
+    at: usize,
+    from: usize,
+) -> Option<(SafeDial, usize)>
     requires { (at + 32 ≤ length image.now) × (Known image.now q w) }
     ensures { pair_from image.now q r at from ≡ cut_next (pair_from image.now q r at) result }
 {
-    if layout::class_at(image, at) == q.class {
-        if apart(image, at, r) {
-            return CutRow::NoRow;
-        }
-        let s = table::segment_of(r);
-        let p = table::privilege_of(layout::record_at(image, at));
-        return privilege_from(image, q, w, s, p, from);
+    if layout::class_at(image, at) != q.class {
+        return None;
     }
-    CutRow::NoRow
+    if apart(image, at, r) {
+        return None;
+    }
+    let s = table::segment_of(r);
+    let p = table::privilege_of(layout::record_at(image, at));
+    privilege_from(image, q, w, s, p, from)
 }
 
 // The place behind a row at cut k − 1 of a privilege.
@@ -305,33 +303,43 @@ fn behind(w: Search, privilege: usize, k: usize) -> Spot
     ensures { result ≡ behind_of w.cuts privilege k }
 {
     if k < w.cuts {
-        return Spot { privilege, cut: k };
-    }
-    Spot {
-        privilege: privilege + 1,
-        cut: 0,
+        Spot { privilege, cut: k }
+    } else {
+        Spot {
+            privilege: privilege + 1,
+            cut: 0,
+        }
     }
 }
 
 // The first row of a segment's record under the privileges from a place on.
-pub fn privileges_from(image: &[u8], q: Request, w: Search, r: Record, spot: Spot) -> SegmentRow
+#[tactic(auto, using(layout::specs::Laws::table_within))]
+pub fn privileges_from(
+    image: &[u8],
+    q: Request,
+    w: Search,
+    r: Record,
+    spot: Spot,
+) -> Option<(SafeDial, Spot)>
     requires { Known image.now q w }
     ensures { privileges_from (table_of image.now) q (segment_of r) spot
         ≡ segment_next (privileges_from (table_of image.now) q (segment_of r)) result }
 {
-    let mut i = spot.privilege;
     let mut from = spot.cut;
-    while i < w.end {
-        match pair_from(image, q, w, r, w.privileges + layout::RECORD_SIZE * i, from) {
-            CutRow::Row(x, k) => {
-                return SegmentRow::Row(x, behind(w, i, k));
-            }
-            CutRow::NoRow => {}
+    for i in spot.privilege..w.end {
+        if let Some((x, k)) = pair_from(
+            image,
+            q,
+            w,
+            r,
+            w.privileges + layout::RECORD_SIZE * i,
+            from,
+        ) {
+            return Some((x, behind(w, i, k)));
         }
-        i += 1;
         from = 0;
     }
-    SegmentRow::NoRow
+    None
 }
 
 // Whether a segment's record is passed over: the signal is too wide for it, or kept out of its band.
@@ -340,33 +348,14 @@ pub fn closed(image: &[u8], q: Request, r: Record) -> bool
     ensures { result ≡ closed_of (table_of image.now) q (segment_of r) }
 {
     let s = table::segment_of(r);
-    if too_wide(q, s) {
-        return true;
-    }
-    excluded(image, q, s)
-}
-
-fn is_upper(sideband: Sideband) -> bool
-    ensures { result ≡ is_upper sideband }
-{
-    match sideband {
-        Sideband::Usb => true,
-        Sideband::Lsb => false,
-    }
+    too_wide(q, s) || excluded(image, q, s)
 }
 
 // Whether channels are asked for at all.
 fn channels_open(q: Request) -> bool
     ensures { result ≡ channels_open q }
 {
-    let sideband = q.sideband;
-    if q.automatic {
-        return false;
-    }
-    if q.width_hz <= q.data.max_bandwidth_hz {
-        return is_upper(sideband);
-    }
-    false
+    !q.automatic && (q.width_hz <= q.data.max_bandwidth_hz && q.sideband == Sideband::Usb)
 }
 
 // Whether a range holds a channel's centre.
@@ -390,85 +379,75 @@ fn channel_found(image: &[u8], q: Request) -> bool
     let start = layout::start_of(image, layout::CHANNELS);
     let channels = layout::count_of(image, layout::CHANNELS) as usize;
     let mut found = false;
-    let mut i: usize = 0;
-    'search: while i < privileges {
+    'search: for i in 0..privileges {
         let r = layout::record_at(image, from + layout::RECORD_SIZE * i);
         let p = table::privilege_of(r);
         if may_use(q, p) {
             let range = p.range;
-            let mut k: usize = 0;
-            while k < channels {
+            for k in 0..channels {
                 let c = layout::record_at(image, start + layout::RECORD_SIZE * k);
                 if centre_held(range, c) {
                     found = true;
                     break 'search;
                 }
-                k += 1;
             }
         }
-        i += 1;
     }
     found
 }
 
 // How many channels are gone through: all, where channels are asked for and one is found.
-fn channel_count(image: &[u8], q: Request, band: ChannelBand) -> usize
+fn channel_count(image: &[u8], q: Request, band: Option<Channels>) -> usize
     requires { Whole image.now }
     ensures { result ≡ channel_count_of (table_of image.now) q band }
 {
-    match band {
-        ChannelBand::On(_) => {
-            if channels_open(q) {
-                if channel_found(image, q) {
-                    return layout::count_of(image, layout::CHANNELS) as usize;
-                }
-                return 0;
-            }
-            0
-        }
-        ChannelBand::NoChannels => 0,
+    if band.is_some() && (channels_open(q) && channel_found(image, q)) {
+        layout::count_of(image, layout::CHANNELS) as usize
+    } else {
+        0
     }
 }
 
 // The row of a channel.
-fn channel_row(q: Request, c: Channels, center_hz: f64) -> Arise
+#[tactic(auto, unfolding(crate::specs::Dials::channel_row))]
+fn channel_row(q: Request, c: Channels, center_hz: f64) -> Option<SafeDial>
     ensures { rows_in result ≡ channel_row q c center_hz }
 {
-    let sideband = q.sideband;
-    let audio = q.audio;
     let dial = center_hz - c.carrier_offset_hz;
     let range = profile::channel_range(c.width_hz, center_hz);
-    let guarded = air::guarded(q.margin, air::rf_range(dial, sideband, audio));
-    if range.holds(guarded) {
-        return Arise::Row(SafeDial {
-            band: c.band,
-            segment: range,
-            rule: c.rule,
-            dial_low_hz: dial,
-            dial_high_hz: dial,
-        });
-    }
-    Arise::NoRow
+    let guarded = air::guarded(q.margin, air::rf_range(dial, q.sideband, q.audio));
+    range.holds(guarded).then_some(SafeDial {
+        band: c.band,
+        segment: range,
+        rule: c.rule,
+        dial_low_hz: dial,
+        dial_high_hz: dial,
+    })
+}
+
+// The row of channel i.
+#[tactic(auto, using(layout::specs::Laws::table_within, table::specs::Laws::at_in))]
+fn channel_row_at(image: &[u8], q: Request, w: Search, c: Channels, i: usize) -> Option<SafeDial>
+    requires { (Known image.now q w) × (i < w.channel_count) }
+    ensures { rows_in result ≡ channel_rows_at (table_of image.now) q c i }
+{
+    let r = layout::record_at(image, w.channels + layout::RECORD_SIZE * i);
+    channel_row(q, c, table::centre_of(r))
 }
 
 // The first row of the channels from one on, and the channel after it; or no row.
-pub fn channels_from(image: &[u8], q: Request, w: Search, c: Channels, from: usize) -> CutRow
+pub fn channels_from(
+    image: &[u8],
+    q: Request,
+    w: Search,
+    c: Channels,
+    from: usize,
+) -> Option<(SafeDial, usize)>
     requires { Known image.now q w }
     ensures { channels_from (table_of image.now) q c w.channel_count from
         ≡ cut_next (channels_from (table_of image.now) q c w.channel_count) result }
 {
-    let mut i = from;
-    while i < w.channel_count {
-        let r = layout::record_at(image, w.channels + layout::RECORD_SIZE * i);
-        match channel_row(q, c, table::centre_of(r)) {
-            Arise::Row(x) => {
-                return CutRow::Row(x, i + 1);
-            }
-            Arise::NoRow => {}
-        }
-        i += 1;
-    }
-    CutRow::NoRow
+    row_from(from, w.channel_count, |i| channel_row_at(image, q, w, c, i))
 }
 
 // 97.221: whether a piece is cut to the automatic segments.
@@ -484,17 +463,17 @@ fn cut_count(image: &[u8], q: Request) -> usize
     ensures { result ≡ cuts (table_of image.now) q }
 {
     if is_cut(q) {
-        return layout::count_of(image, layout::AUTOMATIC) as usize;
+        layout::count_of(image, layout::AUTOMATIC) as usize
+    } else {
+        1
     }
-    1
 }
 
 // What a search for rows knows beforehand.
-pub fn search_of(image: &[u8], q: Request, band: ChannelBand) -> Search
+pub fn search_of(image: &[u8], q: Request, band: Option<Channels>) -> Search
     requires { Whole image.now }
     ensures { Searched image.now q band result }
 {
-    let cut = is_cut(q);
     Search {
         segments: layout::start_of(image, layout::SEGMENTS),
         segment_count: layout::count_of(image, layout::SEGMENTS) as usize,
@@ -502,7 +481,7 @@ pub fn search_of(image: &[u8], q: Request, band: ChannelBand) -> Search
         first: class_first(image, q.class),
         end: class_end(image, q.class),
         automatic: layout::start_of(image, layout::AUTOMATIC),
-        cut,
+        cut: is_cut(q),
         cuts: cut_count(image, q),
         channels: layout::start_of(image, layout::CHANNELS),
         channel_count: channel_count(image, q, band),

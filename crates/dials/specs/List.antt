@@ -1,19 +1,13 @@
 -- What the list call answers, and what it leaves in the lent bytes.
-use Rattle.std.specs.Prelude.{ℕ, ◌*◌, ◌/◌, ◌≤◌, not, cond, List, [], ◌∷◌, ◌++◌, ◌≡◌, ltb, length, take, drop}
+use Rattle.std.specs.Prelude.{ℕ, ◌*◌, ◌/◌, ◌≤◌, not, cond, List, [], ◌∷◌, ◌++◌, ◌≡◌, ltb, length, take, drop, Option, Some, None, Result, Ok, Err}
+use Rattle.codes.specs.declared.Refusal.TheVariants as refusal
+use Rattle.codes.specs.Refusal.{Checked, Test, test, refusal_of}
+use Rattle.codes.specs.declared.Refusal.{Refusal}
 use Rattle.codes.specs.Read.{direction_valid, direction_of}
-use Rattle.codes.specs.Refusal.{Test, test, refusal_of}
 use Rattle.codes.specs.declared.LicenseClass.{LicenseClass}
 use Rattle.codes.specs.declared.Sideband.{Sideband}
 use Rattle.codes.specs.declared.ControlMode.{ControlMode}
 use Rattle.codes.specs.declared.Direction.{Direction}
-use Rattle.codes.specs.declared.Control.{Control}
-use Rattle.codes.specs.declared.Control.TheVariants.{ControlIs, NoControl}
-use Rattle.codes.specs.declared.License.{License}
-use Rattle.codes.specs.declared.License.TheVariants.{LicenseIs, NoLicense}
-use Rattle.codes.specs.declared.SidebandSet.{SidebandSet}
-use Rattle.codes.specs.declared.SidebandSet.TheVariants.{SidebandIs, NoSideband}
-use Rattle.codes.specs.declared.Checked.{Checked}
-use Rattle.codes.specs.declared.Checked.TheVariants.{Accepted, Refused}
 use Rattle.occupancy.specs.Edges.{range_of}
 use Rattle.occupancy.specs.declared.Edges.{Edges}
 use Rattle.station.specs.Station.{under_rules, situation_of}
@@ -25,21 +19,19 @@ use Rattle.entry.specs.Entry.{entry_tests, edges_valid, edges_read}
 use Rattle.rows.specs.Rows.{row_size, sorted, encode_all}
 use Rattle.rows.specs.declared.SafeDial.{SafeDial}
 use Rattle.dial_rows.specs.Dials.{request_of, rows_of}
-use Rattle.dials.specs.declared.DialList.{DialList}
-use Rattle.dials.specs.declared.DialList.TheVariants.{Rows, Refused as NoList}
 
 -- without sideband, licence or control the Rust lists nothing, and refuses nothing
-abbrev pub rows_with_sideband : SidebandSet → (Sideband → List SafeDial) → List SafeDial
-rows_with_sideband (SidebandIs s) f = f s
-rows_with_sideband NoSideband f = []
+abbrev pub rows_with_sideband : Option Sideband → (Sideband → List SafeDial) → List SafeDial
+rows_with_sideband (Some s) f = f s
+rows_with_sideband None f = []
 
-abbrev pub rows_with_license : License → (LicenseClass → List SafeDial) → List SafeDial
-rows_with_license (LicenseIs c) f = f c
-rows_with_license NoLicense f = []
+abbrev pub rows_with_license : Option LicenseClass → (LicenseClass → List SafeDial) → List SafeDial
+rows_with_license (Some c) f = f c
+rows_with_license None f = []
 
-abbrev pub rows_with_control : Control → (ControlMode → List SafeDial) → List SafeDial
-rows_with_control (ControlIs c) f = f c
-rows_with_control NoControl f = []
+abbrev pub rows_with_control : Option ControlMode → (ControlMode → List SafeDial) → List SafeDial
+rows_with_control (Some c) f = f c
+rows_with_control None f = []
 
 -- the rows for a station as it is read, and edges as they are read
 abbrev pub known_rows : Table → Situation → Direction → Edges → Sideband → LicenseClass → ControlMode → List SafeDial
@@ -59,25 +51,25 @@ list_rows r direction e l = cond (under_rules r) (situation_rows (table_of l) (s
 
 -- 23 "the dial list longer than the whole rows lent"
 abbrev pub lent_tests : List SafeDial → List ℕ → List Test
-lent_tests xs lent = test 23 (ltb (length lent / row_size) (length xs)) ∷ []
+lent_tests xs lent = test refusal.Rows (ltb (length lent / row_size) (length xs)) ∷ []
 
 -- "Order: 20, 21, 22, 1 to 14, 15, 16, 23." 16 is none of this call's.
 abbrev pub list_tests : StationRecord → ℕ → Edges → List ℕ → List ℕ → List Test
 list_tests r direction e l lent =
-    entry_tests r (direction_valid direction) l ++ (test 15 (not (edges_valid e)) ∷ lent_tests (list_rows r direction e l) lent)
+    entry_tests r (direction_valid direction) l ++ (test refusal.SignalEdge (not (edges_valid e)) ∷ lent_tests (list_rows r direction e l) lent)
 
 -- the answer: the count of the rows, or the refusal's number
-abbrev pub answer_of : Checked → List SafeDial → DialList
-answer_of Accepted xs = Rows (length xs)
-answer_of (Refused n) xs = NoList n
+abbrev pub answer_of : Checked → List SafeDial → Result ℕ Refusal
+answer_of (Ok tt) xs = Ok (length xs)
+answer_of (Err n) xs = Err n
 
 -- the bytes after the call: the rows in their order, and what was lent past them; with a refusal, what was lent
 abbrev pub bytes_of : Checked → List SafeDial → List ℕ → List ℕ
-bytes_of Accepted xs lent = encode_all (sorted xs) ++ drop (length xs * row_size) lent
-bytes_of (Refused n) xs lent = lent
+bytes_of (Ok tt) xs lent = encode_all (sorted xs) ++ drop (length xs * row_size) lent
+bytes_of (Err n) xs lent = lent
 
 -- an answer and the bytes that were left
-pub record Listed (c : Checked) (xs : List SafeDial) (lent left : List ℕ) (answer : DialList) : Type 0 where
+pub record Listed (c : Checked) (xs : List SafeDial) (lent left : List ℕ) (answer : Result ℕ Refusal) : Type 0 where
   pub answered : answer ≡ answer_of c xs
   pub bytes : left ≡ bytes_of c xs lent
 
@@ -86,9 +78,9 @@ abbrev pub Begun : List SafeDial → List ℕ → Type 0
 Begun xs own = length xs * row_size ≤ length own → take (length xs * row_size) own ≡ encode_all (sorted xs)
 
 -- rows that have only their length against them
-abbrev pub Filled : List SafeDial → List ℕ → List ℕ → DialList → Type 0
+abbrev pub Filled : List SafeDial → List ℕ → List ℕ → Result ℕ Refusal → Type 0
 Filled xs lent left answer = Listed (refusal_of (lent_tests xs lent)) xs lent left answer
 
 -- what `safe_dials` promises
-abbrev pub SafeDials : StationRecord → ℕ → Edges → List ℕ → List ℕ → List ℕ → DialList → Type 0
+abbrev pub SafeDials : StationRecord → ℕ → Edges → List ℕ → List ℕ → List ℕ → Result ℕ Refusal → Type 0
 SafeDials r direction e l lent left answer = Listed (refusal_of (list_tests r direction e l lent)) (list_rows r direction e l) lent left answer

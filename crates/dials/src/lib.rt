@@ -7,33 +7,25 @@ ghost use Rattle.rows.specs.Rows.{sorted, encode_all};
 ghost use Rattle.layout.specs.Form.{Whole};
 ghost use Rattle.table.specs.Table.{table_of};
 ghost use Rattle.table.specs.Parts.{segment_of};
-ghost use Rattle.table.specs.declared.ChannelBand.TheVariants.{On};
 ghost use Rattle.rows.specs.Pour.{Poured};
 ghost use Rattle.nearest_rows.specs.Over.{nearest_over};
 ghost use Rattle.dial_rows.specs.Dials.{privileges_rows, segment_rows, data_rows, band_rows};
 ghost use Rattle.dial_rows.specs.Next.{Known, Searched};
 ghost use Rattle.dials.specs.List.{situation_rows, Begun, Filled, SafeDials};
 
-use codes::{Checked, Control, Direction, License, SidebandSet};
-use dial_rows::{CutRow, Request, Search, SegmentRow, Spot};
+use codes::{Direction, Refusal};
+use dial_rows::{Request, Search, Spot};
 use layout::Record;
-use nearest_rows::{Best, Here};
+use nearest_rows::Here;
 use occupancy::Edges;
 use station::{Situation, StationRecord};
-use table::{ChannelBand, Channels};
-
-// A list of so many rows, or the number of the refusal.
-#[derive(Clone, Copy)]
-pub enum DialList {
-    Rows(usize),
-    Refused(u8),
-}
+use table::Channels;
 
 // What was made of the rows so far: how many they are, and the nearest of them to a dial.
 #[derive(Clone, Copy)]
 pub struct Tally {
     pub count: usize,
-    pub best: Best,
+    pub best: Option<f64>,
 }
 
 // The bytes that rows are counted on: 64 rows. A list of no more takes one pass.
@@ -41,6 +33,7 @@ const OWN: usize = 2304;
 
 // The rows of a segment's record under every privilege, one after the other, into bytes that may have room for them or not, and held against
 // a dial. Each of these functions takes the tally so far and returns it with its own.
+#[tactic(auto, using(rows::specs::Pour::pouring_none, rows::specs::Pour::pouring_step, rows::specs::Pour::pouring_done, dial_rows::specs::Next::privileges_all, dial_rows::specs::Laws::privileges_few, nearest_rows::specs::Laws::over_row, nearest_rows::specs::Laws::over_none))]
 fn privileges_rows(
     image: &[u8],
     rows: &mut [u8],
@@ -58,33 +51,30 @@ fn privileges_rows(
         privilege: w.first,
         cut: 0,
     };
-    let mut n = before.count;
-    let mut best = before.best;
-    loop {
-        match dial_rows::privileges_from(image, q, w, r, spot) {
-            SegmentRow::Row(x, behind) => {
-                rows::offer(
-                    rows,
-                    n,
-                    x.band,
-                    x.rule,
-                    x.segment.low_hz,
-                    x.segment.high_hz,
-                    x.dial_low_hz,
-                    x.dial_high_hz,
-                );
-                best = nearest_rows::consider(h, best, x);
-                spot = behind;
-            }
-            SegmentRow::NoRow => {
-                return Tally { count: n, best };
-            }
-        }
-        n += 1;
+    let Tally {
+        mut count,
+        mut best,
+    } = before;
+    while let Some((x, behind)) = dial_rows::privileges_from(image, q, w, r, spot) {
+        rows::offer(
+            rows,
+            count,
+            x.band,
+            x.rule,
+            x.segment.low_hz,
+            x.segment.high_hz,
+            x.dial_low_hz,
+            x.dial_high_hz,
+        );
+        best = nearest_rows::consider(h, best, x);
+        spot = behind;
+        count += 1;
     }
+    Tally { count, best }
 }
 
 // The rows of a segment's record: none where it is passed over.
+#[tactic(auto, using(rows::specs::Pour::poured_none, dial_rows::specs::Next::segment_closed, dial_rows::specs::Next::segment_open, nearest_rows::specs::Laws::over_none))]
 fn segment_rows(
     image: &[u8],
     rows: &mut [u8],
@@ -99,31 +89,32 @@ fn segment_rows(
         × (result.best ≡ nearest_over h.dial_hz h.flags h.channel_band before.best (segment_rows (table_of image.now) q (segment_of r))) }
 {
     if dial_rows::closed(image, q, r) {
-        return before;
+        before
+    } else {
+        privileges_rows(image, rows, q, w, r, h, before)
     }
-    privileges_rows(image, rows, q, w, r, h, before)
 }
 
 // The rows of every data segment.
+#[tactic(auto, using(layout::specs::Laws::table_within, dial_rows::specs::Next::data_all, dial_rows::specs::Laws::data_few, rows::specs::Pour::pouring_none, rows::specs::Pour::pouring_more, rows::specs::Pour::pouring_done, lists::specs::From::from_step, lists::specs::From::from_end, table::specs::Laws::at_in, nearest_rows::specs::Laws::over_append, nearest_rows::specs::Laws::over_none))]
 pub fn data_rows(image: &[u8], rows: &mut [u8], q: Request, w: Search, h: Here) -> Tally
     requires { Known image.now q w }
     ensures { (Poured rows.old 0 rows.new result.count (data_rows (table_of image.now) q))
-        × (result.best ≡ nearest_over h.dial_hz h.flags h.channel_band Best.Nowhere (data_rows (table_of image.now) q)) }
+        × (result.best ≡ nearest_over h.dial_hz h.flags h.channel_band None (data_rows (table_of image.now) q)) }
 {
-    let mut n: usize = 0;
-    let mut best = Best::Nowhere;
-    let mut i: usize = 0;
-    while i < w.segment_count {
+    let mut t = Tally {
+        count: 0,
+        best: None,
+    };
+    for i in 0..w.segment_count {
         let r = layout::record_at(image, w.segments + layout::RECORD_SIZE * i);
-        let t = segment_rows(image, rows, q, w, r, h, Tally { count: n, best });
-        n = t.count;
-        best = t.best;
-        i += 1;
+        t = segment_rows(image, rows, q, w, r, h, t);
     }
-    Tally { count: n, best }
+    t
 }
 
 // The rows of the channels.
+#[tactic(auto, using(rows::specs::Pour::pouring_none, rows::specs::Pour::pouring_step, rows::specs::Pour::pouring_done, dial_rows::specs::Next::band_all, dial_rows::specs::Laws::open_few))]
 fn channel_rows(
     image: &[u8],
     rows: &mut [u8],
@@ -132,36 +123,31 @@ fn channel_rows(
     c: Channels,
     before: usize,
 ) -> usize
-    requires { (Searched image.now q (On c) w) × (before + 256 ≤ 0x1_0000_0000) }
-    ensures { Poured rows.old before rows.new result (band_rows (table_of image.now) q (On c)) }
+    requires { (Searched image.now q (Some c) w) × (before + 256 ≤ 0x1_0000_0000) }
+    ensures { Poured rows.old before rows.new result (band_rows (table_of image.now) q (Some c)) }
 {
-    let mut from: usize = 0;
-    let mut n = before;
-    loop {
-        match dial_rows::channels_from(image, q, w, c, from) {
-            CutRow::Row(x, behind) => {
-                rows::offer(
-                    rows,
-                    n,
-                    x.band,
-                    x.rule,
-                    x.segment.low_hz,
-                    x.segment.high_hz,
-                    x.dial_low_hz,
-                    x.dial_high_hz,
-                );
-                from = behind;
-            }
-            CutRow::NoRow => {
-                return n;
-            }
-        }
-        n += 1;
+    let mut from = 0;
+    let mut count = before;
+    while let Some((x, behind)) = dial_rows::channels_from(image, q, w, c, from) {
+        rows::offer(
+            rows,
+            count,
+            x.band,
+            x.rule,
+            x.segment.low_hz,
+            x.segment.high_hz,
+            x.dial_low_hz,
+            x.dial_high_hz,
+        );
+        from = behind;
+        count += 1;
     }
+    count
 }
 
 // Every row; and their count.
-fn gather(image: &[u8], rows: &mut [u8], q: Request, w: Search, band: ChannelBand) -> usize
+#[tactic(auto, using(rows::specs::Pour::poured_none, rows::specs::Pour::poured_more, dial_rows::specs::Laws::data_few))]
+fn gather(image: &[u8], rows: &mut [u8], q: Request, w: Search, band: Option<Channels>) -> usize
     requires { Searched image.now q band w }
     ensures { Poured rows.old 0 rows.new result
         (data_rows (table_of image.now) q ++ band_rows (table_of image.now) q band) }
@@ -171,21 +157,21 @@ fn gather(image: &[u8], rows: &mut [u8], q: Request, w: Search, band: ChannelBan
         flags: 0,
         channel_band: 0,
     };
-    let t = data_rows(image, rows, q, w, h);
-    let n = t.count;
+    let count = data_rows(image, rows, q, w, h).count;
     match band {
-        ChannelBand::On(c) => channel_rows(image, rows, q, w, c, n),
-        ChannelBand::NoChannels => n,
+        Some(c) => channel_rows(image, rows, q, w, c, count),
+        None => count,
     }
 }
 
 // Writes the rows, which fit: from the bytes that they were counted on, where these had room for all, and else by one more pass.
+#[tactic(auto, using(dial_rows::specs::Laws::gathered_low, crate::specs::Answer::copied, crate::specs::Answer::poured_whole))]
 fn settle(
     image: &[u8],
     rows: &mut [u8],
     q: Request,
     w: Search,
-    band: ChannelBand,
+    band: Option<Channels>,
     own: &[u8],
     count: usize,
 )
@@ -198,34 +184,35 @@ fn settle(
     let room = count * rows::ROW_SIZE;
     if room <= own.len() {
         byte_writes::copy(rows, own, room);
-        return;
+    } else {
+        gather(image, &mut rows[..room], q, w, band);
     }
-    gather(image, &mut rows[..room], q, w, band);
 }
 
 // Counts the rows on bytes of their own, refuses a list longer than the whole rows lent, and writes the rows where they fit.
+#[tactic(auto, using(dial_rows::specs::Laws::gathered_low, crate::specs::Answer::begun, crate::specs::Answer::filled_long, crate::specs::Answer::filled_fit))]
 fn fill_from(
     image: &[u8],
     rows: &mut [u8],
     own: &mut [u8],
     q: Request,
     w: Search,
-    band: ChannelBand,
-) -> DialList
+    band: Option<Channels>,
+) -> Result<usize, Refusal>
     requires { Searched image.now q band w }
     ensures { Filled (data_rows (table_of image.now) q ++ band_rows (table_of image.now) q band)
         rows.old rows.new result }
 {
     let count = gather(image, own, q, w, band);
     if rows.len() / rows::ROW_SIZE < count {
-        return DialList::Refused(23);
+        return Err(Refusal::Rows);
     }
     settle(image, rows, q, w, band, own, count);
-    DialList::Rows(count)
+    Ok(count)
 }
 
 // The same with bytes made for it.
-fn fill(image: &[u8], rows: &mut [u8], q: Request, band: ChannelBand) -> DialList
+fn fill(image: &[u8], rows: &mut [u8], q: Request, band: Option<Channels>) -> Result<usize, Refusal>
     requires { Whole image.now }
     ensures { Filled (data_rows (table_of image.now) q ++ band_rows (table_of image.now) q band)
         rows.old rows.new result }
@@ -236,27 +223,19 @@ fn fill(image: &[u8], rows: &mut [u8], q: Request, band: ChannelBand) -> DialLis
 }
 
 // The list for a station and edges as they are read, under Rules.
+#[tactic(auto, unfolding(crate::specs::List::situation_rows, dial_rows::specs::Dials::rows_of))]
 fn situation_list(
     image: &[u8],
     rows: &mut [u8],
     s: Situation,
     direction: Direction,
     e: Edges,
-) -> DialList
+) -> Result<usize, Refusal>
     requires { Whole image.now }
     ensures { Filled (situation_rows (table_of image.now) s direction e) rows.old rows.new result }
 {
-    let sideband_set = s.sideband;
-    let SidebandSet::SidebandIs(sideband) = sideband_set else {
-        return DialList::Rows(0);
-    };
-    let license_set = s.license;
-    let License::LicenseIs(license) = license_set else {
-        return DialList::Rows(0);
-    };
-    let control_set = s.control;
-    let Control::ControlIs(control) = control_set else {
-        return DialList::Rows(0);
+    let (Some(sideband), Some(license), Some(control)) = (s.sideband, s.license, s.control) else {
+        return Ok(0);
     };
     let g = layout::general_of(image);
     let audio = e.range(table::reading_of(g));
@@ -265,27 +244,24 @@ fn situation_list(
 }
 
 // The dials that keep a signal of these edges inside the rules, with the margins to spare, in a stable order by lower dial.
+#[tactic(auto, using(entry::specs::Laws::entry_whole, crate::specs::Answer::filled_none, crate::specs::Answer::safe_refused, crate::specs::Answer::safe_edges, crate::specs::Answer::safe_filled, crate::specs::Answer::rows_free, crate::specs::Answer::rows_rules))]
 pub fn safe_dials(
     r: StationRecord,
     direction: u8,
     e: Edges,
     image: &[u8],
     rows: &mut [u8],
-) -> DialList
+) -> Result<usize, Refusal>
     ensures { SafeDials r direction e image.now rows.old rows.new result }
 {
-    match entry::admit(r, codes::direction_valid(direction), image) {
-        Checked::Refused(n) => DialList::Refused(n),
-        Checked::Accepted => {
-            if entry::edges_valid(e) {
-                if r.policy == 2 {
-                    let s = station::situation_of(r);
-                    let read = entry::edges_read(e);
-                    return situation_list(image, rows, s, codes::direction_of(direction), read);
-                }
-                return DialList::Rows(0);
-            }
-            DialList::Refused(15)
-        }
+    entry::admit(r, codes::direction_valid(direction), image)?;
+    if !entry::edges_valid(e) {
+        return Err(Refusal::SignalEdge);
     }
+    if r.policy != 2 {
+        return Ok(0);
+    }
+    let s = station::situation_of(r);
+    let read = entry::edges_read(e);
+    situation_list(image, rows, s, Direction::from(direction), read)
 }

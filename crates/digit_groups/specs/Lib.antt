@@ -1,3 +1,2 @@
 pub mod Group
 pub mod Table
-pub mod Laws

@@ -62,12 +62,3 @@ row_at rule rows r k i e = record {
   entry = λ (n : ℕ) (h : n < 1000) (f : n / 20 ≡ k).
       subst (λ (j : ℕ). group_in (get_or rows j no_row) n ≡ rule n) (f ∙ e) (entry_at rule rows r n h);
 }
-
--- k is none of the numbers below n
-abbrev pub NoneOf : ℕ → ℕ → Type 0
-NoneOf zero k = Unit
-NoneOf (suc n) k = NoneOf n k × (k ≡ n → ⊥)
-
-pub none_of : (n k : ℕ) → NoneOf n k → k < n → ⊥
-none_of zero k o h = not-suc-le-zero h
-none_of (suc n) k o h = ⊎_elim o.1 (none_of n k o.0) (eq-or-lt_of_le (le_of_suc-le-suc h))

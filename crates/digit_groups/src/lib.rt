@@ -18,6 +18,7 @@ pub struct Group {
 }
 
 // The table.
+#[tactic(auto, unfolding(crate::specs::Table::ruled))]
 fn rows() -> [Row; 50]
     ensures { Ruled entry_of result }
 {
@@ -26,6 +27,7 @@ fn rows() -> [Row; 50]
 
 // A row of the table. Rows that are read at fixed places become data of the library: with `t[k]` the whole table would be laid on the
 // stack first.
+#[tactic(auto, using(crate::specs::Table::row_at))]
 fn row_at(k: u64) -> Row
     requires { k < 50 }
     ensures { RowRuled entry_of k result }
@@ -116,8 +118,8 @@ pub fn last_three(n: u64) -> Group
 {
     let e = entry(n);
     Group {
-        first: 48 + (e / 256) as u8,
-        second: 48 + (e / 16 % 16) as u8,
-        third: 48 + (e % 16) as u8,
+        first: b'0' + (e / 256) as u8,
+        second: b'0' + (e / 16 % 16) as u8,
+        third: b'0' + (e % 16) as u8,
     }
 }

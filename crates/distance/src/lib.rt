@@ -5,22 +5,14 @@ ghost use Rattle.std.specs.Prelude.{◌≡◌, ◌+◌, ◌*◌, ◌≤◌, leng
 ghost use Rattle.rows.specs.Rows.{low_at, high_at, row_band};
 ghost use Rattle.distance.specs.Distance.{is_outside, distance_to, counts, nearer_of, considered_at, least_up_to, distance_of};
 
-// How far a dial stands from the nearest row outside the channel band, that there is no such row, or the number of the refusal.
-#[derive(Clone, Copy)]
-pub enum Distance {
-    Hertz(f64),
-    NoneListed,
-    Refused(u8),
-}
+use codes::Refusal;
 
 // A band that is not the channel band.
+#[tactic(auto, unfolding(crate::specs::Distance::is_outside))]
 pub fn is_outside(flags: u8, channel_band: u8, band: u8) -> bool
     ensures { result ≡ is_outside flags channel_band band }
 {
-    if codes::bit2(flags) {
-        return band != channel_band;
-    }
-    true
+    !(codes::bit(flags, 2) && band == channel_band)
 }
 
 // Whether a row outside the channel band begins at a place.
@@ -28,10 +20,8 @@ fn row_counts(rows: &[u8], at: usize, flags: u8, channel_band: u8) -> bool
     requires { at + 36 ≤ length rows.now }
     ensures { result ≡ counts flags channel_band (row_band rows.now at) (low_at rows.now at) (high_at rows.now at) }
 {
-    if is_outside(flags, channel_band, rows::band_at(rows, at)) {
-        return rows::low_at(rows, at) <= rows::high_at(rows, at);
-    }
-    false
+    is_outside(flags, channel_band, rows::band_at(rows, at))
+        && rows::low_at(rows, at) <= rows::high_at(rows, at)
 }
 
 // How far a dial stands below a lower dial or above an upper one, 0 on or between them.
@@ -39,73 +29,76 @@ fn distance_to(dial_hz: f64, low: f64, high: f64) -> f64
     ensures { result ≡ distance_to dial_hz low high }
 {
     if dial_hz < low {
-        return low - dial_hz;
+        low - dial_hz
+    } else if high < dial_hz {
+        dial_hz - high
+    } else {
+        0.0
     }
-    if high < dial_hz {
-        return dial_hz - high;
-    }
-    0.0
 }
 
 // The lesser of the least distance so far and another.
-fn nearer(best: Distance, by: f64) -> Distance
+fn nearer(best: Option<f64>, by: f64) -> Option<f64>
     ensures { result ≡ nearer_of best by }
 {
     match best {
-        Distance::Hertz(least) => {
-            if by < least {
-                Distance::Hertz(by)
-            } else {
-                Distance::Hertz(least)
-            }
-        }
-        Distance::NoneListed => Distance::Hertz(by),
-        Distance::Refused(n) => Distance::Refused(n),
+        Some(least) => Some(if by < least { by } else { least }),
+        None => Some(by),
     }
 }
 
+#[tactic(auto, unfolding(crate::specs::Distance::considered_at))]
 fn consider(
-    best: Distance,
+    best: Option<f64>,
     dial_hz: f64,
     flags: u8,
     channel_band: u8,
     rows: &[u8],
     at: usize,
-) -> Distance
+) -> Option<f64>
     requires { at + 36 ≤ length rows.now }
     ensures { result ≡ considered_at dial_hz flags channel_band rows.now best at }
 {
     if row_counts(rows, at, flags, channel_band) {
-        let by = distance_to(dial_hz, rows::low_at(rows, at), rows::high_at(rows, at));
-        return nearer(best, by);
+        nearer(
+            best,
+            distance_to(dial_hz, rows::low_at(rows, at), rows::high_at(rows, at)),
+        )
+    } else {
+        best
     }
-    best
 }
 
 // The least over the first count rows.
-fn least(dial_hz: f64, flags: u8, channel_band: u8, count: usize, rows: &[u8]) -> Distance
+#[tactic(auto, unfolding(crate::specs::Distance::least_up_to))]
+fn least(dial_hz: f64, flags: u8, channel_band: u8, count: usize, rows: &[u8]) -> Option<f64>
     requires { count * 36 ≤ length rows.now }
     ensures { result ≡ least_up_to dial_hz flags channel_band rows.now count }
 {
-    let mut best = Distance::NoneListed;
-    let mut i: usize = 0;
-    while i < count {
+    let mut best = None;
+    for i in 0..count {
         best = consider(best, dial_hz, flags, channel_band, rows, i * rows::ROW_SIZE);
-        i += 1;
     }
     best
 }
 
 // How far a dial stands from the nearest of the first count rows, those of the channel band left out. flags and channel_band are
 // bytes 42 and 43 of the image that the list is of.
-pub fn distance_of(dial_hz: f64, flags: u8, channel_band: u8, count: usize, rows: &[u8]) -> Distance
+#[tactic(auto, unfolding(crate::specs::Distance::distance_of))]
+pub fn distance_of(
+    dial_hz: f64,
+    flags: u8,
+    channel_band: u8,
+    count: usize,
+    rows: &[u8],
+) -> Result<Option<f64>, Refusal>
     ensures { result ≡ distance_of dial_hz flags channel_band count rows.now }
 {
-    if figures::in_size(figures::LIMIT, dial_hz) {
-        if rows.len() / rows::ROW_SIZE < count {
-            return Distance::Refused(23);
-        }
-        return least(figures::read_hz(dial_hz), flags, channel_band, count, rows);
+    if !figures::in_size(figures::LIMIT, dial_hz) {
+        return Err(Refusal::StationFigure);
     }
-    Distance::Refused(21)
+    if rows.len() / rows::ROW_SIZE < count {
+        return Err(Refusal::Rows);
+    }
+    Ok(least(figures::read_hz(dial_hz), flags, channel_band, count, rows))
 }

@@ -75,19 +75,18 @@ unfolding little
 every_little zero x = tt
 every_little (suc w) x = (omega arith, every_little w (x / 256))
 
-every_littles : (ws xs : List ℕ) → Every Small (littles ws xs)
+every_littles : (xs : List (ℕ × ℕ)) → Every Small (littles xs)
 unfolding littles
-every_littles [] xs = tt
-every_littles (w ∷ ws) [] = tt
-every_littles (w ∷ ws) (x ∷ xs) = every_append (little w x) (littles ws xs) (every_little w x) (every_littles ws xs)
+every_littles [] = tt
+every_littles (x ∷ xs) = every_append (little x.0 x.1) (littles xs) (every_little x.0 x.1) (every_littles xs)
 
 every_bytes : (l : List ℕ) → Every Small l → Bytes l
 every_bytes [] e i = omega arith
 every_bytes (x ∷ l) e zero = e.0
 every_bytes (x ∷ l) e (suc i) = every_bytes l e.1 i
 
-pub littles_bytes : (ws xs : List ℕ) → Bytes (littles ws xs)
-littles_bytes ws xs = every_bytes (littles ws xs) (every_littles ws xs)
+pub littles_bytes : (xs : List (ℕ × ℕ)) → Bytes (littles xs)
+littles_bytes xs = every_bytes (littles xs) (every_littles xs)
 
 -- ---- numbers, read back from their bytes
 

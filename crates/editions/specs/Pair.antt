@@ -1,7 +1,9 @@
 -- An image of edition 1 and its edition 2 form, part by part: the same general block, records and counts; in edition 2 the two watts between,
 -- and another end. They hold the same table, and where one is in form the other is.
 use Prim.Native.Nat.{ℕ, zero, suc, ◌+◌, ◌*◌, ◌-◌, ◌≤◌, ◌<◌}
-use Rattle.std.specs.Prelude.{Bool, true, false, not, ◌&&◌, ◌≡◌, eqb, length, take, drop}
+use Rattle.std.specs.Prelude.{Ok, Err, Bool, true, false, not, ◌&&◌, ◌≡◌, eqb, length, take, drop}
+use Rattle.codes.specs.declared.Refusal.TheVariants as refusal
+use Rattle.codes.specs.Refusal.{Checked}
 use Rattle.std.proofs.Math.Bool.{cond}
 use mathlib.Core.List.{List, [], ◌++◌}
 use Rattle.std.proofs.Math.Path.{refl, ap, ap₂}
@@ -9,13 +11,10 @@ use Rattle.std.proofs.Common.{sym, ◌∙◌, arith, eq-eqb, le-ltb, length-appe
 use Rattle.std.proofs.Math.ListN.{get_or-append}
 use Rattle.std.proofs.Math.Seq.{drop-append-add}
 use Rattle.scan.specs.Laws.{some_all}
-use Rattle.codes.specs.declared.Checked.{Checked}
-use Rattle.codes.specs.declared.Checked.TheVariants.{Accepted, Refused}
 use Rattle.layout.specs.Bytes.{byte_at, u16_at, u32_at, u64_at}
 use Rattle.layout.specs.Layout.{general_size, watts_size, record_size, trailer_size, tables, trailer_of, edition_of, letters_of, distance_back, count_of}
 use Rattle.layout.specs.Layout.{fixed_channel_watts, fixed_segment_watts, watts_at, records_before, tables_from, place_of, record_of, general_of}
-use Rattle.layout.specs.Form.{letters, size_wrong, letter_right, letters_wrong, edition_wrong, overfull_at, counts_wrong}
-use Rattle.layout.specs.Form.{Whole}
+use Rattle.layout.specs.Form.{letters, size_wrong, letter_right, letters_wrong, edition_wrong, overfull_at, counts_wrong, Whole}
 use Rattle.layout.specs.Laws.{table_within}
 use Rattle.table.specs.Table.{table_of}
 use Rattle.byte_writes.specs.Bytes.{little}
@@ -99,7 +98,7 @@ form_of l edition a b ends n few ends_at =
     ∙ ap₂ (λ (e c : Bool). formed false false e c) edition_right counts
   where
     formed : Bool → Bool → Bool → Bool → Checked
-    formed s w e c = cond s (Refused 1) (cond w (Refused 2) (cond e (Refused 3) (cond c (Refused 4) Accepted)))
+    formed s w e c = cond s (Err refusal.ImageLength) (cond w (Err refusal.Letters) (cond e (Err refusal.Edition) (cond c (Err refusal.Counts) (Ok tt))))
 
     size : size_wrong l ≡ false
     size = rw (le-ltb _ _ a) (le-ltb _ _ b)

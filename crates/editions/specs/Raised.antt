@@ -1,6 +1,8 @@
 -- Theorems on the converters (document 02, 6): "Gate answers are the same for an edition 1 image and its raised form, and lowering a raised
 -- image gives the first bytes"; raising a lowered one gives its bytes back too.
-use Rattle.std.specs.Prelude.{ℕ, zero, suc, ◌+◌, ◌-◌, ◌≤◌, ◌<◌, Bool, true, false, ◌&&◌, ◌||◌, List, [], ◌∷◌, ◌++◌, ◌≡◌, length, take, drop, Float}
+use Rattle.std.specs.Prelude.{ℕ, zero, suc, ◌+◌, ◌-◌, ◌≤◌, ◌<◌, Bool, true, false, ◌&&◌, ◌||◌, List, [], ◌∷◌, ◌++◌, ◌≡◌, length, take, drop, Float, Result, Ok}
+use Rattle.codes.specs.declared.Refusal.TheVariants as refusal
+use Rattle.codes.specs.declared.Refusal.{Refusal}
 use Rattle.std.proofs.Math.Bool.{cond, not}
 use Rattle.std.proofs.Math.Path.{refl, sym, ap, ap₂}
 use Rattle.std.proofs.Common.{subst, ◌∙◌, arith, take-append-drop, length-drop, length-take-le, drop-drop, ext_get_or, get_or-take, get_or-drop}
@@ -9,7 +11,6 @@ use Rattle.std.proofs.Math.Dec.{eqb}
 use Rattle.scan.specs.Laws.{and_true}
 use Rattle.codes.specs.Refusal.{test, refusal_of}
 use Rattle.codes.specs.Laws.{none_fails, refusal_both, refusal_next}
-use Rattle.codes.specs.declared.Checked.TheVariants.{Accepted}
 use Rattle.occupancy.specs.declared.Edges.{Edges}
 use Rattle.station.specs.declared.StationRecord.{StationRecord}
 use Rattle.layout.specs.Bytes.{byte_at, u16_at, u32_at, u64_at}
@@ -26,10 +27,8 @@ use Rattle.fault.specs.Fault.{fault_of}
 use Rattle.verdict.specs.Verdict.{evaluate_of, unmeasured_of}
 use Rattle.ceiling.specs.Ceiling.{ceiling_of}
 use Rattle.dials.specs.List.{SafeDials}
-use Rattle.dials.specs.declared.DialList.{DialList}
 use Rattle.distance.specs.Distance.{distance_of}
 use Rattle.report.specs.Report.{Reported}
-use Rattle.report.specs.declared.TableReport.{TableReport}
 use Rattle.given.specs.Tests.{neither_edition}
 use Rattle.writer.specs.Image.{watts_bytes, end_bytes}
 use Rattle.writer.specs.Laws.{watts_length, end_length}
@@ -57,7 +56,7 @@ drop_like l m a n s =
     ext_get_or 0 (drop a l) m n
     (λ i h. let z : 0 + i ≡ i = omega arith in get_or-drop a l i 0 ∙ (rw z at (s i (omega arith))))
 
-module _ (l : List ℕ) (B : Bytes l) (accepted : check_of l ≡ Accepted) where
+module _ (l : List ℕ) (B : Bytes l) (accepted : check_of l ≡ Ok tt) where
   in_form : InForm l
   unfolding check_of
   in_form = (refusal_both (form_tests l) (content_tests (table_of l)) accepted).0
@@ -106,7 +105,7 @@ module _ (l : List ℕ) (B : Bytes l) (accepted : check_of l ≡ Accepted) where
       (rw (end_length (trailer_of l) edition) (alike_both l E B F at 0 6 4 front (λ i h. last i h)))
     where
       end_small : (d e : ℕ) → Bytes (end_bytes d e)
-      end_small d e = unfold end_bytes in littles_bytes _ _
+      end_small d e = unfold end_bytes in littles_bytes _
 
       last : (i : ℕ) → i < 4 → byte_at l (trailer_of l + 18 + 6 + i) ≡ byte_at (end_bytes (trailer_of l) edition) (6 + i)
       last i h =
@@ -114,14 +113,14 @@ module _ (l : List ℕ) (B : Bytes l) (accepted : check_of l ≡ Accepted) where
           rw x (letter_right_holds i h ∙ sym (letter_back (trailer_of l) edition i h))
 
 -- an accepted image is one that a converter from its edition takes
-taken : (l : List ℕ) (edition : ℕ) → neither_edition edition ≡ false → check_of l ≡ Accepted → edition_of l ≡ edition → refusal_of (from_tests edition l) ≡ Accepted
+taken : (l : List ℕ) (edition : ℕ) → neither_edition edition ≡ false → check_of l ≡ Ok tt → edition_of l ≡ edition → refusal_of (from_tests edition l) ≡ Ok tt
 taken l edition n accepted e =
     let none = none_fails (form_tests l) (unfold check_of in (refusal_both (form_tests l) (content_tests (table_of l)) accepted).0) in
     sym (from_same l edition none.0 none.1.0 n e) ∙ accepted
 
 -- ---- raising
 
-module _ (l : List ℕ) (B : Bytes l) (accepted : check_of l ≡ Accepted) (first : edition_of l ≡ 1) where
+module _ (l : List ℕ) (B : Bytes l) (accepted : check_of l ≡ Ok tt) (first : edition_of l ≡ 1) where
   -- its parts
   abbrev A : List ℕ
   A = take general_size l
@@ -175,7 +174,7 @@ module _ (l : List ℕ) (B : Bytes l) (accepted : check_of l ≡ Accepted) (firs
   form = in_form l B accepted
 
   -- Raising an accepted image of edition 1 gives an accepted one,
-  pub raised_accepted : check_of (raised_of l) ≡ Accepted
+  pub raised_accepted : check_of (raised_of l) ≡ Ok tt
   raised_accepted = sym (check_same l (raised_of l) form raised_form raised_table) ∙ accepted
 
   -- and every gate answer is the same for it.
@@ -192,12 +191,12 @@ module _ (l : List ℕ) (B : Bytes l) (accepted : check_of l ≡ Accepted) (firs
   raised_ceiling = ceiling_same l (raised_of l) form raised_form raised_table
 
   pub raised_list :
-      (r : StationRecord) (direction : ℕ) (e : Edges) (lent left : List ℕ) (answer : DialList)
+      (r : StationRecord) (direction : ℕ) (e : Edges) (lent left : List ℕ) (answer : Result ℕ Refusal)
       → SafeDials r direction e l lent left answer → SafeDials r direction e (raised_of l) lent left answer
   raised_list = list_same l (raised_of l) form raised_form raised_table
 
   pub raised_report :
-      (class : ℕ) (lent left : List ℕ) (answer : TableReport) → Reported l class lent left answer → Reported (raised_of l) class lent left answer
+      (class : ℕ) (lent left : List ℕ) (answer : Result ℕ Refusal) → Reported l class lent left answer → Reported (raised_of l) class lent left answer
   raised_report = report_same l (raised_of l) form raised_form raised_table
 
   pub raised_tidy : tidy_of l ≡ tidy_of (raised_of l)
@@ -215,13 +214,13 @@ module _ (l : List ℕ) (B : Bytes l) (accepted : check_of l ≡ Accepted) (firs
       ap (λ (g : General). distance_of dial g.flags g.channel_band count rows) (ap (λ (t : Table). t.general) raised_table)
 
   -- A raised image can be lowered,
-  pub lower_takes : refusal_of (lower_tests (raised_of l)) ≡ Accepted
+  pub lower_takes : refusal_of (lower_tests (raised_of l)) ≡ Ok tt
   lower_takes =
-      refusal_next (from_tests 2 (raised_of l)) (test 26 (other_watts (general_of (raised_of l))) ∷ [])
+      refusal_next (from_tests 2 (raised_of l)) (test refusal.Watts (other_watts (general_of (raised_of l))) ∷ [])
       (taken (raised_of l) 2 refl raised_accepted
       (ap edition_of raised_is ∙ (two_ends A M d A_length M_length d_low d_high).edition_is))
-      ∙ ap (λ (g : General). refusal_of (test 26 (other_watts g) ∷ [])) (sym (ap (λ (t : Table). t.general) raised_table))
-      ∙ ap (λ (b : Bool). refusal_of (test 26 b ∷ [])) own
+      ∙ ap (λ (g : General). refusal_of (test refusal.Watts (other_watts g) ∷ [])) (sym (ap (λ (t : Table). t.general) raised_table))
+      ∙ ap (λ (b : Bool). refusal_of (test refusal.Watts b ∷ [])) own
     where
       fixed_at : (at fixed : ℕ) → watts_at l at fixed ≡ fixed
       fixed_at at fixed = unfold watts_at in ap (λ (k : ℕ). cond (eqb k 2) (u64_at l at) fixed) first
@@ -237,7 +236,7 @@ module _ (l : List ℕ) (B : Bytes l) (accepted : check_of l ≡ Accepted) (firs
 
 -- ---- lowering
 
-module _ (l : List ℕ) (B : Bytes l) (accepted : check_of l ≡ Accepted) (second : edition_of l ≡ 2) (fixed : other_watts (general_of l) ≡ false) where
+module _ (l : List ℕ) (B : Bytes l) (accepted : check_of l ≡ Ok tt) (second : edition_of l ≡ 2) (fixed : other_watts (general_of l) ≡ false) where
   abbrev A₂ : List ℕ
   A₂ = take general_size l
 
@@ -285,7 +284,7 @@ module _ (l : List ℕ) (B : Bytes l) (accepted : check_of l ≡ Accepted) (seco
       (omega (arith, n)))))
     where
       small : Bytes fixed_bytes
-      small = unfold watts_bytes in littles_bytes _ _
+      small = unfold watts_bytes in littles_bytes _
 
       read : (at fix : ℕ) → watts_at l at fix ≡ u64_at l at
       read at fix = unfold watts_at in ap (λ (k : ℕ). cond (eqb k 2) (u64_at l at) fix) second
@@ -325,11 +324,11 @@ module _ (l : List ℕ) (B : Bytes l) (accepted : check_of l ≡ Accepted) (seco
       ∙ ap table_of (sym split₂)
 
   -- A lowered image is accepted,
-  pub lowered_accepted : check_of (lowered_of l) ≡ Accepted
+  pub lowered_accepted : check_of (lowered_of l) ≡ Ok tt
   lowered_accepted = check_same (lowered_of l) l lowered_form (in_form l B accepted) lowered_table ∙ accepted
 
   -- and can be raised,
-  pub raise_takes : refusal_of (raise_tests (lowered_of l)) ≡ Accepted
+  pub raise_takes : refusal_of (raise_tests (lowered_of l)) ≡ Ok tt
   raise_takes =
       taken (lowered_of l) 1 refl lowered_accepted
       (ap edition_of lowered_is ∙ (one_ends A₂ M₂ d₂ A₂_length M₂_length d₂_low d₂_high).edition_is)

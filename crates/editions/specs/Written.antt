@@ -1,7 +1,9 @@
 -- What the writer writes is accepted, and holds the table of the fields and records given; and it "refuses with the number that its image
 -- would get" (document 02, 6).
 use Prim.Native.Nat.{ℕ, zero, suc, ◌+◌, ◌*◌, ◌^◌, ◌≤◌, ◌<◌}
-use Rattle.std.specs.Prelude.{Bool, not, ◌||◌, ◌≡◌, T, eqb, get_or, take, Float}
+use Rattle.std.specs.Prelude.{Ok, Err, Bool, not, ◌||◌, ◌≡◌, T, eqb, get_or, take, Float}
+use Rattle.codes.specs.declared.Refusal.TheVariants as refusal
+use Rattle.codes.specs.Refusal.{Checked, refusal_of}
 use Rattle.std.proofs.Math.Bool.{true, false, cond}
 use mathlib.Core.List.{List, [], ◌++◌, append_assoc}
 use Rattle.std.proofs.Math.Path.{refl, sym, ap, ap₂, fun_ext}
@@ -15,10 +17,7 @@ use Rattle.std.specs.Float.{nan, binary64}
 use Rattle.std.specs.Float.Ieee.{fits, to_bits}
 use Rattle.std.specs.Float.Ieee.Bits.{to_bits-lt}
 use Rattle.scan.specs.Laws.{some_same}
-use Rattle.codes.specs.Refusal.{refusal_of}
 use Rattle.codes.specs.Laws.{refusal_both}
-use Rattle.codes.specs.declared.Checked.{Checked}
-use Rattle.codes.specs.declared.Checked.TheVariants.{Accepted, Refused}
 use Rattle.layout.specs.Bytes.{byte_at, u16_at, u32_at, u64_at}
 use Rattle.layout.specs.Layout.{general_size, watts_size, record_size, tables, trailer_of, count_of, fixed_channel_watts, fixed_segment_watts}
 use Rattle.layout.specs.Layout.{distance_back, watts_at, general_of, records_before, tables_from, record_at, record_of}
@@ -36,7 +35,6 @@ use Rattle.given.specs.declared.Fields.{Fields}
 use Rattle.given.specs.Given.{Runs, count_from, before_from, record_from, general_from, count_given, record_given, table_with, table_from}
 use Rattle.given.specs.Tests.{too_many, neither_edition, overfull_from, runs_wrong, given_wrong, given_tests}
 use Rattle.given.specs.Laws.{before_within, count_given_holds, record_given_holds, sound_of}
-use Rattle.writer.specs.declared.ImageAnswer.TheVariants.{Length}
 use Rattle.writer.specs.Image.{littles, record_bytes, block_bytes, watts_bytes, more_bytes, count_bytes, end_bytes, records_bytes, tables_at, trailer_at, image_of}
 use Rattle.writer.specs.Write.{room_test, image_answer, image_bytes, image_from, write_tests, Written}
 use Rattle.writer.specs.Laws.{each_length, record_length, block_length, more_length, records_length, counts_length, image_length}
@@ -414,11 +412,11 @@ module _ (e : ℕ) (g : General) (n : List ℕ) (r : Runs) (f : Fitting e g n r)
 -- ---- the refusal that the image would get
 
 module _ (e : ℕ) (g : General) (n : List ℕ) (r : Runs) (f : Fitting e g n r) (agree : runs_wrong r (before_from n tables) ≡ false) where
-  abbrev refusal : Bool → Bool → Bool → Bool → Table → Checked
-  refusal s w d c table = cond s (Refused 1) (cond w (Refused 2) (cond d (Refused 3) (cond c (Refused 4) (refusal_of (content_tests table)))))
+  abbrev checked : Bool → Bool → Bool → Bool → Table → Checked
+  checked s w d c table = cond s (Err refusal.ImageLength) (cond w (Err refusal.Letters) (cond d (Err refusal.Edition) (cond c (Err refusal.Counts) (refusal_of (content_tests table)))))
 
   abbrev given : Bool → Bool → Bool → Checked
-  given m d c = cond m (Refused 1) (cond d (Refused 3) (cond c (Refused 4) (refusal_of (content_tests (table_with g n r)))))
+  given m d c = cond m (Err refusal.ImageLength) (cond d (Err refusal.Edition) (cond c (Err refusal.Counts) (refusal_of (content_tests (table_with g n r)))))
 
   -- The writer's refusal is the one that its image gets, where the runs agree with the counts.
   pub refused_same : check_of (image_of e g n r) ≡ refusal_of (given_tests e g n r)
@@ -451,16 +449,16 @@ module _ (e : ℕ) (g : General) (n : List ℕ) (r : Runs) (f : Fitting e g n r)
 
       go : (b : Bool) → too_many n ≡ b → check_of (image_of e g n r) ≡ refusal_of (given_tests e g n r)
       go true m =
-          ap (λ (s : Bool). refusal s (letters_wrong (image_of e g n r)) (edition_wrong (image_of e g n r)) (counts_wrong (image_of e g n r)) (table_of
+          ap (λ (s : Bool). checked s (letters_wrong (image_of e g n r)) (edition_wrong (image_of e g n r)) (counts_wrong (image_of e g n r)) (table_of
           (image_of e g n r)))
           (long (ltb-true _ _ m))
           ∙ sym (ap (λ (s : Bool). given s (neither_edition e) (given_wrong n r)) m)
       go false m =
           let few : before_from n tables ≤ 2045 = ltb-false _ _ m in
-          ap₂ (λ (s w : Bool). refusal s w (edition_wrong (image_of e g n r)) (counts_wrong (image_of e g n r)) (table_of (image_of e g n r))) (short few)
+          ap₂ (λ (s w : Bool). checked s w (edition_wrong (image_of e g n r)) (counts_wrong (image_of e g n r)) (table_of (image_of e g n r))) (short few)
           (ends e g n r f few).letters_right
-          ∙ ap₂ (λ (d c : Bool). refusal false false d c (table_of (image_of e g n r))) (ap neither_edition (ends e g n r f few).edition_is) (counts few)
-          ∙ ap (refusal false false (neither_edition e) (given_wrong n r)) (table_back e g n r f few)
+          ∙ ap₂ (λ (d c : Bool). checked false false d c (table_of (image_of e g n r))) (ap neither_edition (ends e g n r f few).edition_is) (counts few)
+          ∙ ap (checked false false (neither_edition e) (given_wrong n r)) (table_back e g n r f few)
           ∙ sym (ap (λ (s : Bool). given s (neither_edition e) (given_wrong n r)) m)
 
 -- ---- the call
@@ -554,22 +552,22 @@ fitting f n r t =
 
 -- What the writer wrote, and its length: an accepted image, which holds the table of the fields and records that it was given.
 pub record Accurate (f : Fields) (n : List ℕ) (r : Runs) (image : List ℕ) : Type 0 where
-  pub accepted : check_of image ≡ Accepted
+  pub accepted : check_of image ≡ Ok tt
   pub read_back : table_of image ≡ table_from f n r
 
 pub written :
-    (f : Fields) (n : List ℕ) (r : Runs) (lent left : List ℕ) (size : ℕ) → Typed f n r → Written f n r lent left (Length size)
+    (f : Fields) (n : List ℕ) (r : Runs) (lent left : List ℕ) (size : ℕ) → Typed f n r → Written f n r lent left (Ok size)
     → Accurate f n r (take size left)
 written f n r lent left size t w = go (refusal_of (write_tests f n r lent)) refl w.answered w.bytes
   where
     go :
-        (c : Checked) → refusal_of (write_tests f n r lent) ≡ c → Length size ≡ image_answer c (image_from f n r)
+        (c : Checked) → refusal_of (write_tests f n r lent) ≡ c → Ok size ≡ image_answer c (image_from f n r)
         → left ≡ image_bytes c (image_from f n r) lent → Accurate f n r (take size left)
-    go (Refused k) e a b = absurd (let z : ◌≡◌ {A = ℕ} 0 1 = cc in omega arith)
-    go Accepted e a b =
+    go (Err k) e a b = absurd (let z : ◌≡◌ {A = ℕ} 0 1 = cc in omega arith)
+    go (Ok tt) e a b =
         let g = general_from f in
         let ts = given_tests f.edition g n r in
-        let ok : refusal_of ts ≡ Accepted = (refusal_both ts (room_test (image_from f n r) lent) e).0 in
+        let ok : refusal_of ts ≡ Ok tt = (refusal_both ts (room_test (image_from f n r) lent) e).0 in
         let s = sound_of f.edition g n r ok in
         let fit = fitting f n r t in
         let size_is : size ≡ length (image_from f n r) = cc in

@@ -1,8 +1,7 @@
 -- What every judging call does first: the refusals of station record and image, in order, and the edges as they are read.
 use Rattle.std.specs.Prelude.{ℕ, Bool, cond, ◌&&◌, List, [], ◌++◌}
+use Rattle.codes.specs.Refusal.{Checked, Test, refusal_of}
 use Rattle.figures.specs.Figure.{limit40, in_size, read_hz}
-use Rattle.codes.specs.Refusal.{Test, refusal_of}
-use Rattle.codes.specs.declared.Checked.{Checked}
 use Rattle.profile.specs.Range.{range}
 use Rattle.profile.specs.declared.Range.{Range}
 use Rattle.occupancy.specs.declared.Edges.{Edges}

@@ -14,16 +14,11 @@ use station::StationRecord;
 pub fn admit(r: StationRecord, beside: bool, image: &[u8]) -> Checked
     ensures { result ≡ entry_of r beside image.now }
 {
-    match station::refusals(r, beside, image) {
-        Checked::Refused(n) => Checked::Refused(n),
-        Checked::Accepted => {
-            if r.policy == 2 {
-                image::check(image)
-            } else {
-                Checked::Accepted
-            }
-        }
+    station::refusals(r, beside, image)?;
+    if r.policy == 2 {
+        return image::check(image);
     }
+    Ok(())
 }
 
 fn pair_valid(p: Range) -> bool
@@ -33,6 +28,7 @@ fn pair_valid(p: Range) -> bool
 }
 
 // Whether no edge meets refusal 15.
+#[tactic(auto, unfolding(crate::specs::Entry::edges_valid))]
 pub fn edges_valid(e: Edges) -> bool
     ensures { result ≡ edges_valid e }
 {
@@ -49,6 +45,7 @@ fn pair_read(p: Range) -> Range
 }
 
 // The edges as they are read.
+#[tactic(auto, unfolding(crate::specs::Entry::edges_read))]
 pub fn edges_read(e: Edges) -> Edges
     ensures { result ≡ edges_read e }
 {

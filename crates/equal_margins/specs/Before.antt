@@ -1,6 +1,8 @@
 -- The calls with one margin, as they stood before document 02, 9: for the theorems beside this page, and for nothing else. The margin is a
 -- figure beside the station record; the record's own margins are not looked at.
-use Rattle.std.specs.Prelude.{ℕ, ◌/◌, Bool, true, not, cond, ◌&&◌, ◌||◌, List, [], ◌∷◌, ◌++◌, eqb, length, Float}
+use Rattle.std.specs.Prelude.{ℕ, ◌/◌, Bool, true, not, cond, ◌&&◌, ◌||◌, List, [], ◌∷◌, ◌++◌, eqb, length, Float, Option, Some, None, Result, Ok, Err}
+use Rattle.codes.specs.declared.Refusal.TheVariants as refusal
+use Rattle.codes.specs.declared.Refusal.{Refusal}
 use Rattle.std.specs.Float.{binary64}
 use Rattle.std.specs.Float.Ieee.{add, sub}
 use Rattle.figures.specs.Figure.{zero_hz, limit40, in_size, read_hz}
@@ -21,7 +23,6 @@ use Rattle.occupancy.specs.Edges.{range_of}
 use Rattle.occupancy.specs.declared.Edges.{Edges}
 use Rattle.air.specs.Air.{rf_range_of, width_of, dials_between}
 use Rattle.station.specs.Station.{codes_valid, figure_valid, situation_of, under_rules}
-use Rattle.station.specs.declared.Figure.{Figure}
 use Rattle.station.specs.declared.Situation.{Situation}
 use Rattle.station.specs.declared.StationRecord.{StationRecord}
 use Rattle.layout.specs.Layout.{segments, channels, privileges, automatic}
@@ -31,8 +32,6 @@ use Rattle.table.specs.Table.{Table, table_of}
 use Rattle.table.specs.declared.Segment.{Segment}
 use Rattle.table.specs.declared.Privilege.{Privilege}
 use Rattle.table.specs.declared.Channels.{Channels}
-use Rattle.table.specs.declared.ChannelBand.{ChannelBand}
-use Rattle.table.specs.declared.ChannelBand.TheVariants.{On, NoChannels}
 use Rattle.entry.specs.Entry.{image_tests, edges_valid, edges_read}
 use Rattle.automatic_97_221.specs.Automatic.{applies_of}
 use Rattle.decision.specs.Decision.{simple_of}
@@ -41,9 +40,8 @@ use Rattle.decision.specs.declared.Code.TheVariants.{Region, NoControl, NoLicens
 use Rattle.decision.specs.declared.Decision.{Decision}
 use Rattle.decision.specs.declared.Verdict.TheVariants.{Legal, Blocked}
 use Rattle.part97.specs.declared.Case.{Case}
-use Rattle.verdict.specs.Verdict.{signal_of, with_control, with_license, with_sideband, with_dial, judged_of, unruled_of, beside_valid, edge_tests, unless_refused}
-use Rattle.verdict.specs.declared.Ready.{Ready}
-use Rattle.verdict.specs.declared.Ready.TheVariants.{Met, Missing}
+use Rattle.verdict.specs.declared.Missing.{Missing}
+use Rattle.verdict.specs.Verdict.{signal_of, missing, required, judged_of, unruled_of, beside_valid, edge_tests, unless_refused}
 use Rattle.ceiling.specs.Ceiling.{climbed, ceiling_unless_refused}
 use Rattle.rungs.specs.Rungs.{burst_of, rung_tests}
 use Rattle.ceiling.specs.declared.CeilingAnswer.{CeilingAnswer}
@@ -52,7 +50,6 @@ use Rattle.rows.specs.declared.SafeDial.{SafeDial}
 use Rattle.dial_rows.specs.Dials.{request_of, dial_rows, on_shared, cut, may_use, too_wide, excluded_band, channel_found, channels_open, channel_dial, channel_safe}
 use Rattle.dial_rows.specs.declared.Request.{Request}
 use Rattle.dials.specs.List.{rows_with_sideband, rows_with_license, rows_with_control, lent_tests, Listed}
-use Rattle.dials.specs.declared.DialList.{DialList}
 
 -- ---- ranges
 
@@ -82,7 +79,7 @@ figures_before r margin =
 -- 20 to 22, and 1 to 14
 abbrev pub entry_before : StationRecord → Float → Bool → List ℕ → List Test
 entry_before r margin beside l =
-    (test 20 (not (codes_valid r) || not beside) ∷ test 21 (not (figures_before r margin)) ∷ test 22 (under_rules r && eqb (length l) 0) ∷ [])
+    (test refusal.StationCode (not (codes_valid r) || not beside) ∷ test refusal.StationFigure (not (figures_before r margin)) ∷ test refusal.NoImage (under_rules r && eqb (length l) 0) ∷ [])
     ++ image_tests r l
 
 -- ---- verdict and ceiling: the station and its margin as they are read
@@ -105,20 +102,20 @@ case_before s margin control class sideband dial kind direction audio =
       band_plan = s.band_plan;
     }
 
-unfoldable pub ready_before : General → Situation → Float → Figure → EmissionKind → Direction → Range → Ready
+unfoldable pub ready_before : General → Situation → Float → Option Float → EmissionKind → Direction → Range → Result Case Missing
 ready_before g s margin dial kind direction audio =
     cond (eqb s.itu_region g.region)
-    (with_control s.control (Missing NoControl §97-109)
+    (required s.control (missing NoControl §97-109)
     (λ control.
-    with_license s.license (Missing NoLicense §97-301)
+    required s.license (missing NoLicense §97-301)
     (λ class.
-    with_sideband s.sideband (Missing NoSideband no_rule)
+    required s.sideband (missing NoSideband no_rule)
     (λ sideband.
-    with_dial dial (Missing NoDial no_rule)
-    (λ hz. Met (case_before s margin control class sideband hz kind direction audio))))))
-    (Missing Region §97-301)
+    required dial (missing NoDial no_rule)
+    (λ hz. Ok (case_before s margin control class sideband hz kind direction audio))))))
+    (Err (missing Region §97-301))
 
-unfoldable pub decide_before : Table → Situation → Float → Policy → Figure → EmissionKind → Direction → Edges → Decision
+unfoldable pub decide_before : Table → Situation → Float → Policy → Option Float → EmissionKind → Direction → Edges → Decision
 decide_before table s margin Unset dial kind direction e = unruled_of s dial e Blocked NoProfile
 decide_before table s margin NoneApply dial kind direction e = unruled_of s dial e Legal NoRules
 decide_before table s margin Rules dial kind direction e =
@@ -167,11 +164,11 @@ module _ (table : Table) (q : Request) (rows : ℕ → ℕ → Range → List Sa
   abbrev pub channel_with : Channels → Float → List SafeDial
   channel_with c centre = cond (holds c centre) (channel_safe c centre ∷ []) []
 
-  abbrev pub channels_with : ChannelBand → List SafeDial
-  channels_with (On c) =
+  abbrev pub channels_with : Option Channels → List SafeDial
+  channels_with (Some c) =
       cond (channels_open q && channel_found table q)
       (each (table.count channels) (λ i. channel_with c (centre_of (table.at channels i)))) []
-  channels_with NoChannels = []
+  channels_with None = []
 
   unfoldable pub rows_with : List SafeDial
   rows_with = each (table.count segments) (λ s. segment_with (segment_of (table.at segments s))) ++ channels_with (channels_of table.general)
@@ -200,9 +197,9 @@ list_before r margin direction e l =
     (read_hz margin)))))
     []
 
-abbrev pub SafeDialsBefore : StationRecord → Float → ℕ → Edges → List ℕ → List ℕ → List ℕ → DialList → Type 0
+abbrev pub SafeDialsBefore : StationRecord → Float → ℕ → Edges → List ℕ → List ℕ → List ℕ → Result ℕ Refusal → Type 0
 SafeDialsBefore r margin direction e l lent left answer =
     Listed
     (refusal_of
-    (entry_before r margin (direction_valid direction) l ++ (test 15 (not (edges_valid e)) ∷ lent_tests (list_before r margin direction e l) lent)))
+    (entry_before r margin (direction_valid direction) l ++ (test refusal.SignalEdge (not (edges_valid e)) ∷ lent_tests (list_before r margin direction e l) lent)))
     (list_before r margin direction e l) lent left answer

@@ -1,7 +1,10 @@
 -- "Equal margins give the former answers" (document 02, 9): with the same figure on both sides every call answers what it answered with that
 -- figure as its one margin, whatever record, image, edges and lent bytes.
 use Prim.Native.Nat.{ℕ, ◌/◌}
-use Rattle.std.specs.Prelude.{Bool, true, false, not, cond, ◌&&◌, ◌||◌, ◌≡◌, refl, eqb, length, Float}
+use Rattle.std.specs.Prelude.{Option, Some, None, Result, Bool, true, false, not, cond, ◌&&◌, ◌||◌, ◌≡◌, refl, eqb, length, Float}
+use Rattle.codes.specs.declared.Refusal.TheVariants as refusal
+use Rattle.codes.specs.declared.Refusal.{Refusal}
+use Rattle.table.specs.declared.Channels.{Channels}
 use mathlib.Core.List.{List, [], ◌∷◌, ◌++◌}
 use Rattle.std.proofs.Common.{sym, ap₂, ◌∙◌, subst}
 use Rattle.std.proofs.Math.Path.{ap, fun_ext}
@@ -24,13 +27,10 @@ use Rattle.occupancy.specs.declared.Edges.{Edges}
 use Rattle.air.specs.declared.Margins.{Margins}
 use Rattle.air.specs.Air.{margins, guarded_of, unguarded_of, dial_ends_of, dials_between}
 use Rattle.station.specs.Station.{codes_valid, figures_valid, situation_of, under_rules, fresh_margin, fresh_of}
-use Rattle.station.specs.declared.Figure.{Figure}
 use Rattle.station.specs.declared.Situation.{Situation}
 use Rattle.station.specs.declared.StationRecord.{StationRecord}
 use Rattle.table.specs.Parts.{channels_of, reading_of}
 use Rattle.table.specs.Table.{Table, table_of}
-use Rattle.table.specs.declared.ChannelBand.{ChannelBand}
-use Rattle.table.specs.declared.ChannelBand.TheVariants.{On, NoChannels}
 use Rattle.entry.specs.Entry.{image_tests, entry_tests, edges_valid, edges_read}
 use Rattle.decision.specs.declared.Decision.{Decision}
 use Rattle.decision.specs.Decision.{simple_of}
@@ -45,7 +45,6 @@ use Rattle.dial_rows.specs.Dials.{request_of, dial_rows, piece_rows, automatic_r
 use Rattle.dial_rows.specs.Dials.{channel_found, channel_holds, channel_row, channel_rows, open_rows, band_rows, rows_of}
 use Rattle.dial_rows.specs.declared.Request.{Request}
 use Rattle.dials.specs.List.{rows_with_sideband, rows_with_license, rows_with_control, situation_rows, list_rows, lent_tests, Listed, SafeDials}
-use Rattle.dials.specs.declared.DialList.{DialList}
 use Rattle.equal_margins.specs.Before.{guarded_before, unguarded_before, dial_ends_before, figures_before, entry_before, case_before, ready_before}
 use Rattle.equal_margins.specs.Before.{decide_before, evaluate_before, unmeasured_before, ceiling_before, channels_with, rows_with}
 use Rattle.equal_margins.specs.Before.{piece_before, rows_before, list_before, SafeDialsBefore}
@@ -108,7 +107,7 @@ figures_equal r margin = both_pass (in_size limit40 margin) _
 -- 20 to 22, and 1 to 14, by whether the figures pass
 abbrev entry_by : StationRecord → Bool → Bool → List ℕ → List Test
 entry_by r figures beside l =
-    (test 20 (not (codes_valid r) || not beside) ∷ test 21 (not figures) ∷ test 22 (under_rules r && eqb (length l) 0) ∷ []) ++ image_tests r l
+    (test refusal.StationCode (not (codes_valid r) || not beside) ∷ test refusal.StationFigure (not figures) ∷ test refusal.NoImage (under_rules r && eqb (length l) 0) ∷ []) ++ image_tests r l
 
 entry_equal : (r : StationRecord) (margin : Float) (beside : Bool) (l : List ℕ) → entry_tests (equal r margin) beside l ≡ entry_before r margin beside l
 unfolding codes_valid
@@ -117,7 +116,7 @@ entry_equal r margin beside l = ap (λ (b : Bool). entry_by r b beside l) (figur
 -- ---- the verdict
 
 decide_equal :
-    (table : Table) (s : Situation) (margin : Float) (policy : Policy) (dial : Figure) (kind : EmissionKind) (direction : Direction) (e : Edges)
+    (table : Table) (s : Situation) (margin : Float) (policy : Policy) (dial : Option Float) (kind : EmissionKind) (direction : Direction) (e : Edges)
     → decide_of table (equal_read s margin) policy dial kind direction e ≡ decide_before table s margin policy dial kind direction e
 unfolding decide_of decide_before unruled_of under_rules_of ready_of ready_before case_of case_before
 decide_equal table s margin Unset dial kind direction e = refl
@@ -162,10 +161,10 @@ ceiling_equal r margin direction ordinary floor l rungs floors =
 
 -- ---- the dial list
 
-channels_with_holds : (table : Table) (q : Request) (b : ChannelBand) → band_rows table q b ≡ channels_with table q (piece_rows q) (channel_holds q) b
+channels_with_holds : (table : Table) (q : Request) (b : Option Channels) → band_rows table q b ≡ channels_with table q (piece_rows q) (channel_holds q) b
 unfolding open_rows channel_rows channel_row
-channels_with_holds table q (On c) = refl
-channels_with_holds table q NoChannels = refl
+channels_with_holds table q (Some c) = refl
+channels_with_holds table q None = refl
 
 rows_with_holds : (table : Table) (q : Request) → rows_of table q ≡ rows_with table q (piece_rows q) (channel_holds q)
 unfolding rows_of rows_with data_rows segment_rows privileges_rows privilege_rows cut_rows automatic_rows
@@ -215,9 +214,9 @@ rows_listed_equal r margin direction e l =
     (range_of (edges_read e) (reading_of table.general)))))))))
 
 -- what the list call promises, with every lent byte
-module _ (r : StationRecord) (margin : Float) (direction : ℕ) (e : Edges) (l lent left : List ℕ) (answer : DialList) where
+module _ (r : StationRecord) (margin : Float) (direction : ℕ) (e : Edges) (l lent left : List ℕ) (answer : Result ℕ Refusal) where
   abbrev promised : List Test → List SafeDial → Type 0
-  promised tests xs = Listed (refusal_of (tests ++ (test 15 (not (edges_valid e)) ∷ lent_tests xs lent))) xs lent left answer
+  promised tests xs = Listed (refusal_of (tests ++ (test refusal.SignalEdge (not (edges_valid e)) ∷ lent_tests xs lent))) xs lent left answer
 
   same_promise : SafeDials (equal r margin) direction e l lent left answer ≡ SafeDialsBefore r margin direction e l lent left answer
   same_promise = ap₂ promised (entry_equal r margin (direction_valid direction) l) (rows_listed_equal r margin direction e l)

@@ -11,10 +11,9 @@ ghost use Rattle.find.specs.Question.{homeless_at};
 ghost use Rattle.fault.specs.Fault.{in_table, first_of, record_where, absent_part, miscoded_place, unsound_place, wrong_at, short_in, fault_at, fault_of};
 ghost use Rattle.fault.specs.Number.{fault_number};
 
-use codes::Checked;
+use codes::{Checked, Refusal};
 use find::Question;
 use layout::General;
-use scan::Found;
 
 #[derive(Clone, Copy)]
 pub enum Fault {
@@ -22,55 +21,51 @@ pub enum Fault {
     InGeneral,
     // In a record: its table, 0 to 8, and its index there.
     InRecord(usize, usize),
-    // In no one place: the refusals of the form (1 to 4), 11, 14, and an accepted image.
-    Nowhere,
 }
 
 #[derive(Clone, Copy)]
 pub struct FaultAnswer {
     pub refusal: Checked,
-    pub fault: Fault,
+    pub fault: Option<Fault>,
 }
 
 // 0 nowhere, 1 the general block, 2 a record.
-pub fn fault_number(f: Fault) -> u8
+pub fn fault_number(f: Option<Fault>) -> u8
     ensures { result ≡ fault_number f }
 {
     match f {
-        Fault::Nowhere => 0,
-        Fault::InGeneral => 1,
-        Fault::InRecord(_, _) => 2,
+        None => 0,
+        Some(Fault::InGeneral) => 1,
+        Some(Fault::InRecord(_, _)) => 2,
     }
 }
 
 // What a scan of table t found.
-fn in_table(t: usize, f: Found) -> Fault
+fn in_table(t: usize, f: Option<usize>) -> Option<Fault>
     ensures { result ≡ in_table t f }
 {
-    match f {
-        Found::At(i) => Fault::InRecord(t, i),
-        Found::Nothing => Fault::Nowhere,
-    }
+    f.map(|i| Fault::InRecord(t, i))
 }
 
 // Whether table t belongs to a part that the flags say is absent.
+#[tactic(auto, unfolding(crate::specs::Fault::absent_part))]
 fn is_absent(g: General, t: usize) -> bool
     ensures { result ≡ absent_part g t }
 {
     if t == layout::CHANNELS {
-        return !codes::bit2(g.flags);
+        return !codes::bit(g.flags, 2);
     }
     if t == layout::PLAN_DATA {
-        return !codes::bit4(g.flags);
+        return !codes::bit(g.flags, 4);
     }
     if t == layout::PLAN_AVOID {
-        return !codes::bit4(g.flags);
+        return !codes::bit(g.flags, 4);
     }
     false
 }
 
 // The first record of table t that meets 5, or 6.
-fn find_wrong(s: &[u8], coding: bool, t: usize) -> Found
+fn find_wrong(s: &[u8], coding: bool, t: usize) -> Option<usize>
     requires { (Whole s.now) × (t < 9) }
     ensures { result ≡ first_of (table_of s.now) (wrong_at coding (table_of s.now)) t }
 {
@@ -81,95 +76,89 @@ fn find_wrong(s: &[u8], coding: bool, t: usize) -> Found
         return find::find_in(s, t, Question::Miscoded(t));
     }
     if layout::count_of(s, t) == 0 {
-        return Found::Nothing;
+        return None;
     }
-    Found::At(0)
+    Some(0)
 }
 
 // The first table and record that meets 5, or 6.
-fn record_where(s: &[u8], coding: bool) -> Fault
+fn record_where(s: &[u8], coding: bool) -> Option<Fault>
     requires { Whole s.now }
     ensures { result ≡ record_where (table_of s.now) (wrong_at coding (table_of s.now)) }
 {
-    let mut t: usize = 0;
-    while t < layout::TABLES {
-        let found = find_wrong(s, coding, t);
-        if let Found::At(i) = found {
-            return Fault::InRecord(t, i);
+    for t in 0..layout::TABLES {
+        if let Some(i) = find_wrong(s, coding, t) {
+            return Some(Fault::InRecord(t, i));
         }
-        t += 1;
     }
-    Fault::Nowhere
+    None
 }
 
 // 5
-fn miscoded_place(s: &[u8]) -> Fault
+#[tactic(auto, unfolding(crate::specs::Fault::miscoded_place))]
+fn miscoded_place(s: &[u8]) -> Option<Fault>
     requires { Whole s.now }
     ensures { result ≡ miscoded_place (table_of s.now) }
 {
     if coded::coded_general(layout::general_of(s), 0, 0, 0) {
         record_where(s, true)
     } else {
-        Fault::InGeneral
+        Some(Fault::InGeneral)
     }
 }
 
 // 6
-fn unsound_place(s: &[u8]) -> Fault
+#[tactic(auto, unfolding(crate::specs::Fault::unsound_place))]
+fn unsound_place(s: &[u8]) -> Option<Fault>
     requires { Whole s.now }
     ensures { result ≡ unsound_place (table_of s.now) }
 {
     if image::sound_block(layout::general_of(s)) {
         record_where(s, false)
     } else {
-        Fault::InGeneral
+        Some(Fault::InGeneral)
     }
 }
 
 // The first segment in no band (12).
-fn find_homeless(s: &[u8]) -> Found
+fn find_homeless(s: &[u8]) -> Option<usize>
     requires { Whole s.now }
     ensures { result ≡ first (homeless_at (table_of s.now) false) (count_of s.now segments) }
 {
-    let start = layout::start_of(s, layout::SEGMENTS);
-    let count = layout::count_of(s, layout::SEGMENTS) as usize;
-    let mut i: usize = 0;
-    while i < count {
-        let r = layout::record_at(s, start + layout::RECORD_SIZE * i);
-        if !find::some_in(s, layout::BANDS, Question::Holds(table::span_of(r))) {
-            return Found::At(i);
-        }
-        i += 1;
-    }
-    Found::Nothing
+    table::first_of(
+        s,
+        layout::SEGMENTS,
+        |r| !find::some_in(s, layout::BANDS, Question::Holds(table::span_of(r))),
+    )
 }
 
 // The first record of table t with low not below high (7 to 10).
-fn short_in(s: &[u8], t: usize) -> Fault
+fn short_in(s: &[u8], t: usize) -> Option<Fault>
     requires { (Whole s.now) × (t < 9) }
     ensures { result ≡ short_in (table_of s.now) t }
 {
     in_table(t, find::find_in(s, t, Question::NotLengthy))
 }
 
-// The place of a refusal of a whole image, by its number.
-fn fault_at(s: &[u8], n: u8) -> Fault
+// The place of a refusal of a whole image.
+#[tactic(auto, unfolding(crate::specs::Fault::fault_at))]
+fn fault_at(s: &[u8], n: Refusal) -> Option<Fault>
     requires { Whole s.now }
     ensures { result ≡ fault_at n (table_of s.now) }
 {
     match n {
-        5 => miscoded_place(s),
-        6 => unsound_place(s),
-        7 => short_in(s, layout::BANDS),
-        8 => short_in(s, layout::SEGMENTS),
-        9 => short_in(s, layout::AUTOMATIC),
-        10 => short_in(s, layout::PRIVILEGES),
-        12 => in_table(layout::SEGMENTS, find_homeless(s)),
-        13 => in_table(
+        Refusal::CodedByte => miscoded_place(s),
+        Refusal::ImageFigure => unsound_place(s),
+        Refusal::BandRange => short_in(s, layout::BANDS),
+        Refusal::SegmentRange => short_in(s, layout::SEGMENTS),
+        Refusal::AutomaticRange => short_in(s, layout::AUTOMATIC),
+        Refusal::PrivilegeRange => short_in(s, layout::PRIVILEGES),
+        Refusal::SegmentOutside => in_table(layout::SEGMENTS, find_homeless(s)),
+        Refusal::OwnLimit => in_table(
             layout::SEGMENTS,
             find::find_in(s, layout::SEGMENTS, Question::NoLimit),
         ),
-        _ => Fault::Nowhere,
+        _ => None,
     }
 }
 
@@ -177,23 +166,16 @@ fn fault_at(s: &[u8], n: u8) -> Fault
 pub fn fault_of(s: &[u8]) -> FaultAnswer
     ensures { result ≡ fault_of s.now }
 {
-    match image::check(s) {
-        Checked::Accepted => FaultAnswer {
-            refusal: Checked::Accepted,
-            fault: Fault::Nowhere,
-        },
-        Checked::Refused(n) => {
-            if n < 5 {
-                FaultAnswer {
-                    refusal: Checked::Refused(n),
-                    fault: Fault::Nowhere,
-                }
+    let refusal = image::check(s);
+    let fault = match refusal {
+        Ok(()) => None,
+        Err(n) => {
+            if u8::from(n) < 5 {
+                None
             } else {
-                FaultAnswer {
-                    refusal: Checked::Refused(n),
-                    fault: fault_at(s, n),
-                }
+                fault_at(s, n)
             }
         }
-    }
+    };
+    FaultAnswer { refusal, fault }
 }

@@ -3,7 +3,7 @@
 #![tactic(auto)]
 
 ghost use Rattle.std.specs.Prelude.{◌≡◌};
-ghost use Rattle.figures.specs.Figure.{min_of, max_of, abs_of, midpoint_of, total_less, in_size, read_hz, figure_of};
+ghost use Rattle.figures.specs.Figure.{min_of, max_of, abs_of, midpoint_of, negative, total_less, in_size, read_hz, figure_of};
 
 // Document 01's limit on the size of a figure, 2^40.
 pub const LIMIT: f64 = 1099511627776.0;
@@ -45,23 +45,18 @@ pub fn midpoint(x: f64, y: f64) -> f64
     (x + y) / 2.0
 }
 
+// Whether a number is negative, negative zero included.
+fn is_negative(x: f64) -> bool
+    ensures { result ≡ negative x }
+{
+    1.0 / x < 0.0
+}
+
 // Whether Rust's f64::total_cmp puts x before y, of figures that are numbers.
 pub fn total_less(x: f64, y: f64) -> bool
     ensures { result ≡ total_less x y }
 {
-    if x < y {
-        return true;
-    }
-    if x == y {
-        if 1.0 / x < 0.0 {
-            if 1.0 / y < 0.0 {
-                return false;
-            }
-            return true;
-        }
-        return false;
-    }
-    false
+    x < y || (x == y && (is_negative(x) && !is_negative(y)))
 }
 
 // Finite, and at most limit in size.

@@ -10,8 +10,7 @@ ghost use Rattle.table.specs.Table.{table_of};
 ghost use Rattle.find.specs.Question.{sound_bits, sound_record, no_limit, asks, asks_at, first_in, some_in, pick_in, home_question, homeless_of};
 
 use layout::Record;
-use profile::{OwnLimit, Range};
-use scan::Found;
+use profile::Range;
 
 // What is asked of a record.
 #[derive(Clone, Copy)]
@@ -38,13 +37,6 @@ pub enum Question {
     ChannelOverlaps(f64, Range),
 }
 
-// The first record of a table that a question fits, with its index.
-#[derive(Clone, Copy)]
-pub enum Pick {
-    Picked(usize, Record),
-    Missing,
-}
-
 pub fn sound_bits(bits: u64) -> bool
     ensures { result ≡ sound_bits bits }
 {
@@ -57,12 +49,12 @@ fn sound_record(r: Record) -> bool
     sound_bits(r.low) && (sound_bits(r.high) && sound_bits(r.figure))
 }
 
-fn no_limit(own: OwnLimit) -> bool
+fn no_limit(own: Option<f64>) -> bool
     ensures { result ≡ no_limit own }
 {
     match own {
-        OwnLimit::Own(max) => max <= 0.0,
-        OwnLimit::General => false,
+        Some(max) => max <= 0.0,
+        None => false,
     }
 }
 
@@ -115,103 +107,55 @@ fn of_band(r: Record, n: u8) -> bool
     r.band == n
 }
 
-// The first that holds a range.
-fn find_holding(s: &[u8], start: usize, count: usize, a: Range) -> Found
-    requires { start + 32 * count ≤ length s.now }
-    ensures { result ≡ first (asks_at s.now start (Question.Holds a)) count }
-{
-    let mut i: usize = 0;
-    while i < count {
-        if holding(layout::record_at(s, start + layout::RECORD_SIZE * i), a) {
-            return Found::At(i);
-        }
-        i += 1;
-    }
-    Found::Nothing
-}
-
-// The first of a class that holds a range.
-fn find_class(s: &[u8], start: usize, count: usize, n: u8, a: Range) -> Found
-    requires { start + 32 * count ≤ length s.now }
-    ensures { result ≡ first (asks_at s.now start (Question.ClassHolds n a)) count }
-{
-    let mut i: usize = 0;
-    while i < count {
-        if class_holding(layout::record_at(s, start + layout::RECORD_SIZE * i), n, a) {
-            return Found::At(i);
-        }
-        i += 1;
-    }
-    Found::Nothing
-}
-
-// The first that touches a range.
-fn find_overlapping(s: &[u8], start: usize, count: usize, a: Range) -> Found
-    requires { start + 32 * count ≤ length s.now }
-    ensures { result ≡ first (asks_at s.now start (Question.Overlaps a)) count }
-{
-    let mut i: usize = 0;
-    while i < count {
-        if overlapping(layout::record_at(s, start + layout::RECORD_SIZE * i), a) {
-            return Found::At(i);
-        }
-        i += 1;
-    }
-    Found::Nothing
-}
-
-// The first of a band's number.
-fn find_band(s: &[u8], start: usize, count: usize, n: u8) -> Found
-    requires { start + 32 * count ≤ length s.now }
-    ensures { result ≡ first (asks_at s.now start (Question.OfBand n)) count }
-{
-    let mut i: usize = 0;
-    while i < count {
-        if of_band(layout::record_at(s, start + layout::RECORD_SIZE * i), n) {
-            return Found::At(i);
-        }
-        i += 1;
-    }
-    Found::Nothing
-}
-
-// The first that any question fits.
-fn find_any(s: &[u8], start: usize, count: usize, q: Question) -> Found
-    requires { start + 32 * count ≤ length s.now }
-    ensures { result ≡ first (asks_at s.now start q) count }
-{
-    let mut i: usize = 0;
-    while i < count {
-        if answers(q, layout::record_at(s, start + layout::RECORD_SIZE * i)) {
-            return Found::At(i);
-        }
-        i += 1;
-    }
-    Found::Nothing
-}
-
 // The first of the count records from a place on that a question fits.
-pub fn find_from(s: &[u8], start: usize, count: usize, q: Question) -> Found
+pub fn find_from(s: &[u8], start: usize, count: usize, q: Question) -> Option<usize>
     requires { start + 32 * count ≤ length s.now }
     ensures { result ≡ first (asks_at s.now start q) count }
+{
+    scan::first(
+        count,
+        |i| answers(q, layout::record_at(s, start + layout::RECORD_SIZE * i)),
+    )
+}
+
+// The first record of table t that a question fits, with its index.
+#[tactic(auto, unfolding(crate::specs::Question::pick_in))]
+pub fn pick_in(s: &[u8], t: usize, q: Question) -> Option<(usize, Record)>
+    requires { (Whole s.now) × (t < 9) }
+    ensures { result ≡ pick_in (table_of s.now) t q }
 {
     match q {
-        Question::Holds(a) => find_holding(s, start, count, a),
-        Question::ClassHolds(n, a) => find_class(s, start, count, n, a),
-        Question::Overlaps(a) => find_overlapping(s, start, count, a),
-        Question::OfBand(n) => find_band(s, start, count, n),
-        _ => find_any(s, start, count, q),
+        Question::Holds(a) => pick_holding(s, t, a),
+        Question::ClassHolds(n, a) => pick_class(s, t, n, a),
+        Question::Overlaps(a) => table::pick_of(s, t, |r| overlapping(r, a)),
+        Question::OfBand(n) => table::pick_of(s, t, |r| of_band(r, n)),
+        _ => table::pick_of(s, t, |r| answers(q, r)),
     }
 }
 
-// The first record of table t that a question fits.
-pub fn find_in(s: &[u8], t: usize, q: Question) -> Found
+// The same for the questions that judging asks most, without asking which.
+#[tactic(auto, unfolding(crate::specs::Question::pick_in))]
+pub fn pick_holding(s: &[u8], t: usize, a: Range) -> Option<(usize, Record)>
+    requires { (Whole s.now) × (t < 9) }
+    ensures { result ≡ pick_in (table_of s.now) t (Question.Holds a) }
+{
+    table::pick_of(s, t, |r| holding(r, a))
+}
+
+#[tactic(auto, unfolding(crate::specs::Question::pick_in))]
+pub fn pick_class(s: &[u8], t: usize, n: u8, a: Range) -> Option<(usize, Record)>
+    requires { (Whole s.now) × (t < 9) }
+    ensures { result ≡ pick_in (table_of s.now) t (Question.ClassHolds n a) }
+{
+    table::pick_of(s, t, |r| class_holding(r, n, a))
+}
+
+// Its index alone.
+pub fn find_in(s: &[u8], t: usize, q: Question) -> Option<usize>
     requires { (Whole s.now) × (t < 9) }
     ensures { result ≡ first_in (table_of s.now) t q }
 {
-    let start = layout::start_of(s, t);
-    let count = layout::count_of(s, t) as usize;
-    find_from(s, start, count, q)
+    pick_in(s, t, q).map(|(i, _)| i)
 }
 
 // Whether a question fits a record of table t.
@@ -219,51 +163,7 @@ pub fn some_in(s: &[u8], t: usize, q: Question) -> bool
     requires { (Whole s.now) × (t < 9) }
     ensures { result ≡ some_in (table_of s.now) t q }
 {
-    match find_in(s, t, q) {
-        Found::At(_) => true,
-        Found::Nothing => false,
-    }
-}
-
-// The first record of table t that a question fits, read.
-pub fn pick_in(s: &[u8], t: usize, q: Question) -> Pick
-    requires { (Whole s.now) × (t < 9) }
-    ensures { result ≡ pick_in (table_of s.now) t q }
-{
-    match find_in(s, t, q) {
-        Found::At(i) => Pick::Picked(i, table::record_of(s, t, i)),
-        Found::Nothing => Pick::Missing,
-    }
-}
-
-// What a scan found, read.
-fn picked(s: &[u8], start: usize, f: Found) -> Pick
-    requires { (i : ℕ) → f ≡ Found.At i → start + 32 * i + 32 ≤ length s.now }
-    ensures { result ≡ on_found f (λ i. Pick.Picked i (record_at s.now (start + 32 * i))) Pick.Missing }
-{
-    match f {
-        Found::At(i) => Pick::Picked(i, layout::record_at(s, start + layout::RECORD_SIZE * i)),
-        Found::Nothing => Pick::Missing,
-    }
-}
-
-// The same for the questions that judging asks most, without asking which.
-pub fn pick_holding(s: &[u8], t: usize, a: Range) -> Pick
-    requires { (Whole s.now) × (t < 9) }
-    ensures { result ≡ pick_in (table_of s.now) t (Question.Holds a) }
-{
-    let start = layout::start_of(s, t);
-    let count = layout::count_of(s, t) as usize;
-    picked(s, start, find_holding(s, start, count, a))
-}
-
-pub fn pick_class(s: &[u8], t: usize, n: u8, a: Range) -> Pick
-    requires { (Whole s.now) × (t < 9) }
-    ensures { result ≡ pick_in (table_of s.now) t (Question.ClassHolds n a) }
-{
-    let start = layout::start_of(s, t);
-    let count = layout::count_of(s, t) as usize;
-    picked(s, start, find_class(s, start, count, n, a))
+    find_in(s, t, q).is_some()
 }
 
 // Which bands a segment asks for: those that hold it, of whatever number or of its own.
@@ -282,15 +182,9 @@ pub fn homeless(s: &[u8], own: bool) -> bool
     requires { Whole s.now }
     ensures { result ≡ homeless_of (table_of s.now) own }
 {
-    let start = layout::start_of(s, layout::SEGMENTS);
-    let count = layout::count_of(s, layout::SEGMENTS) as usize;
-    let mut i: usize = 0;
-    while i < count {
-        let r = layout::record_at(s, start + layout::RECORD_SIZE * i);
-        if !some_in(s, layout::BANDS, home_question(own, r)) {
-            return true;
-        }
-        i += 1;
-    }
-    false
+    table::some_of(
+        s,
+        layout::SEGMENTS,
+        |r| !some_in(s, layout::BANDS, home_question(own, r)),
+    )
 }

@@ -6,67 +6,57 @@ ghost use Rattle.std.specs.Prelude.{◌≡◌};
 ghost use Rattle.part97.specs.Part97.{warned};
 ghost use Rattle.part97.specs.Finding.{on_band, in_segment, beyond_segment, lawful_in, on_sixty};
 
-use decision::{BandNumber, Code, JudgedSegment, MaybeRange, Overshoot, SixtyNotes, Verdict};
+use decision::{Code, Overshoot, SixtyNotes, Verdict};
 use part97::Finding;
 use profile::Range;
 
 // On a band or on none, against no segment.
-pub fn on_band(band: BandNumber, verdict: Verdict, code: Code, rule: u16) -> Finding
+#[tactic(auto, unfolding(part97::specs::Finding::on_band))]
+pub fn on_band(band: Option<u8>, verdict: Verdict, code: Code, rule: u16) -> Finding
     ensures { result ≡ on_band band verdict code rule }
 {
     Finding {
         band,
-        segment: JudgedSegment::NoSegment,
-        automatic_segment: MaybeRange::NoRange,
+        segment: None,
+        automatic_segment: None,
         verdict,
         code,
         rule,
-        overshoot: Overshoot::NoOvershoot,
+        overshoot: None,
         sixty: decision::no_marks(),
-        over: MaybeRange::NoRange,
+        over: None,
     }
 }
 
 // Blocked, against a segment that has a rule.
+#[tactic(auto, unfolding(part97::specs::Finding::on_band, part97::specs::Finding::in_segment))]
 pub fn in_segment(band: u8, segment: Range, own: u16, code: Code, rule: u16) -> Finding
     ensures { result ≡ in_segment band segment own code rule }
 {
     Finding {
-        band: BandNumber::Band(band),
-        segment: JudgedSegment::Segment(segment, own),
-        automatic_segment: MaybeRange::NoRange,
-        verdict: Verdict::Blocked,
-        code,
-        rule,
-        overshoot: Overshoot::NoOvershoot,
-        sixty: decision::no_marks(),
-        over: MaybeRange::NoRange,
+        segment: Some((segment, own)),
+        ..on_band(Some(band), Verdict::Blocked, code, rule)
     }
 }
 
 // Outside the nearest segment.
-pub fn beyond_segment(band: u8, segment: Range, own: u16, overshoot: Overshoot) -> Finding
+#[tactic(auto, unfolding(part97::specs::Finding::in_segment, part97::specs::Finding::beyond_segment))]
+pub fn beyond_segment(band: u8, segment: Range, own: u16, overshoot: Option<Overshoot>) -> Finding
     ensures { result ≡ beyond_segment band segment own overshoot }
 {
     Finding {
-        band: BandNumber::Band(band),
-        segment: JudgedSegment::Segment(segment, own),
-        automatic_segment: MaybeRange::NoRange,
-        verdict: Verdict::Blocked,
-        code: Code::OutsideDataSegment,
-        rule: own,
         overshoot,
-        sixty: decision::no_marks(),
-        over: MaybeRange::NoRange,
+        ..in_segment(band, segment, own, Code::OutsideDataSegment, own)
     }
 }
 
 // Lawful data in a segment, and perhaps in one for automatic control: power limits and the plan are asked over a range.
+#[tactic(auto, unfolding(part97::specs::Finding::in_segment, part97::specs::Finding::lawful_in))]
 pub fn lawful_in(
     band: u8,
     segment: Range,
     own: u16,
-    inside: MaybeRange,
+    inside: Option<Range>,
     r: Range,
     code: Code,
     rule: u16,
@@ -74,15 +64,10 @@ pub fn lawful_in(
     ensures { result ≡ lawful_in band segment own inside r code rule }
 {
     Finding {
-        band: BandNumber::Band(band),
-        segment: JudgedSegment::Segment(segment, own),
         automatic_segment: inside,
         verdict: Verdict::Legal,
-        code,
-        rule,
-        overshoot: Overshoot::NoOvershoot,
-        sixty: decision::no_marks(),
-        over: MaybeRange::Is(r),
+        over: Some(r),
+        ..in_segment(band, segment, own, code, rule)
     }
 }
 
@@ -94,6 +79,7 @@ pub fn warned_if(b: bool) -> Verdict
 }
 
 // Allowed on 60 m, with its notes.
+#[tactic(auto, unfolding(part97::specs::Finding::in_segment, part97::specs::Finding::on_sixty))]
 pub fn on_sixty(
     band: u8,
     segment: Range,
@@ -105,14 +91,8 @@ pub fn on_sixty(
     ensures { result ≡ on_sixty band segment warn code own marks }
 {
     Finding {
-        band: BandNumber::Band(band),
-        segment: JudgedSegment::Segment(segment, own),
-        automatic_segment: MaybeRange::NoRange,
         verdict: warned_if(warn),
-        code,
-        rule: own,
-        overshoot: Overshoot::NoOvershoot,
         sixty: marks,
-        over: MaybeRange::NoRange,
+        ..in_segment(band, segment, own, code, own)
     }
 }

@@ -1,23 +1,18 @@
 -- No number of an answer is cut at the boundary: a rung is below 256, a dial list has at most 256 * 256 * 256 + 256 rows, and the place of
 -- a refusal has a table below 9 and a record below 256.
 use Rattle.std.specs.Prelude.{ℕ, zero, suc, ◌/◌, ◌%◌, ◌<◌, ◌≤◌, Bool, true, false, not, cond, ◌||◌, List, [], ◌∷◌, ◌≡◌, refl, eqb, ltb, length, Float}
+use Rattle.std.specs.Prelude.{Option, Some, None, Ok, Err}
+use Rattle.codes.specs.declared.Refusal.TheVariants as refusal
+use Rattle.codes.specs.declared.Refusal.{Refusal}
+use Rattle.codes.specs.Refusal.{Checked, test, refusal_of}
 use Rattle.std.proofs.Common.{true≢false, sym, subst, arith, ltb-false}
 use Rattle.std.proofs.Math.Path.{ap}
 use Rattle.codes.specs.Read.{direction_valid, direction_of}
-use Rattle.codes.specs.Refusal.{test, refusal_of}
 use Rattle.codes.specs.Laws.{refusal_both, none_fails}
-use Rattle.codes.specs.declared.Checked.{Checked}
-use Rattle.codes.specs.declared.Checked.TheVariants.{Accepted, Refused}
 use Rattle.codes.specs.declared.Sideband.{Sideband}
 use Rattle.codes.specs.declared.LicenseClass.{LicenseClass}
 use Rattle.codes.specs.declared.ControlMode.{ControlMode}
 use Rattle.codes.specs.declared.Direction.{Direction}
-use Rattle.codes.specs.declared.Control.{Control}
-use Rattle.codes.specs.declared.Control.TheVariants.{ControlIs, NoControl}
-use Rattle.codes.specs.declared.License.{License}
-use Rattle.codes.specs.declared.License.TheVariants.{LicenseIs, NoLicense}
-use Rattle.codes.specs.declared.SidebandSet.{SidebandSet}
-use Rattle.codes.specs.declared.SidebandSet.TheVariants.{SidebandIs, NoSideband}
 use Rattle.occupancy.specs.declared.Edges.{Edges}
 use Rattle.station.specs.Station.{under_rules, situation_of}
 use Rattle.station.specs.declared.StationRecord.{StationRecord}
@@ -38,8 +33,6 @@ use Rattle.dials.specs.List.{rows_with_sideband, rows_with_license, rows_with_co
 use Rattle.ceiling.specs.Ceiling.{judge_by, climbed, ceiling_unless_refused, ceiling_of}
 use Rattle.rungs.specs.Rungs.{burst_of, any_unmarked, bad_rungs, rung_tests, ceiling_tests}
 use Rattle.ceiling.specs.Run.{rung_below, ceiling_run}
-use Rattle.ceiling.specs.declared.Rung.{Rung}
-use Rattle.ceiling.specs.declared.Rung.TheVariants.{NoRung}
 use Rattle.flat.specs.Fits.{RungFits}
 use Rattle.flat_answers.specs.Fits.{most_rows, Counted, FaultFits}
 
@@ -49,17 +42,17 @@ rows_few : (l : List ℕ) → Whole l → (q : Request) → length (rows_of (tab
 unfolding rows_of
 rows_few l w q = gathered_few l w q (channels_of (general_of l))
 
-sideband_few : (x : SidebandSet) (f : Sideband → List SafeDial) (k : ℕ) → ((s : Sideband) → length (f s) ≤ k) → length (rows_with_sideband x f) ≤ k
-sideband_few (SidebandIs s) f k h = h s
-sideband_few NoSideband f k h = omega arith
+sideband_few : (x : Option Sideband) (f : Sideband → List SafeDial) (k : ℕ) → ((s : Sideband) → length (f s) ≤ k) → length (rows_with_sideband x f) ≤ k
+sideband_few (Some s) f k h = h s
+sideband_few None f k h = omega arith
 
-license_few : (x : License) (f : LicenseClass → List SafeDial) (k : ℕ) → ((c : LicenseClass) → length (f c) ≤ k) → length (rows_with_license x f) ≤ k
-license_few (LicenseIs c) f k h = h c
-license_few NoLicense f k h = omega arith
+license_few : (x : Option LicenseClass) (f : LicenseClass → List SafeDial) (k : ℕ) → ((c : LicenseClass) → length (f c) ≤ k) → length (rows_with_license x f) ≤ k
+license_few (Some c) f k h = h c
+license_few None f k h = omega arith
 
-control_few : (x : Control) (f : ControlMode → List SafeDial) (k : ℕ) → ((m : ControlMode) → length (f m) ≤ k) → length (rows_with_control x f) ≤ k
-control_few (ControlIs m) f k h = h m
-control_few NoControl f k h = omega arith
+control_few : (x : Option ControlMode) (f : ControlMode → List SafeDial) (k : ℕ) → ((m : ControlMode) → length (f m) ≤ k) → length (rows_with_control x f) ≤ k
+control_few (Some m) f k h = h m
+control_few None f k h = omega arith
 
 situation_few : (l : List ℕ) → Whole l → (s : Situation) (d : Direction) (e : Edges) → length (situation_rows (table_of l) s d e) ≤ most_rows
 unfolding situation_rows
@@ -72,7 +65,7 @@ situation_few l w s d e =
 
 -- A list that was not refused for its station or its image has no more rows than that.
 list_few :
-    (r : StationRecord) (direction : ℕ) (e : Edges) (l : List ℕ) → entry_of r (direction_valid direction) l ≡ Accepted
+    (r : StationRecord) (direction : ℕ) (e : Edges) (l : List ℕ) → entry_of r (direction_valid direction) l ≡ Ok tt
     → length (list_rows r direction e l) ≤ most_rows
 unfolding list_rows
 list_few r direction e l h = go (under_rules r) (λ u. entry_whole r (direction_valid direction) l h u)
@@ -83,12 +76,12 @@ list_few r direction e l h = go (under_rules r) (λ u. entry_whole r (direction_
     go true w = situation_few l (w refl) (situation_of r) (direction_of direction) (edges_read e)
     go false w = omega arith
 
-answer_counted : (c : Checked) (xs : List SafeDial) → (c ≡ Accepted → length xs ≤ most_rows) → Counted (answer_of c xs)
-answer_counted Accepted xs h n e =
+answer_counted : (c : Checked) (xs : List SafeDial) → (c ≡ Ok tt → length xs ≤ most_rows) → Counted (answer_of c xs)
+answer_counted (Ok tt) xs h n e =
     let m = length xs in
     let s : m ≤ most_rows = h refl in
     let q : m ≡ n = cc in omega arith
-answer_counted (Refused m) xs h n e = let z : ◌≡◌ {A = ℕ} 0 1 = cc in omega arith
+answer_counted (Err m) xs h n e = let z : ◌≡◌ {A = ℕ} 0 1 = cc in omega arith
 
 pub list_counted :
     (r : StationRecord) (direction : ℕ) (e : Edges) (l lent : List ℕ)
@@ -97,7 +90,7 @@ unfolding entry_of
 list_counted r direction e l lent =
     answer_counted (refusal_of (list_tests r direction e l lent)) (list_rows r direction e l)
     (λ h. list_few r direction e l
-    (refusal_both (entry_tests r (direction_valid direction) l) (test 15 (not (edges_valid e)) ∷ lent_tests (list_rows r direction e l) lent) h).0)
+    (refusal_both (entry_tests r (direction_valid direction) l) (test refusal.SignalEdge (not (edges_valid e)) ∷ lent_tests (list_rows r direction e l) lent) h).0)
 
 -- ---- the rung of a ceiling
 
@@ -116,12 +109,12 @@ below_fits : (j : ℕ) → j ≤ 256 → RungFits (rung_below j)
 below_fits zero h i e = let z : ◌≡◌ {A = ℕ} 0 1 = cc in omega arith
 below_fits (suc k) h i e = let q : k ≡ i = cc in omega arith
 
-pub absent_fits : (k : Rung) → k ≡ NoRung → RungFits k
+pub absent_fits : (k : Option ℕ) → k ≡ None → RungFits k
 absent_fits k a i e = let z : ◌≡◌ {A = ℕ} 0 1 = cc in omega arith
 
 module _ (r : StationRecord) (direction : ℕ) (ordinary floor : Edges) (l : List ℕ) (rungs : List Float) (floors : List ℕ) where
-  refused_none : (n : ℕ) → refusal_of (ceiling_tests r direction ordinary floor l rungs floors) ≡ Refused n
-      → (ceiling_of r direction ordinary floor l rungs floors).rung ≡ NoRung
+  refused_none : (n : Refusal) → refusal_of (ceiling_tests r direction ordinary floor l rungs floors) ≡ Err n
+      → (ceiling_of r direction ordinary floor l rungs floors).rung ≡ None
   unfolding ceiling_of
   refused_none n e =
       ap
@@ -129,7 +122,7 @@ module _ (r : StationRecord) (direction : ℕ) (ordinary floor : Edges) (l : Lis
       (burst_of (edges_read ordinary) (edges_read floor) rungs floors) (length rungs / 4))).rung)
       e
 
-  accepted_few : refusal_of (ceiling_tests r direction ordinary floor l rungs floors) ≡ Accepted → length rungs / 4 ≤ 256
+  accepted_few : refusal_of (ceiling_tests r direction ordinary floor l rungs floors) ≡ Ok tt → length rungs / 4 ≤ 256
   accepted_few e =
       let n = none_fails (rung_tests ordinary floor rungs floors)
       (refusal_both (entry_tests r (direction_valid direction) l) (rung_tests ordinary floor rungs floors) e).1 in
@@ -140,8 +133,8 @@ module _ (r : StationRecord) (direction : ℕ) (ordinary floor : Edges) (l : Lis
     where
       go : (x : Checked) → refusal_of (ceiling_tests r direction ordinary floor l rungs floors) ≡ x
           → RungFits (ceiling_of r direction ordinary floor l rungs floors).rung
-      go (Refused n) e = absent_fits (ceiling_of r direction ordinary floor l rungs floors).rung (refused_none n e)
-      go Accepted e =
+      go (Err n) e = absent_fits (ceiling_of r direction ordinary floor l rungs floors).rung (refused_none n e)
+      go (Ok tt) e =
           let run = ceiling_run r direction ordinary floor l rungs floors e in
           let j = run.0 in
           let w : j ≤ length rungs / 4 = run.1.within in

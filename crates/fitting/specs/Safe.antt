@@ -1,13 +1,13 @@
 -- What the numbers of the boundary say to whoever looks at one of them alone. A refusal's number is never 0, so 0 says that nothing was
 -- refused; and what is absent or refused permits nothing.
-use Rattle.std.specs.Prelude.{ℕ, ◌<◌, Bool, true, false, not, cond, ◌&&◌, List, [], ◌∷◌, ◌++◌, ◌≡◌, refl, eqb, ltb, Float}
+use Rattle.std.specs.Prelude.{ℕ, ◌<◌, Bool, true, false, not, cond, ◌&&◌, List, [], ◌∷◌, ◌++◌, ◌≡◌, refl, eqb, ltb, Float, Option, Some, None, Result, Ok, Err}
+use Rattle.codes.specs.declared.Refusal.TheVariants as refusal
+use Rattle.codes.specs.Refusal.{Checked, Test, number_of, refusal_of}
+use Rattle.codes.specs.declared.Refusal.{Refusal}
 use Rattle.std.proofs.Common.{true≢false, sym, ap, ◌∙◌, arith, ltb-true}
 use Rattle.std.specs.Float.Ieee.{eq, of_bits}
 use Rattle.figures.specs.Figure.{zero_hz}
 use Rattle.codes.specs.Read.{direction_valid}
-use Rattle.codes.specs.Refusal.{Test, test, refusal_of}
-use Rattle.codes.specs.declared.Checked.{Checked}
-use Rattle.codes.specs.declared.Checked.TheVariants.{Accepted, Refused}
 use Rattle.occupancy.specs.declared.Edges.{Edges}
 use Rattle.scan.specs.Laws.{and_true}
 use Rattle.station.specs.Station.{under_rules, station_tests}
@@ -19,15 +19,12 @@ use Rattle.decision.specs.Number.{verdict_number}
 use Rattle.decision.specs.declared.Verdict.{Verdict}
 use Rattle.decision.specs.declared.Verdict.TheVariants.{Legal, Warning, Blocked}
 use Rattle.verdict.specs.Verdict.{beside_valid, edge_tests, evaluate_tests, unless_refused, evaluate_of}
-use Rattle.ceiling.specs.Ceiling.{ceiling_of}
+use Rattle.ceiling.specs.Ceiling.{limit_of, ceiling_of}
 use Rattle.ceiling.specs.Run.{limit_blocked}
 use Rattle.rows.specs.declared.SafeDial.{SafeDial}
 use Rattle.dials.specs.List.{list_rows, lent_tests, list_tests, answer_of}
-use Rattle.dials.specs.declared.DialList.TheVariants.{Rows}
-use Rattle.distance.specs.declared.Distance.{Distance}
-use Rattle.distance.specs.declared.Distance.TheVariants.{Hertz, NoneListed, Refused as NoAnswer}
 use Rattle.nearest.specs.declared.Nearest.{Nearest}
-use Rattle.nearest.specs.declared.Nearest.TheVariants.{Dial, NoneAllowed, NotJudged, Refused as NoDial}
+use Rattle.nearest.specs.declared.Nearest.TheVariants.{Dial, NoneAllowed, NotJudged}
 use Rattle.numbers.specs.Refusal.{refusal_number}
 use Rattle.flat_answers.specs.declared.FlatDials.{FlatDials}
 use Rattle.flat.specs.Flat.{flat_of, ceiling_flat}
@@ -36,54 +33,58 @@ use Rattle.fitting.specs.Guided.{decision, evaluate_refusal}
 
 -- ---- a refusal's number is at least 1
 
-abbrev numbered : List Test → Bool
-numbered [] = true
-numbered (t ∷ ts) = ltb 0 t.number && numbered ts
+number_above : (r : Refusal) → 0 < number_of r
+number_above refusal.ImageLength = omega arith
+number_above refusal.Letters = omega arith
+number_above refusal.Edition = omega arith
+number_above refusal.Counts = omega arith
+number_above refusal.CodedByte = omega arith
+number_above refusal.ImageFigure = omega arith
+number_above refusal.BandRange = omega arith
+number_above refusal.SegmentRange = omega arith
+number_above refusal.AutomaticRange = omega arith
+number_above refusal.PrivilegeRange = omega arith
+number_above refusal.EmptyTable = omega arith
+number_above refusal.SegmentOutside = omega arith
+number_above refusal.OwnLimit = omega arith
+number_above refusal.GeneralLimit = omega arith
+number_above refusal.SignalEdge = omega arith
+number_above refusal.Rungs = omega arith
+number_above refusal.StationCode = omega arith
+number_above refusal.StationFigure = omega arith
+number_above refusal.NoImage = omega arith
+number_above refusal.Rows = omega arith
+number_above refusal.Text = omega arith
+number_above refusal.Report = omega arith
+number_above refusal.Watts = omega arith
+number_above refusal.Amendments = omega arith
+number_above refusal.AmendedRoom = omega arith
+number_above refusal.SecondSwap = omega arith
+number_above refusal.Walk = omega arith
+number_above refusal.Starts = omega arith
+number_above refusal.Runs = omega arith
+number_above refusal.Stretch = omega arith
+number_above refusal.FarDial = omega arith
 
-numbered_both : (a b : List Test) → numbered a ≡ true → numbered b ≡ true → numbered (a ++ b) ≡ true
-numbered_both [] b p q = q
-numbered_both (t ∷ ts) b p q =
-    let h = and_true (ltb 0 t.number) (numbered ts) p in
-    rw h.0 (numbered_both ts b h.1 q)
-
--- So 0 says that no test refused.
-nothing_refused : (ts : List Test) → numbered ts ≡ true → refusal_number (refusal_of ts) ≡ 0 → refusal_of ts ≡ Accepted
-nothing_refused [] p e = refl
-nothing_refused (t ∷ ts) p e =
-    let h = and_true (ltb 0 t.number) (numbered ts) p in
-    go t.fails (ltb-true 0 t.number h.0) (nothing_refused ts h.1) e
-  where
-    go :
-        (f : Bool) → 0 < t.number → (refusal_number (refusal_of ts) ≡ 0 → refusal_of ts ≡ Accepted)
-        → refusal_number (cond f (Refused t.number) (refusal_of ts)) ≡ 0 → cond f (Refused t.number) (refusal_of ts) ≡ Accepted
-    go true h next q = absurd (omega arith)
-    go false h next q = next q
-
-entry_numbered : (r : StationRecord) (beside : Bool) (l : List ℕ) → numbered (entry_tests r beside l) ≡ true
-entry_numbered r beside l = numbered_both (station_tests r beside l) (image_tests r l) refl (go (under_rules r))
-  where
-    go : (b : Bool) → numbered (cond b (check_tests l) []) ≡ true
-    go true = refl
-    go false = refl
+-- So 0 says that nothing was refused.
+nothing_refused : (c : Checked) → refusal_number c ≡ 0 → c ≡ Ok tt
+nothing_refused (Ok tt) e = refl
+nothing_refused (Err r) e = absurd (omega (arith, e, number_above r))
 
 pub verdict_not_refused :
     (r : StationRecord) (kind direction : ℕ) (e : Edges) (l : List ℕ) → (flat_of (evaluate_of r kind direction e l)).refusal ≡ 0
-    → (evaluate_of r kind direction e l).refusal ≡ Accepted
+    → (evaluate_of r kind direction e l).refusal ≡ Ok tt
 unfolding flat_of
 verdict_not_refused r kind direction e l z =
-    let same = evaluate_refusal r kind direction e l in
-    same
-    ∙ nothing_refused (evaluate_tests r kind direction e l)
-    (numbered_both (entry_tests r (beside_valid kind direction) l) (edge_tests e) (entry_numbered r (beside_valid kind direction) l) refl)
-    (ap refusal_number (sym same) ∙ z)
+    nothing_refused (evaluate_of r kind direction e l).refusal z
 
 -- A list with refusal 0 fitted, and its count is that of its rows.
 pub list_not_refused :
     (r : StationRecord) (direction : ℕ) (e : Edges) (l lent left : List ℕ) (answer : FlatDials) → FlatDialed r direction e l lent left answer
-    → answer.refusal ≡ 0 → answer_of (refusal_of (list_tests r direction e l lent)) (list_rows r direction e l) ≡ Rows answer.count
+    → answer.refusal ≡ 0 → answer_of (refusal_of (list_tests r direction e l lent)) (list_rows r direction e l) ≡ Ok answer.count
 list_not_refused r direction e l lent left answer d z =
-    ap (λ (x : Checked). answer_of x xs) none ∙ ap (λ (x : Checked). Rows (dials_flat (answer_of x xs)).count) (sym none)
-    ∙ ap (λ (a : FlatDials). Rows a.count) (sym d.answered)
+    ap (λ (x : Checked). answer_of x xs) none ∙ ap (λ (x : Checked). Ok (dials_flat (answer_of x xs)).count) (sym none)
+    ∙ ap (λ (a : FlatDials). Ok a.count) (sym d.answered)
   where
     xs : List SafeDial
     xs = list_rows r direction e l
@@ -92,15 +93,12 @@ list_not_refused r direction e l lent left answer d z =
     tests = list_tests r direction e l lent
 
     number : (x : Checked) → refusal_number x ≡ (dials_flat (answer_of x xs)).refusal
-    number Accepted = refl
-    number (Refused n) = refl
+    number (Ok tt) = refl
+    number (Err n) = refl
 
-    none : refusal_of tests ≡ Accepted
+    none : refusal_of tests ≡ Ok tt
     none =
-        nothing_refused tests
-        (numbered_both (entry_tests r (direction_valid direction) l) (test 15 (not (edges_valid e)) ∷ lent_tests xs lent)
-        (entry_numbered r (direction_valid direction) l) refl)
-        (number (refusal_of tests) ∙ sym (ap (λ (a : FlatDials). a.refusal) d.answered) ∙ z)
+        nothing_refused (refusal_of tests) (number (refusal_of tests) ∙ sym (ap (λ (a : FlatDials). a.refusal) d.answered) ∙ z)
 
 -- ---- what is absent or refused permits nothing
 
@@ -115,28 +113,28 @@ pub limit_is_blocked :
     → (ceiling_flat (ceiling_of r direction ordinary floor l rungs floors)).limit.verdict ≡ 2
 unfolding ceiling_flat flat_of
 limit_is_blocked r direction ordinary floor l rungs floors =
-    blocked_number (ceiling_of r direction ordinary floor l rungs floors).limit.verdict (limit_blocked r direction ordinary floor l rungs floors)
+    blocked_number (limit_of (ceiling_of r direction ordinary floor l rungs floors)).verdict (limit_blocked r direction ordinary floor l rungs floors)
 
 -- A verdict with a refusal is blocked.
 pub refused_is_blocked :
-    (r : StationRecord) (kind direction : ℕ) (e : Edges) (l : List ℕ) (n : ℕ) → (evaluate_of r kind direction e l).refusal ≡ Refused n
+    (r : StationRecord) (kind direction : ℕ) (e : Edges) (l : List ℕ) (n : Refusal) → (evaluate_of r kind direction e l).refusal ≡ Err n
     → (flat_of (evaluate_of r kind direction e l)).verdict ≡ 2
 unfolding flat_of evaluate_of refused_of
 refused_is_blocked r kind direction e l n p =
     ap (λ (x : Checked). verdict_number (unless_refused x (decision r kind direction e l)).verdict) (sym (evaluate_refusal r kind direction e l) ∙ p)
 
 -- A distance from nothing, and a refused one, is not nought.
-pub unlisted_not_nought : (d : Distance) → (distance_flat d).listed ≡ 0 → eq (distance_flat d).distance_hz zero_hz ≡ false
+pub unlisted_not_nought : (d : Result (Option Float) Refusal) → (distance_flat d).listed ≡ 0 → eq (distance_flat d).distance_hz zero_hz ≡ false
 unfolding eq of_bits
-unlisted_not_nought (Hertz x) e = absurd (omega (arith, e))
-unlisted_not_nought NoneListed e = refl
-unlisted_not_nought (NoAnswer n) e = refl
+unlisted_not_nought (Ok (Some x)) e = absurd (omega (arith, e))
+unlisted_not_nought (Ok None) e = refl
+unlisted_not_nought (Err n) e = refl
 
 -- ---- the nearest dial
 
 -- Without a dial its figure is infinite, which no call takes for one.
-pub nearest_absent : (x : Nearest) → eqb (nearest_flat x).answer 1 ≡ false → (nearest_flat x).dial_hz ≡ infinity_hz
-nearest_absent (Dial x) e = absurd (true≢false e)
-nearest_absent NoneAllowed e = refl
-nearest_absent NotJudged e = refl
-nearest_absent (NoDial n) e = refl
+pub nearest_absent : (x : Result Nearest Refusal) → eqb (nearest_flat x).answer 1 ≡ false → (nearest_flat x).dial_hz ≡ infinity_hz
+nearest_absent (Ok (Dial x)) e = absurd (true≢false e)
+nearest_absent (Ok NoneAllowed) e = refl
+nearest_absent (Ok NotJudged) e = refl
+nearest_absent (Err n) e = refl

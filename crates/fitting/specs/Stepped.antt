@@ -1,51 +1,49 @@
 -- No number of a step's answer is cut at the boundary: its rung is below 256, and the guidance of its limit has an index below 256.
-use Rattle.std.specs.Prelude.{ℕ, ◌-◌, ◌/◌, ◌<◌, Bool, cond, List, ◌≡◌, eqb, ltb, length, Float}
+use Rattle.std.specs.Prelude.{ℕ, ◌-◌, ◌/◌, ◌<◌, Bool, cond, List, ◌≡◌, eqb, ltb, length, Float, Some, None, Ok, Err}
+use Rattle.codes.specs.declared.Refusal.{Refusal}
+use Rattle.codes.specs.Refusal.{Checked, refusal_of}
 use Rattle.std.proofs.Math.Bool.{true, false}
 use Rattle.std.proofs.Math.Path.{refl}
 use Rattle.std.proofs.Common.{arith}
 use Rattle.std.proofs.lemmas.Bool.{not-false}
-use Rattle.codes.specs.Refusal.{refusal_of}
 use Rattle.codes.specs.Laws.{none_fails}
-use Rattle.codes.specs.declared.Checked.{Checked}
-use Rattle.codes.specs.declared.Checked.TheVariants.{Accepted, Refused}
 use Rattle.occupancy.specs.declared.Edges.{Edges}
 use Rattle.station.specs.declared.StationRecord.{StationRecord}
 use Rattle.decision.specs.Decision.{is_blocked}
 use Rattle.decision.specs.declared.Decision.{Decision}
-use Rattle.ceiling.specs.Ceiling.{joined_of, ended_of as climb_ended, went_on, climb_after, rung_judged}
+use Rattle.ceiling.specs.Ceiling.{limit_or, limit_of, joined_of, ended_of as climb_ended, went_on, climb_after, rung_judged}
 use Rattle.rungs.specs.Rungs.{ceiling_tests}
 use Rattle.ceiling.specs.Run.{judging, bursts}
 use Rattle.ceiling.specs.declared.CeilingAnswer.{CeilingAnswer}
 use Rattle.ceiling.specs.declared.Climb.{Climb}
-use Rattle.ceiling.specs.declared.Rung.TheVariants.{Fastest, NoRung}
 use Rattle.walk_step.specs.Step.{rung_so_far, envelope_so_far, climb_so_far, step_none, step_judged, step_by, refused_step, step_unless_refused, step_under, walk_image}
 use Rattle.walk_step.specs.Step.{step_tests, step_of}
 use Rattle.walk_step.specs.Laws.{valid_place}
 use Rattle.walk.specs.declared.WalkState.{WalkState}
 use Rattle.flat.specs.Fits.{RungFits, Indexed}
 use Rattle.fitting.specs.Fits.{absent_fits}
-use Rattle.fitting.specs.Guided.{refused, judging_indexed}
+use Rattle.fitting.specs.Guided.{absent, judging_indexed}
 
 -- what the boundary asks of a ceiling
 abbrev pub Fitting : CeilingAnswer → Type 0
-Fitting a = (RungFits a.rung) × (Indexed a.limit)
+Fitting a = (RungFits a.rung) × (Indexed (limit_of a))
 
 abbrev FittingClimb : Climb → Type 0
-FittingClimb c = (RungFits c.rung) × (Indexed c.limit)
+FittingClimb c = (RungFits c.rung) × (Indexed (limit_or (Ok tt) c.limit))
 
-fastest_fits : (k : ℕ) → k < 256 → RungFits (Fastest k)
+fastest_fits : (k : ℕ) → k < 256 → RungFits (Some k)
 fastest_fits k h i e = let q : k ≡ i = cc in omega arith
 
 so_far_fits : (place : ℕ) → place < 256 → RungFits (rung_so_far place)
 so_far_fits place h = go (eqb place 0)
   where
-    go : (b : Bool) → RungFits (cond b NoRung (Fastest (place - 1)))
-    go true = absent_fits NoRung refl
+    go : (b : Bool) → RungFits (cond b None (Some (place - 1)))
+    go true = absent_fits None refl
     go false = fastest_fits (place - 1) (omega (arith, h))
 
 module _ (judge : Edges → Decision) (fits : (e : Edges) → Indexed (judge e)) (burst : ℕ → Edges) (n : ℕ) (w : WalkState) (low : w.place < 256) where
   so_far : FittingClimb (climb_so_far w)
-  so_far = (so_far_fits w.place low, refused 0)
+  so_far = (so_far_fits w.place low, absent (Ok tt))
 
   judged : FittingClimb (rung_judged judge (climb_so_far w) w.place (burst w.place))
   unfolding rung_judged climb_after climb_ended went_on
@@ -56,7 +54,7 @@ module _ (judge : Edges → Decision) (fits : (e : Edges) → Indexed (judge e))
 
       go : (b : Bool) → FittingClimb (cond b (climb_ended (rung_so_far w.place) e (judge e)) (went_on w.place e))
       go true = (so_far_fits w.place low, fits e)
-      go false = (fastest_fits w.place low, refused 0)
+      go false = (fastest_fits w.place low, absent (Ok tt))
 
   by_fits : Fitting (step_by judge burst n w).ceiling
   unfolding step_by step_judged step_none
@@ -68,9 +66,9 @@ module _ (judge : Edges → Decision) (fits : (e : Edges) → Indexed (judge e))
       go true = judged
       go false = so_far
 
-refused_fits : (w : WalkState) (n : ℕ) → Fitting (refused_step w n).ceiling
+refused_fits : (w : WalkState) (n : Refusal) → Fitting (refused_step w n).ceiling
 unfolding refused_step
-refused_fits w n = (absent_fits NoRung refl, refused n)
+refused_fits w n = (absent_fits None refl, absent (Err n))
 
 module _
     (w : WalkState) (r : StationRecord) (direction : ℕ) (ordinary floor : Edges) (l₀ l₁ : List ℕ) (rungs : List Float) (floors : List ℕ) where
@@ -90,8 +88,8 @@ module _
       go :
           (x : Checked) → refusal_of (ceiling_tests r direction ordinary floor l rungs floors) ≡ x
           → Fitting (step_unless_refused x w (step_by judge burst (length rungs / 4) w)).ceiling
-      go Accepted e = by_fits judge (judging_indexed r direction ordinary floor l rungs floors e) burst (length rungs / 4) w low
-      go (Refused n) e = refused_fits w n
+      go (Ok tt) e = by_fits judge (judging_indexed r direction ordinary floor l rungs floors e) burst (length rungs / 4) w low
+      go (Err n) e = refused_fits w n
 
   pub step_fits : Fitting (step_of w r direction ordinary floor l₀ l₁ rungs floors).ceiling
   unfolding step_of
@@ -100,5 +98,5 @@ module _
       go :
           (x : Checked) → refusal_of (step_tests w) ≡ x
           → Fitting (step_unless_refused x w (step_under w r direction ordinary floor l rungs floors)).ceiling
-      go Accepted e = under_fits (valid_place w (not-false _ (none_fails (step_tests w) e).1.0))
-      go (Refused n) e = refused_fits w n
+      go (Ok tt) e = under_fits (valid_place w (not-false _ (none_fails (step_tests w) e).1.0))
+      go (Err n) e = refused_fits w n

@@ -1,30 +1,21 @@
 -- The records of the boundary: the station record and the edges as they arrive, and an answer as it leaves, field by field.
 -- Whoever forgets to look at a mark ends on the safe side: an absent part is all zero where zero permits nothing; an absent limit is
 -- blocked, an absent rung is -1, and a distance from nothing is infinite.
-use Rattle.std.specs.Prelude.{ℕ, Bool, cond, Float}
+use Rattle.std.specs.Prelude.{ℕ, Bool, cond, Float, Option, Some, None}
+use Rattle.profile.specs.declared.Range.{Range}
 use Rattle.figures.specs.Figure.{zero_hz}
 use Rattle.profile.specs.Range.{range}
-use Rattle.profile.specs.declared.RuleName.{RuleName}
-use Rattle.profile.specs.declared.RuleName.TheVariants.{Named, Unnamed}
 use Rattle.air.specs.Air.{margins}
 use Rattle.occupancy.specs.declared.Edges.{Edges}
 use Rattle.station.specs.declared.StationRecord.{StationRecord}
-use Rattle.station.specs.declared.Figure.{Figure}
-use Rattle.station.specs.declared.Figure.TheVariants.{Known, Absent}
 use Rattle.decision.specs.Number.{verdict_number, code_number, edge_number, overshoot_number, guidance_number}
 use Rattle.decision.specs.declared.Overshoot.{Overshoot}
-use Rattle.decision.specs.declared.Overshoot.TheVariants.{Beyond, TooClose, NoOvershoot}
+use Rattle.decision.specs.declared.Overshoot.TheVariants.{Beyond, TooClose}
 use Rattle.decision.specs.declared.Guidance.{Guidance}
-use Rattle.decision.specs.declared.Guidance.TheVariants.{Avoid, Inside, Outside, NoGuidance}
-use Rattle.decision.specs.declared.BandNumber.{BandNumber}
-use Rattle.decision.specs.declared.BandNumber.TheVariants.{Band, NoBand}
-use Rattle.decision.specs.declared.JudgedSegment.{JudgedSegment}
-use Rattle.decision.specs.declared.JudgedSegment.TheVariants.{Segment, NoSegment}
-use Rattle.decision.specs.declared.MaybeRange.{MaybeRange}
-use Rattle.decision.specs.declared.MaybeRange.TheVariants.{Is, NoRange}
+use Rattle.decision.specs.declared.Guidance.TheVariants.{Avoid, Inside, Outside}
 use Rattle.decision.specs.declared.Decision.{Decision}
 use Rattle.numbers.specs.Refusal.{refusal_number}
-use Rattle.ceiling.specs.Ceiling.{rung_number}
+use Rattle.ceiling.specs.Ceiling.{rung_number, limited, limit_of}
 use Rattle.ceiling.specs.declared.CeilingAnswer.{CeilingAnswer}
 use Rattle.walk.specs.declared.WalkState.{WalkState}
 use Rattle.walk.specs.declared.WalkAnswer.{WalkAnswer}
@@ -99,50 +90,50 @@ unfoldable pub walk_flat : WalkState → FlatWalk
 walk_flat w = record { occupied = edges_flat w.occupied; place = w.place; image = w.image; waiting = w.waiting; walking = w.walking }
 
 -- the parts of an answer
-abbrev pub range_flat : MaybeRange → FlatRange
-range_flat (Is a) = record { low = a.low_hz; high = a.high_hz; known = 1 }
-range_flat NoRange = record { low = zero_hz; high = zero_hz; known = 0 }
+abbrev pub range_flat : Option Range → FlatRange
+range_flat (Some a) = record { low = a.low_hz; high = a.high_hz; known = 1 }
+range_flat None = record { low = zero_hz; high = zero_hz; known = 0 }
 
-abbrev pub segment_flat : JudgedSegment → FlatSegment
-segment_flat (Segment a rule) = record { low = a.low_hz; high = a.high_hz; rule = rule; known = 1 }
-segment_flat NoSegment = record { low = zero_hz; high = zero_hz; rule = 0; known = 0 }
+abbrev pub segment_flat : Option (Range × ℕ) → FlatSegment
+segment_flat (Some (a, rule)) = record { low = a.low_hz; high = a.high_hz; rule = rule; known = 1 }
+segment_flat None = record { low = zero_hz; high = zero_hz; rule = 0; known = 0 }
 
 -- how far beyond an edge, and which edge
-abbrev pub beyond_by : Overshoot → Float
-beyond_by (Beyond by edge) = by
-beyond_by (TooClose edge) = zero_hz
-beyond_by NoOvershoot = zero_hz
+abbrev pub beyond_by : Option Overshoot → Float
+beyond_by (Some (Beyond by edge)) = by
+beyond_by (Some (TooClose edge)) = zero_hz
+beyond_by None = zero_hz
 
-abbrev pub beyond_edge : Overshoot → ℕ
-beyond_edge (Beyond by edge) = edge_number edge
-beyond_edge (TooClose edge) = edge_number edge
-beyond_edge NoOvershoot = 0
+abbrev pub beyond_edge : Option Overshoot → ℕ
+beyond_edge (Some (Beyond by edge)) = edge_number edge
+beyond_edge (Some (TooClose edge)) = edge_number edge
+beyond_edge None = 0
 
-abbrev pub overshoot_flat : Overshoot → FlatOvershoot
+abbrev pub overshoot_flat : Option Overshoot → FlatOvershoot
 overshoot_flat o = record { beyond_hz = beyond_by o; edge = beyond_edge o; number = overshoot_number o }
 
 -- a plan record's index is below 256 (Guided)
-abbrev pub guidance_index_of : Guidance → ℕ
-guidance_index_of (Avoid i) = i
-guidance_index_of (Inside i) = i
-guidance_index_of Outside = 0
-guidance_index_of NoGuidance = 0
+abbrev pub guidance_index_of : Option Guidance → ℕ
+guidance_index_of (Some (Avoid i)) = i
+guidance_index_of (Some (Inside i)) = i
+guidance_index_of (Some Outside) = 0
+guidance_index_of None = 0
 
-abbrev pub guidance_flat : Guidance → FlatGuidance
+abbrev pub guidance_flat : Option Guidance → FlatGuidance
 guidance_flat g = record { index = guidance_index_of g; number = guidance_number g }
 
 -- rule 0, "empty", is not absent
-abbrev pub rule_flat : RuleName → FlatRule
-rule_flat (Named rule) = record { rule = rule; known = 1 }
-rule_flat Unnamed = record { rule = 0; known = 0 }
+abbrev pub rule_flat : Option ℕ → FlatRule
+rule_flat (Some rule) = record { rule = rule; known = 1 }
+rule_flat None = record { rule = 0; known = 0 }
 
-abbrev pub band_flat : BandNumber → FlatBand
-band_flat (Band band) = record { band = band; known = 1 }
-band_flat NoBand = record { band = 0; known = 0 }
+abbrev pub band_flat : Option ℕ → FlatBand
+band_flat (Some band) = record { band = band; known = 1 }
+band_flat None = record { band = 0; known = 0 }
 
-abbrev pub width_flat : Figure → Float
-width_flat (Known x) = x
-width_flat Absent = zero_hz
+abbrev pub width_flat : Option Float → Float
+width_flat (Some x) = x
+width_flat None = zero_hz
 
 abbrev pub mark_of : Bool → ℕ
 mark_of b = cond b 1 0
@@ -187,9 +178,9 @@ flat_of d =
 unfoldable pub ceiling_flat : CeilingAnswer → FlatCeiling
 ceiling_flat a =
     record {
-      limit = flat_of a.limit;
+      limit = flat_of (limit_of a);
       rung = rung_number a.rung;
-      limit_known = mark_of a.limited;
+      limit_known = mark_of (limited a.limit);
       refusal = refusal_number a.refusal;
     }
 

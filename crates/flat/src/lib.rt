@@ -4,7 +4,7 @@
 #![tactic(auto)]
 
 ghost use Rattle.std.specs.Prelude.{◌≡◌, cond, ◌<◌};
-ghost use Rattle.ceiling.specs.Ceiling.{rung_number};
+ghost use Rattle.ceiling.specs.Ceiling.{rung_number, limit_of};
 ghost use Rattle.flat.specs.Fits.{RungFits, Indexed};
 ghost use Rattle.flat.specs.Flat.{station_record_of, station_of, edges_of, edges_flat, range_flat, segment_flat, overshoot_flat};
 ghost use Rattle.flat.specs.Flat.{guidance_index_of, guidance_flat, rule_flat, band_flat, width_flat};
@@ -12,11 +12,11 @@ ghost use Rattle.flat.specs.Flat.{flat_of, ceiling_flat};
 ghost use Rattle.flat.specs.Flat.{walk_of, walk_flat, walk_answer_flat, step_flat};
 
 use air::Margins;
-use ceiling::{CeilingAnswer, Rung};
-use decision::{BandNumber, Decision, Guidance, JudgedSegment, MaybeRange, Overshoot};
+use ceiling::CeilingAnswer;
+use decision::{Decision, Guidance, Overshoot};
 use occupancy::Edges;
-use profile::{Range, RuleName};
-use station::{Figure, StationRecord};
+use profile::Range;
+use station::StationRecord;
 use walk::{WalkAnswer, WalkState};
 use walk_step::StepAnswer;
 
@@ -164,6 +164,7 @@ pub struct FlatBand {
     pub known: u8,
 }
 
+#[tactic(auto, unfolding(crate::specs::Flat::station_record_of))]
 pub fn station_in(s: FlatStation) -> StationRecord
     ensures { result ≡ station_record_of s }
 {
@@ -185,6 +186,7 @@ pub fn station_in(s: FlatStation) -> StationRecord
     }
 }
 
+#[tactic(auto, unfolding(crate::specs::Flat::station_of))]
 pub fn station_out(s: StationRecord) -> FlatStation
     ensures { result ≡ station_of s }
 {
@@ -204,6 +206,7 @@ pub fn station_out(s: StationRecord) -> FlatStation
     }
 }
 
+#[tactic(auto, unfolding(crate::specs::Flat::edges_of))]
 pub fn edges_in(e: FlatEdges) -> Edges
     ensures { result ≡ edges_of e }
 {
@@ -219,6 +222,7 @@ pub fn edges_in(e: FlatEdges) -> Edges
 }
 
 // The edges, flat.
+#[tactic(auto, unfolding(crate::specs::Flat::edges_flat))]
 fn edges_out(e: Edges) -> FlatEdges
     ensures { result ≡ edges_flat e }
 {
@@ -231,6 +235,7 @@ fn edges_out(e: Edges) -> FlatEdges
 }
 
 // A walk's state as it arrives, and as it leaves.
+#[tactic(auto, unfolding(crate::specs::Flat::walk_of))]
 pub fn walk_in(w: FlatWalk) -> WalkState
     ensures { result ≡ walk_of w }
 {
@@ -243,6 +248,7 @@ pub fn walk_in(w: FlatWalk) -> WalkState
     }
 }
 
+#[tactic(auto, unfolding(crate::specs::Flat::walk_flat))]
 pub fn walk_out(w: WalkState) -> FlatWalk
     ensures { result ≡ walk_flat w }
 {
@@ -255,16 +261,16 @@ pub fn walk_out(w: WalkState) -> FlatWalk
     }
 }
 
-fn range_flat(m: MaybeRange) -> FlatRange
+fn range_flat(m: Option<Range>) -> FlatRange
     ensures { result ≡ range_flat m }
 {
     match m {
-        MaybeRange::Is(a) => FlatRange {
+        Some(a) => FlatRange {
             low: a.low_hz,
             high: a.high_hz,
             known: 1,
         },
-        MaybeRange::NoRange => FlatRange {
+        None => FlatRange {
             low: 0.0,
             high: 0.0,
             known: 0,
@@ -272,17 +278,17 @@ fn range_flat(m: MaybeRange) -> FlatRange
     }
 }
 
-fn segment_flat(s: JudgedSegment) -> FlatSegment
+fn segment_flat(s: Option<(Range, u16)>) -> FlatSegment
     ensures { result ≡ segment_flat s }
 {
     match s {
-        JudgedSegment::Segment(a, rule) => FlatSegment {
+        Some((a, rule)) => FlatSegment {
             low: a.low_hz,
             high: a.high_hz,
             rule,
             known: 1,
         },
-        JudgedSegment::NoSegment => FlatSegment {
+        None => FlatSegment {
             low: 0.0,
             high: 0.0,
             rule: 0,
@@ -291,22 +297,22 @@ fn segment_flat(s: JudgedSegment) -> FlatSegment
     }
 }
 
-fn overshoot_flat(o: Overshoot) -> FlatOvershoot
+fn overshoot_flat(o: Option<Overshoot>) -> FlatOvershoot
     ensures { result ≡ overshoot_flat o }
 {
     let number = numbers::overshoot_number(o);
     match o {
-        Overshoot::Beyond(by, edge) => FlatOvershoot {
+        Some(Overshoot::Beyond(by, edge)) => FlatOvershoot {
             beyond_hz: by,
-            edge: numbers::edge_number(edge),
+            edge: edge.into(),
             number,
         },
-        Overshoot::TooClose(edge) => FlatOvershoot {
+        Some(Overshoot::TooClose(edge)) => FlatOvershoot {
             beyond_hz: 0.0,
-            edge: numbers::edge_number(edge),
+            edge: edge.into(),
             number,
         },
-        Overshoot::NoOvershoot => FlatOvershoot {
+        None => FlatOvershoot {
             beyond_hz: 0.0,
             edge: 0,
             number,
@@ -314,50 +320,47 @@ fn overshoot_flat(o: Overshoot) -> FlatOvershoot
     }
 }
 
-fn guidance_flat(g: Guidance) -> FlatGuidance
+fn guidance_flat(g: Option<Guidance>) -> FlatGuidance
     requires { guidance_index_of g < 256 }
     ensures { result ≡ guidance_flat g }
 {
     let number = numbers::guidance_number(g);
     match g {
-        Guidance::Avoid(i) => FlatGuidance {
+        Some(Guidance::Avoid(i)) => FlatGuidance {
             index: i as u16,
             number,
         },
-        Guidance::Inside(i) => FlatGuidance {
+        Some(Guidance::Inside(i)) => FlatGuidance {
             index: i as u16,
             number,
         },
-        Guidance::Outside => FlatGuidance { index: 0, number },
-        Guidance::NoGuidance => FlatGuidance { index: 0, number },
+        Some(Guidance::Outside) => FlatGuidance { index: 0, number },
+        None => FlatGuidance { index: 0, number },
     }
 }
 
-fn rule_flat(n: RuleName) -> FlatRule
+fn rule_flat(n: Option<u16>) -> FlatRule
     ensures { result ≡ rule_flat n }
 {
     match n {
-        RuleName::Named(rule) => FlatRule { rule, known: 1 },
-        RuleName::Unnamed => FlatRule { rule: 0, known: 0 },
+        Some(rule) => FlatRule { rule, known: 1 },
+        None => FlatRule { rule: 0, known: 0 },
     }
 }
 
-fn band_flat(b: BandNumber) -> FlatBand
+fn band_flat(b: Option<u8>) -> FlatBand
     ensures { result ≡ band_flat b }
 {
     match b {
-        BandNumber::Band(band) => FlatBand { band, known: 1 },
-        BandNumber::NoBand => FlatBand { band: 0, known: 0 },
+        Some(band) => FlatBand { band, known: 1 },
+        None => FlatBand { band: 0, known: 0 },
     }
 }
 
-fn width_flat(w: Figure) -> f64
+fn width_flat(w: Option<f64>) -> f64
     ensures { result ≡ width_flat w }
 {
-    match w {
-        Figure::Known(x) => x,
-        Figure::Absent => 0.0,
-    }
+    w.unwrap_or(0.0)
 }
 
 fn mark(b: bool) -> u8
@@ -428,30 +431,27 @@ pub fn flat(d: Decision) -> FlatDecision
     }
 }
 
-fn rung_number(k: Rung) -> i32
+fn rung_number(k: Option<usize>) -> i32
     requires { RungFits k }
     ensures { result ≡ rung_number k }
 {
     match k {
-        Rung::Fastest(i) => i as i32,
-        Rung::NoRung => -1,
+        Some(i) => i as i32,
+        None => -1,
     }
 }
 
 // A ceiling, flat.
+#[tactic(auto, unfolding(crate::specs::Flat::ceiling_flat))]
 pub fn ceiling_flat(a: CeilingAnswer) -> FlatCeiling
-    requires { (RungFits a.rung) × (Indexed a.limit) }
+    requires { (RungFits a.rung) × (Indexed (limit_of a)) }
     ensures { result ≡ ceiling_flat a }
 {
-    let refusal = a.refusal;
-    let fastest = a.rung;
-    let limit = a.limit;
-    let rung = rung_number(fastest);
     FlatCeiling {
-        limit: flat(limit),
-        rung,
-        limit_known: mark(a.limited),
-        refusal: numbers::refusal_number(refusal),
+        limit: flat(a.limit_or_absent()),
+        rung: rung_number(a.rung),
+        limit_known: mark(a.limit.is_some()),
+        refusal: numbers::refusal_number(a.refusal),
     }
 }
 
@@ -459,21 +459,20 @@ pub fn ceiling_flat(a: CeilingAnswer) -> FlatCeiling
 pub fn walk_answer_flat(a: WalkAnswer) -> FlatWalkAnswer
     ensures { result ≡ walk_answer_flat a }
 {
-    let refusal = a.refusal;
     FlatWalkAnswer {
         state: walk_out(a.state),
-        refusal: numbers::refusal_number(refusal),
+        refusal: numbers::refusal_number(a.refusal),
     }
 }
 
 // A step's answer, flat.
+#[tactic(auto, unfolding(crate::specs::Flat::step_flat))]
 pub fn step_flat(a: StepAnswer) -> FlatStep
-    requires { (RungFits a.ceiling.rung) × (Indexed a.ceiling.limit) }
+    requires { (RungFits a.ceiling.rung) × (Indexed (limit_of a.ceiling)) }
     ensures { result ≡ step_flat a }
 {
-    let ceiling = a.ceiling;
     FlatStep {
-        ceiling: ceiling_flat(ceiling),
+        ceiling: ceiling_flat(a.ceiling),
         state: walk_out(a.state),
         over: mark(a.over),
     }

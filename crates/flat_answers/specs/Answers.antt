@@ -1,45 +1,31 @@
 -- The flat forms of the answers that hold no decision, and what their exports promise.
-use Rattle.std.specs.Prelude.{ℕ, List, ◌++◌, ◌≡◌, length, Float}
+use Rattle.std.specs.Prelude.{ℕ, Bool, true, false, List, ◌++◌, ◌≡◌, length, Float, Option, Some, None, Result, Ok, Err}
+use Rattle.codes.specs.Refusal.{Checked, number_of, refusal_of}
+use Rattle.codes.specs.declared.Refusal.{Refusal}
 use Rattle.std.specs.Float.{binary64}
 use Rattle.std.specs.Float.Ieee.{of_bits}
 use Rattle.occupancy.specs.declared.Edges.{Edges}
 use Rattle.station.specs.declared.StationRecord.{StationRecord}
-use Rattle.tidy.specs.declared.Tidiness.{Tidiness}
-use Rattle.tidy.specs.declared.Tidiness.TheVariants.{Tidy, Untidy, NotJudged}
 use Rattle.fault.specs.Number.{fault_number}
 use Rattle.fault.specs.declared.Fault.{Fault}
-use Rattle.fault.specs.declared.Fault.TheVariants.{InGeneral, InRecord, Nowhere}
+use Rattle.fault.specs.declared.Fault.TheVariants.{InGeneral, InRecord}
 use Rattle.fault.specs.declared.FaultAnswer.{FaultAnswer}
-use Rattle.codes.specs.Refusal.{refusal_of}
-use Rattle.codes.specs.declared.Checked.{Checked}
 use Rattle.numbers.specs.Refusal.{refusal_number}
 use Rattle.dials.specs.List.{list_rows, list_tests, answer_of, bytes_of}
-use Rattle.dials.specs.declared.DialList.{DialList}
-use Rattle.dials.specs.declared.DialList.TheVariants.{Rows, Refused}
-use Rattle.distance.specs.declared.Distance.{Distance}
-use Rattle.distance.specs.declared.Distance.TheVariants.{Hertz, NoneListed, Refused as NoAnswer}
 use Rattle.number_texts.specs.Text.{text_tests, text_answer, text_bytes}
-use Rattle.number_texts.specs.declared.TextAnswer.{TextAnswer}
-use Rattle.number_texts.specs.declared.TextAnswer.TheVariants.{Length, Refused as NoText}
 use Rattle.table.specs.Table.{table_of}
 use Rattle.report.specs.Report.{report_rows, report_tests, answer_of as report_answer, bytes_of as report_bytes}
-use Rattle.report.specs.declared.TableReport.{TableReport}
-use Rattle.report.specs.declared.TableReport.TheVariants.{Rows as ReportOf, Refused as NoReport}
 use Rattle.census.specs.declared.Census.{Census}
 use Rattle.airtime.specs.Airtime.{airtime_tests, airtime_answer, airtime_left, totals_of}
-use Rattle.airtime.specs.declared.Airtime.{Airtime}
-use Rattle.airtime.specs.declared.Airtime.TheVariants.{Totals, Refused as NoTotals}
 use Rattle.flat_answers.specs.declared.FlatAirtime.{FlatAirtime}
 use Rattle.given.specs.Given.{Runs}
 use Rattle.given.specs.declared.Fields.{Fields}
 use Rattle.writer.specs.Write.{room_test, image_answer, image_bytes, image_from, write_tests}
-use Rattle.writer.specs.declared.ImageAnswer.{ImageAnswer}
-use Rattle.writer.specs.declared.ImageAnswer.TheVariants.{Length as ImageOf, Refused as NoImage}
 use Rattle.convert.specs.Convert.{raise_tests, lower_tests, raised_of, lowered_of}
 use Rattle.amended.specs.Amended.{effective_of}
 use Rattle.amend.specs.Amend.{amend_tests}
 use Rattle.nearest.specs.declared.Nearest.{Nearest}
-use Rattle.nearest.specs.declared.Nearest.TheVariants.{Dial, NoneAllowed, NotJudged, Refused as NoDial}
+use Rattle.nearest.specs.declared.Nearest.TheVariants.{Dial, NoneAllowed, NotJudged}
 use Rattle.flat_answers.specs.declared.FlatDistance.{FlatDistance}
 use Rattle.flat_answers.specs.declared.FlatNearest.{FlatNearest}
 use Rattle.flat_answers.specs.declared.FlatFields.{FlatFields}
@@ -77,22 +63,31 @@ fields_of f =
       privileges_rule = f.privileges_rule;
     }
 
+-- the number of an answer that is one number, or 0; and the number of its refusal, or 0
+abbrev pub told_of : Result ℕ Refusal → ℕ
+told_of (Ok n) = n
+told_of (Err r) = 0
+
+abbrev pub refused_by : Result ℕ Refusal → ℕ
+refused_by (Ok n) = 0
+refused_by (Err r) = number_of r
+
 -- the tidy question's answer: tidy is 1 only where the image is accepted too
-abbrev pub tidiness_flat : Tidiness → FlatTidiness
-tidiness_flat Untidy = record { tidy = 0; refusal = 0 }
-tidiness_flat Tidy = record { tidy = 1; refusal = 0 }
-tidiness_flat (NotJudged n) = record { tidy = 0; refusal = n }
+abbrev pub tidiness_flat : Result Bool Refusal → FlatTidiness
+tidiness_flat (Ok false) = record { tidy = 0; refusal = 0 }
+tidiness_flat (Ok true) = record { tidy = 1; refusal = 0 }
+tidiness_flat (Err n) = record { tidy = 0; refusal = number_of n }
 
 -- where a table is wrong: a table is below 9 and a record below 256 (Fits); where there is none they are 255 and 65,535
-abbrev pub fault_table : Fault → ℕ
-fault_table (InRecord t i) = t
-fault_table InGeneral = 255
-fault_table Nowhere = 255
+abbrev pub fault_table : Option Fault → ℕ
+fault_table (Some (InRecord t i)) = t
+fault_table (Some InGeneral) = 255
+fault_table None = 255
 
-abbrev pub fault_record : Fault → ℕ
-fault_record (InRecord t i) = i
-fault_record InGeneral = 65535
-fault_record Nowhere = 65535
+abbrev pub fault_record : Option Fault → ℕ
+fault_record (Some (InRecord t i)) = i
+fault_record (Some InGeneral) = 65535
+fault_record None = 65535
 
 abbrev pub fault_flat : FaultAnswer → FlatFault
 fault_flat a =
@@ -104,9 +99,9 @@ fault_flat a =
     }
 
 -- a dial list: "A refusal gives its number, … count 0"; a count is at most 16,777,472 (Fits)
-abbrev pub dials_flat : DialList → FlatDials
-dials_flat (Rows n) = record { count = n; refusal = 0 }
-dials_flat (Refused n) = record { count = 0; refusal = n }
+abbrev pub dials_flat : Result ℕ Refusal → FlatDials
+dials_flat (Ok n) = record { count = n; refusal = 0 }
+dials_flat (Err n) = record { count = 0; refusal = number_of n }
 
 -- what the exported list promises: the flat form of the answer, and every byte of the rows lent
 pub record FlatDialed (r : StationRecord) (direction : ℕ) (e : Edges) (l lent left : List ℕ) (answer : FlatDials) : Type 0 where
@@ -114,9 +109,9 @@ pub record FlatDialed (r : StationRecord) (direction : ℕ) (e : Edges) (l lent 
   pub bytes : left ≡ bytes_of (refusal_of (list_tests r direction e l lent)) (list_rows r direction e l) lent
 
 -- a table report: its count of rows, at most 262,400 (Fits), or a refusal's number and count 0
-abbrev pub report_flat : TableReport → FlatReport
-report_flat (ReportOf n) = record { count = n; refusal = 0 }
-report_flat (NoReport n) = record { count = 0; refusal = n }
+abbrev pub report_flat : Result ℕ Refusal → FlatReport
+report_flat (Ok n) = record { count = n; refusal = 0 }
+report_flat (Err n) = record { count = 0; refusal = number_of n }
 
 -- what the exported report promises: the flat form of the answer, and every byte of the rows lent
 pub record FlatReported (l : List ℕ) (class : ℕ) (lent left : List ℕ) (answer : FlatReport) : Type 0 where
@@ -124,9 +119,9 @@ pub record FlatReported (l : List ℕ) (class : ℕ) (lent left : List ℕ) (ans
   pub bytes : left ≡ report_bytes (refusal_of (report_tests l class lent)) (report_rows (table_of l) class) lent
 
 -- an image that was written: its length, at most 65,552, or a refusal's number and length 0
-abbrev pub image_flat : ImageAnswer → FlatImage
-image_flat (ImageOf n) = record { length = n; refusal = 0 }
-image_flat (NoImage n) = record { length = 0; refusal = n }
+abbrev pub image_flat : Result ℕ Refusal → FlatImage
+image_flat (Ok n) = record { length = n; refusal = 0 }
+image_flat (Err n) = record { length = 0; refusal = number_of n }
 
 -- what an export that writes an image promises: the flat form of the answer, and every byte lent
 pub record FlatLeft (c : Checked) (image lent left : List ℕ) (answer : FlatImage) : Type 0 where
@@ -155,22 +150,22 @@ abbrev pub infinity_hz : Float
 infinity_hz = of_bits binary64 0x7ff0_0000_0000_0000
 
 -- a distance: listed is 1 where there is one
-abbrev pub distance_flat : Distance → FlatDistance
-distance_flat (Hertz x) = record { distance_hz = x; listed = 1; refusal = 0 }
-distance_flat NoneListed = record { distance_hz = infinity_hz; listed = 0; refusal = 0 }
-distance_flat (NoAnswer n) = record { distance_hz = infinity_hz; listed = 0; refusal = n }
+abbrev pub distance_flat : Result (Option Float) Refusal → FlatDistance
+distance_flat (Ok (Some x)) = record { distance_hz = x; listed = 1; refusal = 0 }
+distance_flat (Ok None) = record { distance_hz = infinity_hz; listed = 0; refusal = 0 }
+distance_flat (Err n) = record { distance_hz = infinity_hz; listed = 0; refusal = number_of n }
 
 -- the nearest dial: answer is 1 where there is one, 2 where there is none, 3 where that was not judged, and 0 with a refusal
-abbrev pub nearest_flat : Nearest → FlatNearest
-nearest_flat (Dial x) = record { dial_hz = x; answer = 1; refusal = 0 }
-nearest_flat NoneAllowed = record { dial_hz = infinity_hz; answer = 2; refusal = 0 }
-nearest_flat NotJudged = record { dial_hz = infinity_hz; answer = 3; refusal = 0 }
-nearest_flat (NoDial n) = record { dial_hz = infinity_hz; answer = 0; refusal = n }
+abbrev pub nearest_flat : Result Nearest Refusal → FlatNearest
+nearest_flat (Ok (Dial x)) = record { dial_hz = x; answer = 1; refusal = 0 }
+nearest_flat (Ok NoneAllowed) = record { dial_hz = infinity_hz; answer = 2; refusal = 0 }
+nearest_flat (Ok NotJudged) = record { dial_hz = infinity_hz; answer = 3; refusal = 0 }
+nearest_flat (Err n) = record { dial_hz = infinity_hz; answer = 0; refusal = number_of n }
 
 -- a text: its length, or a refusal's number and length 0
-abbrev pub text_flat : TextAnswer → FlatText
-text_flat (Length n) = record { length = n; refusal = 0 }
-text_flat (NoText n) = record { length = 0; refusal = n }
+abbrev pub text_flat : Result ℕ Refusal → FlatText
+text_flat (Ok n) = record { length = n; refusal = 0 }
+text_flat (Err n) = record { length = 0; refusal = number_of n }
 
 -- what the exported texts promise: the flat form of the answer, and every byte lent
 pub record FlatTexted (hz : Float) (text lent left : List ℕ) (answer : FlatText) : Type 0 where
@@ -178,9 +173,9 @@ pub record FlatTexted (hz : Float) (text lent left : List ℕ) (answer : FlatTex
   pub bytes : left ≡ text_bytes (refusal_of (text_tests hz text lent)) text lent
 
 -- time on the air: how many totals there are, or a refusal's number and count 0
-abbrev pub airtime_flat : Airtime → FlatAirtime
-airtime_flat (Totals n) = record { count = n; refusal = 0 }
-airtime_flat (NoTotals n) = record { count = 0; refusal = n }
+abbrev pub airtime_flat : Result ℕ Refusal → FlatAirtime
+airtime_flat (Ok n) = record { count = n; refusal = 0 }
+airtime_flat (Err n) = record { count = 0; refusal = number_of n }
 
 -- what the exported totals promise: the flat form of the answer, and every element lent
 pub record FlatTotalled (starts bands seconds lent left : List ℕ) (answer : FlatAirtime) : Type 0 where

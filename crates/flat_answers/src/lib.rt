@@ -6,19 +6,13 @@
 ghost use Rattle.std.specs.Prelude.{◌≡◌};
 ghost use Rattle.flat_answers.specs.Fits.{FaultFits, Counted, ReportCounted};
 ghost use Rattle.flat_answers.specs.Answers.{fields_of, fault_flat, tidiness_flat, dials_flat, report_flat, image_flat, census_flat};
-ghost use Rattle.flat_answers.specs.Answers.{infinity_hz, distance_flat, nearest_flat, text_flat, airtime_flat};
+ghost use Rattle.flat_answers.specs.Answers.{told_of, refused_by, infinity_hz, distance_flat, nearest_flat, text_flat, airtime_flat};
 
-use airtime::Airtime;
 use census::Census;
-use dials::DialList;
-use distance::Distance;
+use codes::Refusal;
 use fault::{Fault, FaultAnswer};
 use given::Fields;
 use nearest::Nearest;
-use number_texts::TextAnswer;
-use report::TableReport;
-use tidy::Tidiness;
-use writer::ImageAnswer;
 
 // What an image is written from, beside its records: edition, general block, and the number of records of each table. The watts of
 // edition 1 are not looked at.
@@ -133,6 +127,7 @@ pub struct FlatAirtime {
 }
 
 // The edition and the general block of the fields.
+#[tactic(auto, unfolding(crate::specs::Answers::fields_of))]
 pub fn fields_in(f: FlatFields) -> Fields
     ensures { result ≡ fields_of f }
 {
@@ -160,29 +155,32 @@ pub fn fields_in(f: FlatFields) -> Fields
     }
 }
 
+// The number that a call answers, or 0, and the number of its refusal, or 0.
+fn told(a: Result<u32, Refusal>) -> (u32, u8)
+    ensures number { result.0 ≡ told_of a }
+    ensures refusal { result.1 ≡ refused_by a }
+{
+    match a {
+        Ok(n) => (n, 0),
+        Err(r) => (0, r.into()),
+    }
+}
+
 // The place of a refusal, flat.
 pub fn fault_flat(a: FaultAnswer) -> FlatFault
     requires { FaultFits a.fault }
     ensures { result ≡ fault_flat a }
 {
-    let checked = a.refusal;
-    let f = a.fault;
-    let refusal = numbers::refusal_number(checked);
-    let place = fault::fault_number(f);
-    match f {
-        Fault::InRecord(t, i) => FlatFault {
+    let refusal = numbers::refusal_number(a.refusal);
+    let place = fault::fault_number(a.fault);
+    match a.fault {
+        Some(Fault::InRecord(t, i)) => FlatFault {
             record: i as u16,
             table: t as u8,
             place,
             refusal,
         },
-        Fault::InGeneral => FlatFault {
-            record: 65535,
-            table: 255,
-            place,
-            refusal,
-        },
-        Fault::Nowhere => FlatFault {
+        Some(Fault::InGeneral) | None => FlatFault {
             record: 65535,
             table: 255,
             place,
@@ -192,84 +190,71 @@ pub fn fault_flat(a: FaultAnswer) -> FlatFault
 }
 
 // The tidy question's answer, flat.
-pub fn tidiness_flat(t: Tidiness) -> FlatTidiness
+pub fn tidiness_flat(t: Result<bool, Refusal>) -> FlatTidiness
     ensures { result ≡ tidiness_flat t }
 {
     match t {
-        Tidiness::Untidy => FlatTidiness {
-            tidy: 0,
+        Ok(tidy) => FlatTidiness {
+            tidy: tidy as u8,
             refusal: 0,
         },
-        Tidiness::Tidy => FlatTidiness {
-            tidy: 1,
-            refusal: 0,
-        },
-        Tidiness::NotJudged(n) => FlatTidiness {
+        Err(r) => FlatTidiness {
             tidy: 0,
-            refusal: n,
+            refusal: r.into(),
         },
     }
 }
 
 // A dial list's answer, flat.
-pub fn dials_flat(a: DialList) -> FlatDials
+pub fn dials_flat(a: Result<usize, Refusal>) -> FlatDials
     requires { Counted a }
     ensures { result ≡ dials_flat a }
 {
     match a {
-        DialList::Rows(n) => FlatDials {
+        Ok(n) => FlatDials {
             count: n as u32,
             refusal: 0,
         },
-        DialList::Refused(n) => FlatDials {
+        Err(r) => FlatDials {
             count: 0,
-            refusal: n,
+            refusal: r.into(),
         },
     }
 }
 
 // A table report's answer, flat.
-pub fn report_flat(a: TableReport) -> FlatReport
+pub fn report_flat(a: Result<usize, Refusal>) -> FlatReport
     requires { ReportCounted a }
     ensures { result ≡ report_flat a }
 {
     match a {
-        TableReport::Rows(n) => FlatReport {
+        Ok(n) => FlatReport {
             count: n as u32,
             refusal: 0,
         },
-        TableReport::Refused(n) => FlatReport {
+        Err(r) => FlatReport {
             count: 0,
-            refusal: n,
+            refusal: r.into(),
         },
     }
 }
 
 // The answer of a call that writes an image, flat.
-pub fn image_flat(a: ImageAnswer) -> FlatImage
+pub fn image_flat(a: Result<u32, Refusal>) -> FlatImage
     ensures { result ≡ image_flat a }
 {
-    match a {
-        ImageAnswer::Length(n) => FlatImage {
-            length: n,
-            refusal: 0,
-        },
-        ImageAnswer::Refused(n) => FlatImage {
-            length: 0,
-            refusal: n,
-        },
-    }
+    let (length, refusal) = told(a);
+    FlatImage { length, refusal }
 }
 
 // A census, flat.
 pub fn census_flat(c: Census) -> FlatCensus
     ensures { result ≡ census_flat c }
 {
-    let refusal = c.refusal;
     let counts = c.counts;
     FlatCensus {
         counts,
-        refusal: numbers::refusal_number(refusal),
+        refusal: numbers::refusal_number(c.refusal),
     }
 }
 
@@ -281,86 +266,68 @@ fn infinity() -> f64
 }
 
 // A distance, flat.
-pub fn distance_flat(d: Distance) -> FlatDistance
+pub fn distance_flat(d: Result<Option<f64>, Refusal>) -> FlatDistance
     ensures { result ≡ distance_flat d }
 {
-    let none = infinity();
     match d {
-        Distance::Hertz(x) => FlatDistance {
+        Ok(Some(x)) => FlatDistance {
             distance_hz: x,
             listed: 1,
             refusal: 0,
         },
-        Distance::NoneListed => FlatDistance {
-            distance_hz: none,
+        Ok(None) => FlatDistance {
+            distance_hz: infinity(),
             listed: 0,
             refusal: 0,
         },
-        Distance::Refused(n) => FlatDistance {
-            distance_hz: none,
+        Err(r) => FlatDistance {
+            distance_hz: infinity(),
             listed: 0,
-            refusal: n,
+            refusal: r.into(),
         },
     }
 }
 
 // The nearest dial, flat.
-pub fn nearest_flat(n: Nearest) -> FlatNearest
+pub fn nearest_flat(n: Result<Nearest, Refusal>) -> FlatNearest
     ensures { result ≡ nearest_flat n }
 {
-    let none = infinity();
     match n {
-        Nearest::Dial(x) => FlatNearest {
+        Ok(Nearest::Dial(x)) => FlatNearest {
             dial_hz: x,
             answer: 1,
             refusal: 0,
         },
-        Nearest::NoneAllowed => FlatNearest {
-            dial_hz: none,
+        Ok(Nearest::NoneAllowed) => FlatNearest {
+            dial_hz: infinity(),
             answer: 2,
             refusal: 0,
         },
-        Nearest::NotJudged => FlatNearest {
-            dial_hz: none,
+        Ok(Nearest::NotJudged) => FlatNearest {
+            dial_hz: infinity(),
             answer: 3,
             refusal: 0,
         },
-        Nearest::Refused(k) => FlatNearest {
-            dial_hz: none,
+        Err(r) => FlatNearest {
+            dial_hz: infinity(),
             answer: 0,
-            refusal: k,
+            refusal: r.into(),
         },
     }
 }
 
 // A text's answer, flat.
-pub fn text_flat(a: TextAnswer) -> FlatText
+pub fn text_flat(a: Result<u32, Refusal>) -> FlatText
     ensures { result ≡ text_flat a }
 {
-    match a {
-        TextAnswer::Length(n) => FlatText {
-            length: n,
-            refusal: 0,
-        },
-        TextAnswer::Refused(n) => FlatText {
-            length: 0,
-            refusal: n,
-        },
-    }
+    let (length, refusal) = told(a);
+    FlatText { length, refusal }
 }
 
 // An answer on time on the air, flat.
-pub fn airtime_flat(a: Airtime) -> FlatAirtime
+pub fn airtime_flat(a: Result<u32, Refusal>) -> FlatAirtime
     ensures { result ≡ airtime_flat a }
 {
-    match a {
-        Airtime::Totals(n) => FlatAirtime {
-            count: n,
-            refusal: 0,
-        },
-        Airtime::Refused(n) => FlatAirtime {
-            count: 0,
-            refusal: n,
-        },
-    }
+    let (count, refusal) = told(a);
+    FlatAirtime { count, refusal }
 }

@@ -1,13 +1,11 @@
 -- Laws of what is given: every table's records lie within the runs, and what a scan of them finds.
-use Rattle.std.specs.Prelude.{ℕ, zero, suc, ◌+◌, ◌*◌, ◌-◌, ◌≤◌, ◌<◌, false, List, ◌≡◌, length}
+use Rattle.std.specs.Prelude.{ℕ, zero, suc, ◌+◌, ◌*◌, ◌-◌, ◌≤◌, ◌<◌, false, List, ◌≡◌, length, Option, Ok}
 use Rattle.std.proofs.Common.{sym, ap, subst, ◌∙◌, add-one, zero-add, suc-add, le_refl, arith, lt-ltb, ltb-false, eqb-true}
 use Rattle.std.proofs.lemmas.Bool.{not-false}
 use Rattle.scan.specs.First.{first}
 use Rattle.scan.specs.Laws.{first_same}
-use Rattle.scan.specs.declared.Found.{Found}
 use Rattle.codes.specs.Refusal.{refusal_of}
 use Rattle.codes.specs.Laws.{none_fails}
-use Rattle.codes.specs.declared.Checked.TheVariants.{Accepted}
 use Rattle.layout.specs.Layout.{tables}
 use Rattle.layout.specs.Laws.{or_false_both}
 use Rattle.layout.specs.declared.General.{General}
@@ -45,7 +43,7 @@ record_given_holds n r t i h k = rw (count_given_holds n t h) (rw (lt-ltb i (cou
 
 -- what a scan of the runs found, from where table t's records begin
 pub found_given :
-    (n : List ℕ) (r : Runs) (t : ℕ) (q : Question) (start count : ℕ) (f : Found) → t < tables → start ≡ before_from n t
+    (n : List ℕ) (r : Runs) (t : ℕ) (q : Question) (start count : ℕ) (f : Option ℕ) → t < tables → start ≡ before_from n t
     → count ≡ count_from n t → f ≡ first (asks_from r start q) count → f ≡ first_given n r t q
 found_given n r t q start count f h s k e =
     e ∙ ap (λ (a : ℕ). first (asks_from r a q) count) s ∙ ap (λ (m : ℕ). first (asks_from r (before_from n t) q) m) k
@@ -72,7 +70,7 @@ pub record Sound (edition : ℕ) (n : List ℕ) (r : Runs) : Type 0 where
   pub agree : runs_wrong r (before_from n tables) ≡ false
   pub held : Held r (before_from n tables)
 
-pub sound_of : (edition : ℕ) (g : General) (n : List ℕ) (r : Runs) → refusal_of (given_tests edition g n r) ≡ Accepted → Sound edition n r
+pub sound_of : (edition : ℕ) (g : General) (n : List ℕ) (r : Runs) → refusal_of (given_tests edition g n r) ≡ Ok tt → Sound edition n r
 sound_of edition g n r e =
     let none = none_fails (given_tests edition g n r) e in
     let wrong = or_false_both (overfull_from n) (runs_wrong r (before_from n tables)) none.1.1.0 in

@@ -1,8 +1,8 @@
 -- The refusals of what is given: "The writer refuses with the number that its image would get" (document 02, 6). 2 is never met: a writer
 -- writes the letters itself.
-use Rattle.std.specs.Prelude.{ℕ, ◌+◌, ◌*◌, ◌≤◌, Bool, false, not, ◌&&◌, ◌||◌, List, ◌∷◌, eqb, ltb, length}
+use Rattle.std.specs.Prelude.{ℕ, ◌+◌, ◌*◌, ◌≤◌, Bool, false, not, ◌&&◌, ◌||◌, List, ◌∷◌, eqb, ltb, length, Option}
 use Rattle.scan.specs.First.{first, some, is_at}
-use Rattle.scan.specs.declared.Found.{Found}
+use Rattle.codes.specs.declared.Refusal.TheVariants as refusal
 use Rattle.codes.specs.Refusal.{Test, test}
 use Rattle.layout.specs.Layout.{tables, bands, segments}
 use Rattle.find.specs.Question.{asks, home_question}
@@ -33,7 +33,7 @@ given_wrong n r = overfull_from n || runs_wrong r (before_from n tables)
 
 -- 1, 3 and 4 of what is given, then 5 to 14 of its table
 abbrev pub given_tests : ℕ → General → List ℕ → Runs → List Test
-given_tests edition g n r = test 1 (too_many n) ∷ test 3 (neither_edition edition) ∷ test 4 (given_wrong n r) ∷ content_tests (table_with g n r)
+given_tests edition g n r = test refusal.ImageLength (too_many n) ∷ test refusal.Edition (neither_edition edition) ∷ test refusal.Counts (given_wrong n r) ∷ content_tests (table_with g n r)
 
 -- ---- what a scan of the runs asks
 
@@ -47,7 +47,7 @@ pub record Held (r : Runs) (count : ℕ) : Type 0 where
 abbrev pub asks_from : Runs → ℕ → Question → ℕ → Bool
 asks_from r start q i = asks q (record_from r (start + i))
 
-abbrev pub first_given : List ℕ → Runs → ℕ → Question → Found
+abbrev pub first_given : List ℕ → Runs → ℕ → Question → Option ℕ
 first_given n r t q = first (λ i. asks q (record_given n r t i)) (count_given n t)
 
 abbrev pub some_given : List ℕ → Runs → ℕ → Question → Bool

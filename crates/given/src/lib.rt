@@ -2,20 +2,21 @@
 // that the image check asks of a record. Nothing is written here. It uses codes, scan, layout, coded, table, find, image and byte_writes.
 #![tactic(auto)]
 
-ghost use Rattle.std.specs.Prelude.{◌≡◌, false, ◌+◌, ◌*◌, ◌≤◌, ◌<◌, length, get_or};
+ghost use Rattle.std.specs.Prelude.{◌≡◌, false, not, ◌+◌, ◌*◌, ◌≤◌, ◌<◌, length, get_or};
 ghost use Rattle.std.specs.Float.{nan, binary64};
 ghost use Rattle.std.specs.Float.Ieee.{to_bits};
 ghost use Rattle.scan.specs.First.{first};
 ghost use Rattle.codes.specs.Refusal.{refusal_of};
+ghost use Rattle.layout.specs.Layout.{bands};
+ghost use Rattle.find.specs.Question.{home_question};
 ghost use Rattle.image.specs.Check.{miscoded, unsound, content_tests};
 ghost use Rattle.given.specs.Given.{runs, count_from, before_from, record_from, watts_from, general_from, table_with};
-ghost use Rattle.given.specs.Tests.{neither_edition, overfull_from, runs_wrong, given_tests, Held, asks_from, first_given};
+ghost use Rattle.given.specs.Tests.{neither_edition, overfull_from, runs_wrong, given_tests, Held, asks_from};
 ghost use Rattle.given.specs.Tests.{some_given, bare_given, homeless_given};
 
-use codes::Checked;
+use codes::{Checked, Refusal};
 use find::Question;
 use layout::{General, Record};
-use scan::Found;
 
 // The most records that an image has room for, of either edition.
 pub const MOST: usize = 2045;
@@ -50,12 +51,14 @@ fn watts_from(edition: u16, watts: f64, fixed: u64) -> u64
     ensures { result ≡ watts_from edition watts fixed }
 {
     if edition == layout::SECOND_EDITION {
-        return byte_writes::bits(watts);
+        byte_writes::bits(watts)
+    } else {
+        fixed
     }
-    fixed
 }
 
 // The general block of these fields.
+#[tactic(auto, unfolding(crate::specs::Given::general_from))]
 pub fn general_from(f: Fields) -> General
     ensures { result ≡ general_from f }
 {
@@ -84,7 +87,7 @@ pub fn general_from(f: Fields) -> General
     }
 }
 
-// A figure of the runs by its bits, and a rule of them.
+// A figure of the runs by its bits.
 fn bits_at(figures: &[f64], i: usize) -> u64
     requires { i < length figures.now }
     ensures { result ≡ to_bits binary64 (get_or figures.now i nan) }
@@ -92,31 +95,22 @@ fn bits_at(figures: &[f64], i: usize) -> u64
     byte_writes::bits(figures[i])
 }
 
-fn rule_at(rules: &[u16], i: usize) -> u16
-    requires { i < length rules.now }
-    ensures { result ≡ get_or rules.now i 0 }
-{
-    rules[i]
-}
-
 // Record k of all.
+#[tactic(auto, unfolding(crate::specs::Given::record_from))]
 pub fn record_from(figures: &[f64], codes: &[u8], rules: &[u16], k: usize) -> Record
     requires { Held (runs figures.now codes.now rules.now) (k + 1) }
     ensures { result ≡ record_from (runs figures.now codes.now rules.now) k }
 {
-    let at = 3 * k;
-    let code = 4 * k;
-    let rule = 2 * k;
     Record {
-        low: bits_at(figures, at),
-        high: bits_at(figures, at + 1),
-        figure: bits_at(figures, at + 2),
-        band: layout::byte_at(codes, code),
-        class: layout::byte_at(codes, code + 1),
-        emissions: layout::byte_at(codes, code + 2),
-        flags: layout::byte_at(codes, code + 3),
-        rule: rule_at(rules, rule),
-        second_rule: rule_at(rules, rule + 1),
+        low: bits_at(figures, 3 * k),
+        high: bits_at(figures, 3 * k + 1),
+        figure: bits_at(figures, 3 * k + 2),
+        band: codes[4 * k],
+        class: codes[4 * k + 1],
+        emissions: codes[4 * k + 2],
+        flags: codes[4 * k + 3],
+        rule: rules[2 * k],
+        second_rule: rules[2 * k + 1],
     }
 }
 
@@ -129,15 +123,14 @@ pub fn count_at(counts: &[u16; 9], t: usize) -> u16
 }
 
 // The records of the tables before t.
+#[tactic(auto, using(crate::specs::Laws::before_more), unfolding(crate::specs::Given::before_from))]
 pub fn before(counts: &[u16; 9], t: usize) -> usize
     requires { t ≤ 9 }
     ensures { (result ≡ before_from counts.now t) × (result ≤ 589815) }
 {
-    let mut sum: usize = 0;
-    let mut i: usize = 0;
-    while i < t {
+    let mut sum = 0;
+    for i in 0..t {
         sum += count_at(counts, i) as usize;
-        i += 1;
     }
     sum
 }
@@ -150,37 +143,18 @@ fn find_from(
     start: usize,
     count: usize,
     q: Question,
-) -> Found
+) -> Option<usize>
     requires { Held (runs figures.now codes.now rules.now) (start + count) }
     ensures { result ≡ first (asks_from (runs figures.now codes.now rules.now) start q) count }
 {
-    let mut i: usize = 0;
-    while i < count {
-        if find::answers(q, record_from(figures, codes, rules, start + i)) {
-            return Found::At(i);
-        }
-        i += 1;
-    }
-    Found::Nothing
+    scan::first(
+        count,
+        |i| find::answers(q, record_from(figures, codes, rules, start + i)),
+    )
 }
 
-// The first record of table t that a question fits, and whether there is one.
-fn find_in(
-    counts: &[u16; 9],
-    figures: &[f64],
-    codes: &[u8],
-    rules: &[u16],
-    t: usize,
-    q: Question,
-) -> Found
-    requires { (Held (runs figures.now codes.now rules.now) (before_from counts.now 9)) × (t < 9) }
-    ensures { result ≡ first_given counts.now (runs figures.now codes.now rules.now) t q }
-{
-    let start = before(counts, t);
-    let count = count_at(counts, t) as usize;
-    find_from(figures, codes, rules, start, count, q)
-}
-
+// Whether a question fits a record of table t.
+#[tactic(auto, using(crate::specs::Laws::before_within, crate::specs::Laws::found_given))]
 fn some_in(
     counts: &[u16; 9],
     figures: &[f64],
@@ -192,51 +166,39 @@ fn some_in(
     requires { (Held (runs figures.now codes.now rules.now) (before_from counts.now 9)) × (t < 9) }
     ensures { result ≡ some_given counts.now (runs figures.now codes.now rules.now) t q }
 {
-    match find_in(counts, figures, codes, rules, t, q) {
-        Found::At(_) => true,
-        Found::Nothing => false,
-    }
+    let start = before(counts, t);
+    let count = count_at(counts, t) as usize;
+    find_from(figures, codes, rules, start, count, q).is_some()
 }
 
 // 5: the general block, then each table.
+#[tactic(auto, unfolding(image::specs::Check::miscoded, image::specs::Check::coded_block))]
 fn is_miscoded(g: General, counts: &[u16; 9], figures: &[f64], codes: &[u8], rules: &[u16]) -> bool
     requires { Held (runs figures.now codes.now rules.now) (before_from counts.now 9) }
     ensures { result ≡ miscoded (table_with g counts.now (runs figures.now codes.now rules.now)) }
 {
-    if !coded::coded_general(
+    !coded::coded_general(
         g,
         count_at(counts, layout::CHANNELS),
         count_at(counts, layout::PLAN_DATA),
         count_at(counts, layout::PLAN_AVOID),
-    ) {
-        return true;
-    }
-    let mut t: usize = 0;
-    while t < layout::TABLES {
-        if some_in(counts, figures, codes, rules, t, Question::Miscoded(t)) {
-            return true;
-        }
-        t += 1;
-    }
-    false
+    ) || scan::some(
+        layout::TABLES,
+        |t| some_in(counts, figures, codes, rules, t, Question::Miscoded(t)),
+    )
 }
 
 // 6: the general block's figures, then those of each table's records.
+#[tactic(auto, unfolding(image::specs::Check::unsound))]
 fn is_unsound(g: General, counts: &[u16; 9], figures: &[f64], codes: &[u8], rules: &[u16]) -> bool
     requires { Held (runs figures.now codes.now rules.now) (before_from counts.now 9) }
     ensures { result ≡ unsound (table_with g counts.now (runs figures.now codes.now rules.now)) }
 {
-    if !image::sound_block(g) {
-        return true;
-    }
-    let mut t: usize = 0;
-    while t < layout::TABLES {
-        if some_in(counts, figures, codes, rules, t, Question::Unsound) {
-            return true;
-        }
-        t += 1;
-    }
-    false
+    !image::sound_block(g)
+        || scan::some(
+            layout::TABLES,
+            |t| some_in(counts, figures, codes, rules, t, Question::Unsound),
+        )
 }
 
 // 11
@@ -246,22 +208,45 @@ fn is_bare(counts: &[u16; 9]) -> bool
     count_at(counts, layout::BANDS) == 0 || count_at(counts, layout::SEGMENTS) == 0
 }
 
+// Whether no band holds a segment.
+fn is_outside(
+    counts: &[u16; 9],
+    figures: &[f64],
+    codes: &[u8],
+    rules: &[u16],
+    segment: Record,
+) -> bool
+    requires { Held (runs figures.now codes.now rules.now) (before_from counts.now 9) }
+    ensures { result ≡ not (some_given counts.now (runs figures.now codes.now rules.now) bands (home_question false segment)) }
+{
+    !some_in(
+        counts,
+        figures,
+        codes,
+        rules,
+        layout::BANDS,
+        Question::Holds(table::span_of(segment)),
+    )
+}
+
 // 12
+#[tactic(auto, using(crate::specs::Laws::before_within, crate::specs::Laws::record_given_holds))]
 fn is_homeless(counts: &[u16; 9], figures: &[f64], codes: &[u8], rules: &[u16]) -> bool
     requires { Held (runs figures.now codes.now rules.now) (before_from counts.now 9) }
     ensures { result ≡ homeless_given counts.now (runs figures.now codes.now rules.now) }
 {
     let start = before(counts, layout::SEGMENTS);
     let count = count_at(counts, layout::SEGMENTS) as usize;
-    let mut i: usize = 0;
-    while i < count {
-        let home = Question::Holds(table::span_of(record_from(figures, codes, rules, start + i)));
-        if !some_in(counts, figures, codes, rules, layout::BANDS, home) {
-            return true;
-        }
-        i += 1;
-    }
-    false
+    scan::some(
+        count,
+        |i| is_outside(
+            counts,
+            figures,
+            codes,
+            rules,
+            record_from(figures, codes, rules, start + i),
+        ),
+    )
 }
 
 // Refusals 5 to 14 of the table of what is given, in their order.
@@ -271,89 +256,49 @@ fn content(g: General, counts: &[u16; 9], figures: &[f64], codes: &[u8], rules: 
     ensures { result ≡ refusal_of (content_tests (table_with g counts.now
         (runs figures.now codes.now rules.now))) }
 {
+    let has = |t: usize, q: Question| some_in(counts, figures, codes, rules, t, q);
     if is_miscoded(g, counts, figures, codes, rules) {
-        return Checked::Refused(5);
+        return Err(Refusal::CodedByte);
     }
     if is_unsound(g, counts, figures, codes, rules) {
-        return Checked::Refused(6);
+        return Err(Refusal::ImageFigure);
     }
-    if some_in(
-        counts,
-        figures,
-        codes,
-        rules,
-        layout::BANDS,
-        Question::NotLengthy,
-    ) {
-        return Checked::Refused(7);
+    if has(layout::BANDS, Question::NotLengthy) {
+        return Err(Refusal::BandRange);
     }
-    if some_in(
-        counts,
-        figures,
-        codes,
-        rules,
-        layout::SEGMENTS,
-        Question::NotLengthy,
-    ) {
-        return Checked::Refused(8);
+    if has(layout::SEGMENTS, Question::NotLengthy) {
+        return Err(Refusal::SegmentRange);
     }
-    if some_in(
-        counts,
-        figures,
-        codes,
-        rules,
-        layout::AUTOMATIC,
-        Question::NotLengthy,
-    ) {
-        return Checked::Refused(9);
+    if has(layout::AUTOMATIC, Question::NotLengthy) {
+        return Err(Refusal::AutomaticRange);
     }
-    if some_in(
-        counts,
-        figures,
-        codes,
-        rules,
-        layout::PRIVILEGES,
-        Question::NotLengthy,
-    ) {
-        return Checked::Refused(10);
+    if has(layout::PRIVILEGES, Question::NotLengthy) {
+        return Err(Refusal::PrivilegeRange);
     }
     if is_bare(counts) {
-        return Checked::Refused(11);
+        return Err(Refusal::EmptyTable);
     }
     if is_homeless(counts, figures, codes, rules) {
-        return Checked::Refused(12);
+        return Err(Refusal::SegmentOutside);
     }
-    if some_in(
-        counts,
-        figures,
-        codes,
-        rules,
-        layout::SEGMENTS,
-        Question::NoLimit,
-    ) {
-        return Checked::Refused(13);
+    if has(layout::SEGMENTS, Question::NoLimit) {
+        return Err(Refusal::OwnLimit);
     }
     if image::is_unlimited(g) {
-        return Checked::Refused(14);
+        return Err(Refusal::GeneralLimit);
     }
-    Checked::Accepted
+    Ok(())
 }
 
 // Whether one of the tables has over 256 records.
 fn has_overfull(counts: &[u16; 9]) -> bool
     ensures { result ≡ overfull_from counts.now }
 {
-    let mut t: usize = 0;
-    while t < layout::TABLES {
-        if 256 < count_at(counts, t) {
-            return true;
-        }
-        t += 1;
-    }
-    false
+    scan::some(layout::TABLES, |t| 256 < count_at(counts, t))
 }
 
 // Whether a run has other than its three figures, four codes or two rules for each of so many records.
+#[tactic(auto, unfolding(crate::specs::Tests::runs_wrong))]
 fn runs_wrong(figures: &[f64], codes: &[u8], rules: &[u16], count: usize) -> bool
     requires { count ≤ 2045 }
     ensures { result ≡ runs_wrong (runs figures.now codes.now rules.now) count }
@@ -369,6 +314,7 @@ fn edition_wrong(edition: u16) -> bool
 }
 
 // The refusal of what is given: the number that its image would get.
+#[tactic(auto, using(crate::specs::Laws::runs_held))]
 pub fn refusal(
     edition: u16,
     g: General,
@@ -382,16 +328,13 @@ pub fn refusal(
 {
     let count = before(counts, layout::TABLES);
     if MOST < count {
-        return Checked::Refused(1);
+        return Err(Refusal::ImageLength);
     }
     if edition_wrong(edition) {
-        return Checked::Refused(3);
+        return Err(Refusal::Edition);
     }
-    if has_overfull(counts) {
-        return Checked::Refused(4);
-    }
-    if runs_wrong(figures, codes, rules, count) {
-        return Checked::Refused(4);
+    if has_overfull(counts) || runs_wrong(figures, codes, rules, count) {
+        return Err(Refusal::Counts);
     }
     content(g, counts, figures, codes, rules)
 }

@@ -1,9 +1,9 @@
 -- Refusals 1 to 14 of an image, in their order: each is tested over the whole image before the next.
 use Rattle.std.specs.Prelude.{ℕ, Bool, false, not, ◌&&◌, ◌||◌, List, [], ◌∷◌, ◌++◌}
+use Rattle.codes.specs.declared.Refusal.TheVariants as refusal
+use Rattle.codes.specs.Refusal.{Checked, Test, test, refusal_of}
 use Rattle.std.specs.Float.Ieee.{le}
 use Rattle.figures.specs.Figure.{zero_hz, figure_of}
-use Rattle.codes.specs.Refusal.{Test, test, refusal_of}
-use Rattle.codes.specs.declared.Checked.{Checked}
 use Rattle.scan.specs.First.{some}
 use Rattle.layout.specs.Layout.{tables, bands, segments, channels, privileges, automatic, plan_data, plan_avoid}
 use Rattle.layout.specs.Form.{form_tests}
@@ -49,9 +49,9 @@ unlimited g = le (figure_of g.data_limit) zero_hz
 -- 13 own limit ≤ 0; 14 general limit ≤ 0"
 abbrev pub content_tests : Table → List Test
 content_tests table =
-    test 5 (miscoded table) ∷ test 6 (unsound table) ∷ test 7 (some_in table bands NotLengthy) ∷ test 8 (some_in table segments NotLengthy)
-    ∷ test 9 (some_in table automatic NotLengthy) ∷ test 10 (some_in table privileges NotLengthy) ∷ test 11 (bare table)
-    ∷ test 12 (homeless_of table false) ∷ test 13 (some_in table segments NoLimit) ∷ test 14 (unlimited table.general) ∷ []
+    test refusal.CodedByte (miscoded table) ∷ test refusal.ImageFigure (unsound table) ∷ test refusal.BandRange (some_in table bands NotLengthy) ∷ test refusal.SegmentRange (some_in table segments NotLengthy)
+    ∷ test refusal.AutomaticRange (some_in table automatic NotLengthy) ∷ test refusal.PrivilegeRange (some_in table privileges NotLengthy) ∷ test refusal.EmptyTable (bare table)
+    ∷ test refusal.SegmentOutside (homeless_of table false) ∷ test refusal.OwnLimit (some_in table segments NoLimit) ∷ test refusal.GeneralLimit (unlimited table.general) ∷ []
 
 abbrev pub check_tests : List ℕ → List Test
 check_tests l = form_tests l ++ content_tests (table_of l)

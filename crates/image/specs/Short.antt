@@ -1,6 +1,7 @@
 -- The short way of a plain image: of refusals 5 to 14 only 11, 12 and 14 are left.
 use Rattle.std.specs.Prelude.{ℕ, Bool, true, false, not, ◌&&◌, List, [], ◌∷◌, ◌≡◌}
 use Rattle.std.proofs.lemmas.Bool.{not-true}
+use Rattle.codes.specs.declared.Refusal.TheVariants as refusal
 use Rattle.codes.specs.Refusal.{Test, test, refusal_of}
 use Rattle.scan.specs.Laws.{and_true}
 use Rattle.layout.specs.Layout.{general_of}
@@ -14,7 +15,7 @@ unfoldable pub plain_image : List ℕ → Bool
 plain_image l = coded_block (table_of l) && (sound_block (general_of l) && not (is_rough l))
 
 abbrev pub left_tests : Table → List Test
-left_tests table = test 11 (bare table) ∷ test 12 (homeless_of table false) ∷ test 14 (unlimited table.general) ∷ []
+left_tests table = test refusal.EmptyTable (bare table) ∷ test refusal.SegmentOutside (homeless_of table false) ∷ test refusal.GeneralLimit (unlimited table.general) ∷ []
 
 pub plain_smooth : (l : List ℕ) → plain_image l ≡ true → is_rough l ≡ false
 unfolding plain_image

@@ -9,11 +9,12 @@ ghost use Rattle.image.specs.Check.{coded_block, miscoded, sound_block, unsound,
 ghost use Rattle.plain.specs.Plain.{is_rough};
 ghost use Rattle.image.specs.Short.{plain_image, left_tests};
 
-use codes::Checked;
+use codes::{Checked, Refusal};
 use find::Question;
 use layout::General;
 
 // The general block's codes, with the counts of the tables whose part may be absent.
+#[tactic(auto, unfolding(crate::specs::Check::coded_block))]
 fn coded_block(s: &[u8]) -> bool
     requires { Whole s.now }
     ensures { result ≡ coded_block (table_of s.now) }
@@ -27,24 +28,20 @@ fn coded_block(s: &[u8]) -> bool
 }
 
 // 5: the general block, then each table.
+#[tactic(auto, unfolding(crate::specs::Check::miscoded))]
 fn is_miscoded(s: &[u8]) -> bool
     requires { Whole s.now }
     ensures { result ≡ miscoded (table_of s.now) }
 {
-    if !coded_block(s) {
-        return true;
-    }
-    let mut t: usize = 0;
-    while t < layout::TABLES {
-        if find::some_in(s, t, Question::Miscoded(t)) {
-            return true;
-        }
-        t += 1;
-    }
-    false
+    !coded_block(s)
+        || scan::some(
+            layout::TABLES,
+            |t| find::some_in(s, t, Question::Miscoded(t)),
+        )
 }
 
 // The general block's figures.
+#[tactic(auto, unfolding(crate::specs::Check::sound_block))]
 pub fn sound_block(g: General) -> bool
     ensures { result ≡ sound_block g }
 {
@@ -58,24 +55,17 @@ pub fn sound_block(g: General) -> bool
 }
 
 // 6: the general block's figures, then those of each table's records.
+#[tactic(auto, unfolding(crate::specs::Check::unsound))]
 fn is_unsound(s: &[u8]) -> bool
     requires { Whole s.now }
     ensures { result ≡ unsound (table_of s.now) }
 {
-    if !sound_block(layout::general_of(s)) {
-        return true;
-    }
-    let mut t: usize = 0;
-    while t < layout::TABLES {
-        if find::some_in(s, t, Question::Unsound) {
-            return true;
-        }
-        t += 1;
-    }
-    false
+    !sound_block(layout::general_of(s))
+        || scan::some(layout::TABLES, |t| find::some_in(s, t, Question::Unsound))
 }
 
 // 11
+#[tactic(auto, unfolding(crate::specs::Check::bare))]
 fn is_bare(s: &[u8]) -> bool
     requires { Whole s.now }
     ensures { result ≡ bare (table_of s.now) }
@@ -84,6 +74,7 @@ fn is_bare(s: &[u8]) -> bool
 }
 
 // 14
+#[tactic(auto, unfolding(crate::specs::Check::unlimited))]
 pub fn is_unlimited(g: General) -> bool
     ensures { result ≡ unlimited g }
 {
@@ -96,39 +87,40 @@ fn in_order(s: &[u8]) -> Checked
     ensures { result ≡ refusal_of (content_tests (table_of s.now)) }
 {
     if is_miscoded(s) {
-        return Checked::Refused(5);
+        return Err(Refusal::CodedByte);
     }
     if is_unsound(s) {
-        return Checked::Refused(6);
+        return Err(Refusal::ImageFigure);
     }
     if find::some_in(s, layout::BANDS, Question::NotLengthy) {
-        return Checked::Refused(7);
+        return Err(Refusal::BandRange);
     }
     if find::some_in(s, layout::SEGMENTS, Question::NotLengthy) {
-        return Checked::Refused(8);
+        return Err(Refusal::SegmentRange);
     }
     if find::some_in(s, layout::AUTOMATIC, Question::NotLengthy) {
-        return Checked::Refused(9);
+        return Err(Refusal::AutomaticRange);
     }
     if find::some_in(s, layout::PRIVILEGES, Question::NotLengthy) {
-        return Checked::Refused(10);
+        return Err(Refusal::PrivilegeRange);
     }
     if is_bare(s) {
-        return Checked::Refused(11);
+        return Err(Refusal::EmptyTable);
     }
     if find::homeless(s, false) {
-        return Checked::Refused(12);
+        return Err(Refusal::SegmentOutside);
     }
     if find::some_in(s, layout::SEGMENTS, Question::NoLimit) {
-        return Checked::Refused(13);
+        return Err(Refusal::OwnLimit);
     }
     if is_unlimited(layout::general_of(s)) {
-        return Checked::Refused(14);
+        return Err(Refusal::GeneralLimit);
     }
-    Checked::Accepted
+    Ok(())
 }
 
 // The general block is coded and sound, and every record is plain.
+#[tactic(auto, unfolding(crate::specs::Short::plain_image))]
 fn is_plain(s: &[u8]) -> bool
     requires { Whole s.now }
     ensures { result ≡ plain_image s.now }
@@ -142,15 +134,15 @@ fn left(s: &[u8]) -> Checked
     ensures { result ≡ refusal_of (left_tests (table_of s.now)) }
 {
     if is_bare(s) {
-        return Checked::Refused(11);
+        return Err(Refusal::EmptyTable);
     }
     if plain::is_homeless(s) {
-        return Checked::Refused(12);
+        return Err(Refusal::SegmentOutside);
     }
     if is_unlimited(layout::general_of(s)) {
-        return Checked::Refused(14);
+        return Err(Refusal::GeneralLimit);
     }
-    Checked::Accepted
+    Ok(())
 }
 
 // Refusals 5 to 14 of a whole image. A plain one, as most are, is visited once.
@@ -165,11 +157,10 @@ fn content(s: &[u8]) -> Checked
 }
 
 // Whether an image is accepted, or the first refusal of 1 to 14.
+#[tactic(auto, using(codes::specs::Laws::refusal_next, layout::specs::Laws::whole_of), unfolding(crate::specs::Check::check_of))]
 pub fn check(s: &[u8]) -> Checked
     ensures { result ≡ check_of s.now }
 {
-    match layout::form(s) {
-        Checked::Refused(n) => Checked::Refused(n),
-        Checked::Accepted => content(s),
-    }
+    layout::form(s)?;
+    content(s)
 }

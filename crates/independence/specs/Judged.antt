@@ -1,55 +1,34 @@
 -- Power and plan mark move neither code nor segment: first of a judgement, part by part in Part97's order, then of a decision, then of the
 -- call.
 use Prim.Native.Nat.{ℕ, zero, suc}
-use Rattle.std.specs.Prelude.{Bool, true, cond, ◌&&◌, List, ◌≡◌, eqb, Float}
+use Rattle.std.specs.Prelude.{Option, Some, None, Result, Ok, Err, Bool, true, cond, ◌&&◌, List, ◌≡◌, eqb, Float}
+use Rattle.table.specs.declared.Elsewhere.{Elsewhere}
 use Rattle.std.proofs.Math.Bool.{false, not}
 use Rattle.std.proofs.Math.Path.{refl, ap}
 use Rattle.std.proofs.Common.{sym, ◌∙◌}
 use Rattle.std.specs.Float.Ieee.{lt}
 use Rattle.scan.specs.First.{on_found}
-use Rattle.scan.specs.declared.Found.{Found}
-use Rattle.scan.specs.declared.Found.TheVariants.{At, Nothing}
 use Rattle.codes.specs.Code.{kind_code, bit_of}
 use Rattle.codes.specs.declared.EmissionKind.{EmissionKind}
 use Rattle.codes.specs.declared.EmissionKind.TheVariants.{Data, Cw, Test, Nothing as NoEmission}
 use Rattle.profile.specs.declared.Range.{Range}
-use Rattle.station.specs.declared.Figure.{Figure}
-use Rattle.station.specs.declared.Figure.TheVariants.{Known, Absent}
 use Rattle.station.specs.declared.StationRecord.{StationRecord}
 use Rattle.station.specs.declared.Situation.{Situation}
 use Rattle.station.specs.Station.{figure_read, situation_of}
 use Rattle.occupancy.specs.declared.Edges.{Edges}
 use Rattle.entry.specs.Entry.{entry_of, edges_valid, edges_read}
 use Rattle.codes.specs.Read.{kind_of, direction_of}
-use Rattle.codes.specs.declared.Checked.TheVariants.{Accepted}
 use Rattle.codes.specs.declared.Policy.{Policy}
 use Rattle.codes.specs.declared.Policy.TheVariants.{Unset, NoProfile as NoneApply, Rules, Broken}
-use Rattle.codes.specs.declared.Control.{Control}
-use Rattle.codes.specs.declared.Control.TheVariants.{ControlIs, NoControl as ControlAbsent}
-use Rattle.codes.specs.declared.ControlMode.{ControlMode}
-use Rattle.codes.specs.declared.License.{License}
-use Rattle.codes.specs.declared.License.TheVariants.{LicenseIs, NoLicense as LicenseAbsent}
-use Rattle.codes.specs.declared.LicenseClass.{LicenseClass}
-use Rattle.codes.specs.declared.SidebandSet.{SidebandSet}
-use Rattle.codes.specs.declared.SidebandSet.TheVariants.{SidebandIs, NoSideband as SidebandAbsent}
-use Rattle.codes.specs.declared.Sideband.{Sideband}
 use Rattle.codes.specs.declared.Direction.{Direction}
-use Rattle.verdict.specs.Verdict.{with_control, with_license, with_sideband, with_dial, signal_of, case_of, ready_of}
-use Rattle.verdict.specs.Verdict.{judged_of, under_rules_of, unruled_of, decide_of, beside_valid, evaluate_of}
+use Rattle.verdict.specs.Verdict.{missing, required, signal_of, case_of, ready_of, judged_of, under_rules_of, unruled_of, decide_of, beside_valid, evaluate_of}
+use Rattle.verdict.specs.declared.Missing.{Missing}
 use Rattle.verdict.specs.Laws.{evaluate_accepted}
 use Rattle.layout.specs.Layout.{segments, channels, automatic, excluded, bands}
 use Rattle.table.specs.Table.{Table, table_of}
-use Rattle.verdict.specs.declared.Ready.{Ready}
-use Rattle.verdict.specs.declared.Ready.TheVariants.{Missing}
 use Rattle.table.specs.Parts.{span_of, excluded_of, reading_of, channels_of, sixty_of, elsewhere_of, centre_of}
 use Rattle.table.specs.declared.Segment.{Segment}
 use Rattle.table.specs.declared.Channels.{Channels}
-use Rattle.table.specs.declared.ChannelBand.{ChannelBand}
-use Rattle.table.specs.declared.ChannelBand.TheVariants.{On, NoChannels}
-use Rattle.table.specs.declared.SixtyEmissions.{SixtyEmissions}
-use Rattle.table.specs.declared.SixtyEmissions.TheVariants.{Allowed, AnyEmission}
-use Rattle.table.specs.declared.ElsewhereRule.{ElsewhereRule}
-use Rattle.table.specs.declared.ElsewhereRule.TheVariants.{Under, Nowhere}
 use Rattle.find.specs.Question.{first_in}
 use Rattle.find.specs.declared.Question.TheVariants.{Holds, OfBand, BandHolds, ChannelOverlaps}
 use Rattle.decision.specs.Decision.{finish_of, simple_of}
@@ -61,12 +40,10 @@ use Rattle.decision.specs.declared.Code.TheVariants.{Region, NoControl, NoLicens
 use Rattle.decision.specs.declared.Code.TheVariants.{AutomaticExcluded, TooWide, Privilege, Permitted, AutomaticSegment}
 use Rattle.decision.specs.declared.Code.TheVariants.{AutomaticBandwidth, AutomaticOriginate, AutomaticResponse}
 use Rattle.decision.specs.declared.Code.TheVariants.{SixtyEmission, SixtyOffChannel, SixtyChannel, SixtySegment}
-use Rattle.decision.specs.declared.BandNumber.TheVariants.{Band}
 use Rattle.decision.specs.declared.SixtyNotes.{SixtyNotes}
 use Rattle.automatic_97_221.specs.Automatic.{responds}
 use Rattle.profile.specs.Range.{holds_of, channel_range_of}
 use Rattle.occupancy.specs.Edges.{range_of}
-use Rattle.decision.specs.declared.JudgedSegment.{JudgedSegment}
 use Rattle.decision.specs.declared.Draft.{Draft}
 use Rattle.decision.specs.declared.Decision.{Decision}
 use Rattle.part97.specs.Part97.{band_at, segment_at, general_limit, limit_for, automatic_rule_of, exceeds, channel_watts_of, segment_watts_of}
@@ -76,20 +53,19 @@ use Rattle.part97.specs.Part97.{outside_segments, inside_segment, judge_data, al
 use Rattle.part97.specs.Part97.{in_sixty_segment, sixty_overlap, sixty_place}
 use Rattle.part97.specs.Part97.{sixty_emission, sixty_kind, sixty, off_sixty, judge_on_band, judge_in_band, touching, judge}
 use Rattle.part97.specs.declared.Case.{Case}
-use Rattle.part97.specs.declared.Nearest.{Nearest}
 use Rattle.part97.specs.declared.Privileged.{Privileged}
 use Rattle.part97.specs.declared.Privileged.TheVariants.{Granted, Forbidden, Unheld}
 
 -- an answer's code and segment
 pub record Keys : Type 0 where
-  pub code : Code
-  pub segment : JudgedSegment
+  pub code : Option Code
+  pub segment : Option (Range × ℕ)
 
 abbrev pub keys : Decision → Keys
 keys d = record { code = d.code; segment = d.segment }
 
 -- a case with another power and plan mark
-abbrev pub other : Case → Figure → Bool → Case
+abbrev pub other : Case → Option Float → Bool → Case
 other c power plan =
     record {
       class = c.class;
@@ -117,10 +93,10 @@ on_cond true p q = p
 on_cond false p q = q
 
 on_found_holds :
-    (f : Found) {g g' : ℕ → Decision} {a a' : Decision} → ((i : ℕ) → Same (g i) (g' i)) → Same a a'
+    (f : Option ℕ) {g g' : ℕ → Decision} {a a' : Decision} → ((i : ℕ) → Same (g i) (g' i)) → Same a a'
     → Same (on_found f g a) (on_found f g' a')
-on_found_holds (At i) p q = p i
-on_found_holds Nothing p q = q
+on_found_holds (Some i) p q = p i
+on_found_holds None p q = q
 
 on_privilege : (x : Privileged) (d : Draft) {a a' : Decision} → Same a a' → Same (under_privilege x d a) (under_privilege x d a')
 on_privilege Granted d p = p
@@ -128,36 +104,18 @@ on_privilege Forbidden d p = record { same = refl }
 on_privilege Unheld d p = record { same = refl }
 
 -- what two walks over the prerequisites leave, judged
-record Alike (table : Table) (a b : Ready) : Type 0 where
+record Alike (table : Table) (a b : Result Case Missing) : Type 0 where
   alike : (signal : Draft) → Same (judged_of table signal a) (judged_of table signal b)
 
-on_region : (t : Bool) {table : Table} (m : Ready) {a b : Ready} → Alike table a b → Alike table (cond t a m) (cond t b m)
+on_region : (t : Bool) {table : Table} (m : Result Case Missing) {a b : Result Case Missing} → Alike table a b → Alike table (cond t a m) (cond t b m)
 on_region true m p = p
 on_region false m p = record { alike = λ signal. record { same = refl } }
 
-on_control :
-    (x : Control) (m : Ready) {table : Table} {g g' : ControlMode → Ready} → ((k : ControlMode) → Alike table (g k) (g' k))
-    → Alike table (with_control x m g) (with_control x m g')
-on_control (ControlIs k) m p = p k
-on_control ControlAbsent m p = record { alike = λ signal. record { same = refl } }
-
-on_license :
-    (x : License) (m : Ready) {table : Table} {g g' : LicenseClass → Ready} → ((k : LicenseClass) → Alike table (g k) (g' k))
-    → Alike table (with_license x m g) (with_license x m g')
-on_license (LicenseIs k) m p = p k
-on_license LicenseAbsent m p = record { alike = λ signal. record { same = refl } }
-
-on_sideband :
-    (x : SidebandSet) (m : Ready) {table : Table} {g g' : Sideband → Ready} → ((k : Sideband) → Alike table (g k) (g' k))
-    → Alike table (with_sideband x m g) (with_sideband x m g')
-on_sideband (SidebandIs k) m p = p k
-on_sideband SidebandAbsent m p = record { alike = λ signal. record { same = refl } }
-
-on_dial :
-    (x : Figure) (m : Ready) {table : Table} {g g' : Float → Ready} → ((k : Float) → Alike table (g k) (g' k))
-    → Alike table (with_dial x m g) (with_dial x m g')
-on_dial (Known k) m p = p k
-on_dial Absent m p = record { alike = λ signal. record { same = refl } }
+on_required :
+    {A : Type 0} (x : Option A) (m : Missing) {table : Table} {g g' : A → Result Case Missing} → ((k : A) → Alike table (g k) (g' k))
+    → Alike table (required x m g) (required x m g')
+on_required (Some k) m p = p k
+on_required None m p = record { alike = λ signal. record { same = refl } }
 
 leaf : (d : Draft) (v : Verdict) (code : Code) (rule : ℕ) → Same (simple_of d v code rule) (simple_of d v code rule)
 leaf d v code rule = record { same = refl }
@@ -167,7 +125,7 @@ allowed_same :
 unfolding allowed_on_sixty finish_of
 allowed_same d w w' code rule m m' = record { same = refl }
 
-module _ (table : Table) (c : Case) (power : Figure) (plan : Bool) where
+module _ (table : Table) (c : Case) (power : Option Float) (plan : Bool) where
   privileged_same : (kind : EmissionKind) → privileged_of table (other c power plan) kind ≡ privileged_of table c kind
   unfolding privileged_of
   privileged_same kind = refl
@@ -176,13 +134,13 @@ module _ (table : Table) (c : Case) (power : Figure) (plan : Bool) where
   unfolding advised finish_of
   advised_same r d code rule = record { same = refl }
 
-  elsewhere_same : (d : Draft) (e : ElsewhereRule) → Same (automatic_elsewhere table (other c power plan) d e) (automatic_elsewhere table c d e)
+  elsewhere_same : (d : Draft) (e : Option Elsewhere) → Same (automatic_elsewhere table (other c power plan) d e) (automatic_elsewhere table c d e)
   unfolding automatic_elsewhere
-  elsewhere_same d (Under e) =
+  elsewhere_same d (Some e) =
       on_cond (lt e.max_bandwidth_hz c.width) (leaf d Blocked AutomaticBandwidth e.rule)
       (on_cond (e.requires_response && not (responds c.direction)) (leaf d Blocked AutomaticOriginate e.rule)
       (advised_same c.advised d AutomaticResponse e.rule))
-  elsewhere_same d Nowhere = record { same = refl }
+  elsewhere_same d None = record { same = refl }
 
   automatic_same : (band : ℕ) (r : Range) (rule : ℕ) → Same (automatic_data table (other c power plan) band r rule) (automatic_data table c band r rule)
   unfolding automatic_data draft_automatic draft_inside
@@ -196,7 +154,7 @@ module _ (table : Table) (c : Case) (power : Figure) (plan : Bool) where
   nearest_same : (n : ℕ) → nearest_up_to table (other c power plan) n ≡ nearest_up_to table c n
   unfolding nearest_up_to considered
   nearest_same zero = refl
-  nearest_same (suc n) = ap (λ (x : Nearest). considered c x n (segment_at table n).range) (nearest_same n)
+  nearest_same (suc n) = ap (λ (x : Option (ℕ × Float)). considered c x n (segment_at table n).range) (nearest_same n)
 
   outside_same : (band : ℕ) → Same (outside_segments table (other c power plan) band) (outside_segments table c band)
   unfolding outside_segments draft_inside draft_of
@@ -210,11 +168,11 @@ module _ (table : Table) (c : Case) (power : Figure) (plan : Bool) where
       (on_cond c.automatic (automatic_same band s.range s.rule)
       (advised_same c.air (draft_inside c band s.range s.rule) Permitted s.rule)))
 
-  data_same : (band : ℕ) (f : Found) → Same (judge_data table (other c power plan) band f) (judge_data table c band f)
+  data_same : (band : ℕ) (f : Option ℕ) → Same (judge_data table (other c power plan) band f) (judge_data table c band f)
   unfolding judge_data draft_of
   data_same band f =
       on_cond (lt (limit_for table f).max_bandwidth_hz c.width)
-      (leaf (draft_of c (Band band)) Blocked TooWide (limit_for table f).rule)
+      (leaf (draft_of c (Some band)) Blocked TooWide (limit_for table f).rule)
       (on_found_holds f (λ i. inside_same band (segment_at table i)) (outside_same band))
 
   off_same : (band : ℕ) (kind : EmissionKind) → Same (off_sixty table (other c power plan) band kind) (off_sixty table c band kind)
@@ -222,10 +180,10 @@ module _ (table : Table) (c : Case) (power : Figure) (plan : Bool) where
   off_same band Data = data_same band (first_in table segments (Holds c.guarded))
   off_same band Cw =
       rw (privileged_same Cw)
-      (on_privilege (privileged_of table c Cw) (draft_of c (Band band)) (leaf (draft_of c (Band band)) Legal Permitted §97-305a))
+      (on_privilege (privileged_of table c Cw) (draft_of c (Some band)) (leaf (draft_of c (Some band)) Legal Permitted §97-305a))
   off_same band Test =
       rw (privileged_same Test)
-      (on_privilege (privileged_of table c Test) (draft_of c (Band band)) (leaf (draft_of c (Band band)) Legal Permitted §97-305b))
+      (on_privilege (privileged_of table c Test) (draft_of c (Some band)) (leaf (draft_of c (Some band)) Legal Permitted §97-305b))
   off_same band NoEmission = record { same = refl }
 
   on_channel_same : (ch : Channels) (centre : Float) (kind : EmissionKind) → on_channel (other c power plan) ch centre kind ≡ on_channel c ch centre kind
@@ -268,13 +226,13 @@ module _ (table : Table) (c : Case) (power : Figure) (plan : Bool) where
   unfolding sixty_place draft_of
   place_same ch =
       on_found_holds (first_in table channels (ChannelOverlaps ch.width_hz c.guarded)) (λ i. overlap_same ch (centre_of (table.at channels i)))
-      (in_segment_same ch (leaf (draft_of c (Band ch.band)) Blocked SixtyOffChannel ch.rule))
+      (in_segment_same ch (leaf (draft_of c (Some ch.band)) Blocked SixtyOffChannel ch.rule))
 
-  emission_same : (ch : Channels) (x : SixtyEmissions) → Same (sixty_emission table (other c power plan) ch x) (sixty_emission table c ch x)
+  emission_same : (ch : Channels) (x : Option (ℕ × ℕ)) → Same (sixty_emission table (other c power plan) ch x) (sixty_emission table c ch x)
   unfolding sixty_emission draft_of
-  emission_same ch (Allowed bits rule) =
-      on_cond (bit_of bits (kind_code c.kind)) (place_same ch) (leaf (draft_of c (Band ch.band)) Blocked SixtyEmission rule)
-  emission_same ch AnyEmission = place_same ch
+  emission_same ch (Some (bits, rule)) =
+      on_cond (bit_of bits (kind_code c.kind)) (place_same ch) (leaf (draft_of c (Some ch.band)) Blocked SixtyEmission rule)
+  emission_same ch None = place_same ch
 
   kind_same : (ch : Channels) (kind : EmissionKind) → Same (sixty_kind table (other c power plan) ch kind) (sixty_kind table c ch kind)
   unfolding sixty_kind draft_of
@@ -286,19 +244,19 @@ module _ (table : Table) (c : Case) (power : Figure) (plan : Bool) where
   sixty_same : (ch : Channels) → Same (sixty table (other c power plan) ch) (sixty table c ch)
   unfolding sixty draft_of
   sixty_same ch =
-      on_cond (some_privilege table c c.air) (kind_same ch c.kind) (leaf (draft_of c (Band ch.band)) Blocked Privilege §97-301)
+      on_cond (some_privilege table c c.air) (kind_same ch c.kind) (leaf (draft_of c (Some ch.band)) Blocked Privilege §97-301)
 
-  on_band_same : (band : ℕ) (x : ChannelBand) → Same (judge_on_band table (other c power plan) band x) (judge_on_band table c band x)
+  on_band_same : (band : ℕ) (x : Option Channels) → Same (judge_on_band table (other c power plan) band x) (judge_on_band table c band x)
   unfolding judge_on_band
-  on_band_same band (On ch) = on_cond (eqb ch.band band) (sixty_same ch) (off_same band c.kind)
-  on_band_same band NoChannels = off_same band c.kind
+  on_band_same band (Some ch) = on_cond (eqb ch.band band) (sixty_same ch) (off_same band c.kind)
+  on_band_same band None = off_same band c.kind
 
   in_band_same : (band : ℕ) → Same (judge_in_band table (other c power plan) band) (judge_in_band table c band)
   unfolding judge_in_band draft_of
   in_band_same band =
       on_cond c.automatic
       (on_found_holds (first_in table excluded (OfBand band))
-      (λ x. leaf (draft_of c (Band band)) Blocked AutomaticExcluded (excluded_of (table.at excluded x)).rule)
+      (λ x. leaf (draft_of c (Some band)) Blocked AutomaticExcluded (excluded_of (table.at excluded x)).rule)
       (on_band_same band (channels_of table.general)))
       (on_band_same band (channels_of table.general))
 
@@ -309,7 +267,7 @@ module _ (table : Table) (c : Case) (power : Figure) (plan : Bool) where
       (leaf (draft_of c (touching table c)) Blocked OutOfBand §97-301)
 
 -- a station, and a station record, with another power and plan mark
-abbrev pub other_station : Situation → Figure → Bool → Situation
+abbrev pub other_station : Situation → Option Float → Bool → Situation
 other_station s power plan =
     record {
       policy = s.policy;
@@ -339,20 +297,20 @@ other_record r known watts plan =
       power_w = watts;
     }
 
-module _ (table : Table) (s : Situation) (power : Figure) (plan : Bool) (dial : Figure) (kind : EmissionKind) (direction : Direction) where
+module _ (table : Table) (s : Situation) (power : Option Float) (plan : Bool) (dial : Option Float) (kind : EmissionKind) (direction : Direction) where
   ready_alike :
       (audio : Range)
       → Alike table (ready_of table.general (other_station s power plan) dial kind direction audio) (ready_of table.general s dial kind direction audio)
   unfolding ready_of case_of
   ready_alike audio =
-      on_region (eqb s.itu_region table.general.region) (Missing Region §97-301)
-      (on_control s.control (Missing NoControl §97-109)
+      on_region (eqb s.itu_region table.general.region) (Err (missing Region §97-301))
+      (on_required s.control (missing NoControl §97-109)
       (λ control.
-      on_license s.license (Missing NoLicense §97-301)
+      on_required s.license (missing NoLicense §97-301)
       (λ class.
-      on_sideband s.sideband (Missing NoSideband no_rule)
+      on_required s.sideband (missing NoSideband no_rule)
       (λ sideband.
-      on_dial dial (Missing NoDial no_rule)
+      on_required dial (missing NoDial no_rule)
       (λ hz. record { alike = λ signal. judge_same table (case_of s control class sideband hz kind direction audio) power plan })))))
 
   ruled_same :
@@ -372,7 +330,7 @@ module _ (table : Table) (s : Situation) (power : Figure) (plan : Bool) (dial : 
 -- "Two accepted station records that differ only in power or plan mark get the same code and segment."
 pub same_code_and_segment :
     (r : StationRecord) (known : ℕ) (watts : Float) (plan kind direction : ℕ) (e : Edges) (l : List ℕ)
-    → entry_of r (beside_valid kind direction) l ≡ Accepted → entry_of (other_record r known watts plan) (beside_valid kind direction) l ≡ Accepted
+    → entry_of r (beside_valid kind direction) l ≡ Ok tt → entry_of (other_record r known watts plan) (beside_valid kind direction) l ≡ Ok tt
     → edges_valid e ≡ true
     → keys (evaluate_of (other_record r known watts plan) kind direction e l) ≡ keys (evaluate_of r kind direction e l)
 unfolding situation_of

@@ -1,12 +1,10 @@
 -- What holds of every decision that Part 97 makes: it has a code, and is no refusal.
-use Rattle.std.specs.Prelude.{ℕ, Bool, true, false, cond, ◌&&◌, ◌≡◌, eqb, Float}
+use Rattle.std.specs.Prelude.{ℕ, Bool, true, false, cond, ◌&&◌, ◌≡◌, eqb, Float, Option, Some, None, Ok}
+use Rattle.table.specs.declared.Elsewhere.{Elsewhere}
 use Rattle.std.proofs.Math.Bool.{not}
 use Rattle.std.proofs.Math.Path.{refl}
 use Rattle.scan.specs.First.{on_found}
-use Rattle.scan.specs.declared.Found.{Found}
-use Rattle.scan.specs.declared.Found.TheVariants.{At, Nothing}
 use Rattle.codes.specs.Code.{kind_code, bit_of}
-use Rattle.codes.specs.declared.Checked.TheVariants.{Accepted}
 use Rattle.codes.specs.declared.EmissionKind.{EmissionKind}
 use Rattle.codes.specs.declared.EmissionKind.TheVariants.{Data, Cw, Test, Nothing as NoEmission}
 use Rattle.profile.specs.Range.{range, holds_of, channel_range_of}
@@ -17,17 +15,10 @@ use Rattle.table.specs.Table.{Table}
 use Rattle.table.specs.Parts.{channels_of, sixty_of, elsewhere_of, centre_of}
 use Rattle.table.specs.declared.Segment.{Segment}
 use Rattle.table.specs.declared.Channels.{Channels}
-use Rattle.table.specs.declared.ChannelBand.{ChannelBand}
-use Rattle.table.specs.declared.ChannelBand.TheVariants.{On, NoChannels}
-use Rattle.table.specs.declared.SixtyEmissions.{SixtyEmissions}
-use Rattle.table.specs.declared.SixtyEmissions.TheVariants.{Allowed, AnyEmission}
-use Rattle.table.specs.declared.ElsewhereRule.{ElsewhereRule}
-use Rattle.table.specs.declared.ElsewhereRule.TheVariants.{Under, Nowhere}
 use Rattle.find.specs.Question.{first_in}
 use Rattle.find.specs.declared.Question.TheVariants.{Holds, OfBand, BandHolds, ChannelOverlaps}
 use Rattle.automatic_97_221.specs.Automatic.{responds}
 use Rattle.decision.specs.Decision.{finish_of, simple_of}
-use Rattle.decision.specs.declared.BandNumber.TheVariants.{Band}
 use Rattle.decision.specs.declared.Draft.{Draft}
 use Rattle.decision.specs.declared.Decision.{Decision}
 use Rattle.part97.specs.Part97.{segment_at, general_limit, limit_for, band_at, on_channel, is_data, some_privilege, privileged_of, under_privilege, draft_of, draft_inside}
@@ -35,8 +26,6 @@ use Rattle.part97.specs.Part97.{advised, automatic_elsewhere, automatic_data, ne
 use Rattle.part97.specs.Part97.{judge_data, allowed_on_sixty, sixty_channel, sixty_segment, in_sixty_segment, sixty_overlap, sixty_place}
 use Rattle.part97.specs.Part97.{sixty_emission, sixty_kind, sixty, off_sixty, judge_on_band, judge_in_band, judge}
 use Rattle.part97.specs.declared.Case.{Case}
-use Rattle.part97.specs.declared.Nearest.{Nearest}
-use Rattle.part97.specs.declared.Nearest.TheVariants.{Near, NoneNear}
 use Rattle.part97.specs.declared.Privileged.{Privileged}
 use Rattle.part97.specs.declared.Privileged.TheVariants.{Granted, Forbidden, Unheld}
 use Rattle.decision.specs.Number.{code_number}
@@ -44,20 +33,20 @@ use Rattle.decision.specs.Number.{code_number}
 -- a decision that has a code and is no refusal
 pub record Judged (d : Decision) : Type 0 where
   pub coded : eqb (code_number d.code) 0 ≡ false
-  pub unrefused : d.refusal ≡ Accepted
+  pub unrefused : d.refusal ≡ Ok tt
 
 -- it goes through a branch, through a scan's answer and through a privilege
 on_cond : (t : Bool) {a b : Decision} → Judged a → Judged b → Judged (cond t a b)
 on_cond true p q = p
 on_cond false p q = q
 
-on_found_holds : (f : Found) {g : ℕ → Decision} {a : Decision} → ((i : ℕ) → Judged (g i)) → Judged a → Judged (on_found f g a)
-on_found_holds (At i) p q = p i
-on_found_holds Nothing p q = q
+on_found_holds : (f : Option ℕ) {g : ℕ → Decision} {a : Decision} → ((i : ℕ) → Judged (g i)) → Judged a → Judged (on_found f g a)
+on_found_holds (Some i) p q = p i
+on_found_holds None p q = q
 
-on_nearest_holds : (x : Nearest) {g : ℕ → Decision} {a : Decision} → ((i : ℕ) → Judged (g i)) → Judged a → Judged (on_nearest x g a)
-on_nearest_holds (Near i by) p q = p i
-on_nearest_holds NoneNear p q = q
+on_nearest_holds : (x : Option (ℕ × Float)) {g : ℕ → Decision} {a : Decision} → ((i : ℕ) → Judged (g i)) → Judged a → Judged (on_nearest x g a)
+on_nearest_holds (Some (i, by)) p q = p i
+on_nearest_holds None p q = q
 
 on_privilege : (x : Privileged) (d : Draft) {a : Decision} → Judged a → Judged (under_privilege x d a)
 unfolding simple_of finish_of
@@ -66,12 +55,12 @@ on_privilege Forbidden d p = record { coded = refl; unrefused = refl }
 on_privilege Unheld d p = record { coded = refl; unrefused = refl }
 
 module _ (table : Table) (c : Case) where
-  elsewhere_judged : (d : Draft) (e : ElsewhereRule) → Judged (automatic_elsewhere table c d e)
+  elsewhere_judged : (d : Draft) (e : Option Elsewhere) → Judged (automatic_elsewhere table c d e)
   unfolding automatic_elsewhere simple_of finish_of advised allowed_on_sixty
-  elsewhere_judged d (Under e) =
+  elsewhere_judged d (Some e) =
       on_cond (wider c.width e.max_bandwidth_hz) (record { coded = refl; unrefused = refl })
       (on_cond (e.requires_response && not (responds c.direction)) (record { coded = refl; unrefused = refl }) (record { coded = refl; unrefused = refl }))
-  elsewhere_judged d Nowhere = record { coded = refl; unrefused = refl }
+  elsewhere_judged d None = record { coded = refl; unrefused = refl }
 
   automatic_judged : (band : ℕ) (r : Range) (rule : ℕ) → Judged (automatic_data table c band r rule)
   unfolding automatic_data simple_of finish_of advised allowed_on_sixty
@@ -89,7 +78,7 @@ module _ (table : Table) (c : Case) where
       on_privilege (privileged_of table c Data) (draft_inside c band s.range s.rule)
       (on_cond c.automatic (automatic_judged band s.range s.rule) (record { coded = refl; unrefused = refl }))
 
-  data_judged : (band : ℕ) (f : Found) → Judged (judge_data table c band f)
+  data_judged : (band : ℕ) (f : Option ℕ) → Judged (judge_data table c band f)
   unfolding judge_data simple_of finish_of advised allowed_on_sixty
   data_judged band f =
       on_cond (wider c.width (limit_for table f).max_bandwidth_hz) (record { coded = refl; unrefused = refl })
@@ -98,8 +87,8 @@ module _ (table : Table) (c : Case) where
   off_judged : (band : ℕ) (kind : EmissionKind) → Judged (off_sixty table c band kind)
   unfolding simple_of finish_of
   off_judged band Data = data_judged band (first_in table segments (Holds c.guarded))
-  off_judged band Cw = on_privilege (privileged_of table c Cw) (draft_of c (Band band)) (record { coded = refl; unrefused = refl })
-  off_judged band Test = on_privilege (privileged_of table c Test) (draft_of c (Band band)) (record { coded = refl; unrefused = refl })
+  off_judged band Cw = on_privilege (privileged_of table c Cw) (draft_of c (Some band)) (record { coded = refl; unrefused = refl })
+  off_judged band Test = on_privilege (privileged_of table c Test) (draft_of c (Some band)) (record { coded = refl; unrefused = refl })
   off_judged band NoEmission = on_cond (some_privilege table c (range c.dial_hz c.dial_hz)) (record { coded = refl; unrefused = refl }) (record { coded = refl; unrefused = refl })
 
   channel_judged : (ch : Channels) (centre : Float) → Judged (sixty_channel table c ch centre)
@@ -126,10 +115,10 @@ module _ (table : Table) (c : Case) where
       on_found_holds (first_in table channels (ChannelOverlaps ch.width_hz c.guarded)) (λ i. overlap_judged ch (centre_of (table.at channels i)))
       (in_segment_judged ch (record { coded = refl; unrefused = refl }))
 
-  emission_judged : (ch : Channels) (x : SixtyEmissions) → Judged (sixty_emission table c ch x)
+  emission_judged : (ch : Channels) (x : Option (ℕ × ℕ)) → Judged (sixty_emission table c ch x)
   unfolding sixty_emission simple_of finish_of advised allowed_on_sixty
-  emission_judged ch (Allowed bits rule) = on_cond (bit_of bits (kind_code c.kind)) (place_judged ch) (record { coded = refl; unrefused = refl })
-  emission_judged ch AnyEmission = place_judged ch
+  emission_judged ch (Some (bits, rule)) = on_cond (bit_of bits (kind_code c.kind)) (place_judged ch) (record { coded = refl; unrefused = refl })
+  emission_judged ch None = place_judged ch
 
   kind_judged : (ch : Channels) (kind : EmissionKind) → Judged (sixty_kind table c ch kind)
   unfolding sixty_kind simple_of finish_of advised allowed_on_sixty
@@ -142,10 +131,10 @@ module _ (table : Table) (c : Case) where
   unfolding sixty simple_of finish_of advised allowed_on_sixty
   sixty_judged ch = on_cond (some_privilege table c c.air) (kind_judged ch c.kind) (record { coded = refl; unrefused = refl })
 
-  on_band_judged : (band : ℕ) (x : ChannelBand) → Judged (judge_on_band table c band x)
+  on_band_judged : (band : ℕ) (x : Option Channels) → Judged (judge_on_band table c band x)
   unfolding judge_on_band
-  on_band_judged band (On ch) = on_cond (eqb ch.band band) (sixty_judged ch) (off_judged band c.kind)
-  on_band_judged band NoChannels = off_judged band c.kind
+  on_band_judged band (Some ch) = on_cond (eqb ch.band band) (sixty_judged ch) (off_judged band c.kind)
+  on_band_judged band None = off_judged band c.kind
 
   in_band_judged : (band : ℕ) → Judged (judge_in_band table c band)
   unfolding judge_in_band simple_of finish_of advised allowed_on_sixty

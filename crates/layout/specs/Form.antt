@@ -2,6 +2,7 @@
 -- every record has its place between the general block and the trailer.
 use Rattle.std.specs.Prelude.{ℕ, ◌+◌, ◌*◌, ◌≤◌, ◌<◌, ◌≡◌, Bool, not, ◌&&◌, ◌||◌, List, [], ◌∷◌, length, ltb, eqb}
 use Rattle.scan.specs.First.{some}
+use Rattle.codes.specs.declared.Refusal.TheVariants as refusal
 use Rattle.codes.specs.Refusal.{Test, test}
 use Rattle.layout.specs.Bytes.{byte_at}
 use Rattle.layout.specs.Layout.{general_size, tables_from, record_size, trailer_size, tables, trailer_of, count_of}
@@ -44,7 +45,7 @@ abbrev pub counts_wrong : List ℕ → Bool
 counts_wrong l = overfull l || (length_wrong l || distance_wrong l)
 
 abbrev pub form_tests : List ℕ → List Test
-form_tests l = test 1 (size_wrong l) ∷ test 2 (letters_wrong l) ∷ test 3 (edition_wrong l) ∷ test 4 (counts_wrong l) ∷ []
+form_tests l = test refusal.ImageLength (size_wrong l) ∷ test refusal.Letters (letters_wrong l) ∷ test refusal.Edition (edition_wrong l) ∷ test refusal.Counts (counts_wrong l) ∷ []
 
 -- Whole: refused by none of 1 to 4. Every record of every table lies between the general block and the trailer.
 pub record Whole (l : List ℕ) : Type 0 where

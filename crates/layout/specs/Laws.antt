@@ -1,12 +1,11 @@
 -- Laws of the layout: two fields read at once, and what a whole image holds.
-use Rattle.std.specs.Prelude.{ℕ, ◌+◌, zero, suc, ◌*◌, ◌-◌, ◌≤◌, ◌<◌, List, ◌≡◌, refl, Bool, true, false, cond, ◌||◌, length, ltb}
+use Rattle.std.specs.Prelude.{ℕ, ◌+◌, zero, suc, ◌*◌, ◌-◌, ◌≤◌, ◌<◌, List, ◌≡◌, refl, Bool, true, false, cond, ◌||◌, length, ltb, Ok}
 use Rattle.std.proofs.Common.{subst, add-one, arith, true≢false, ltb-false, eqb-true, zero-add, suc-add, le_refl}
 use Rattle.layout.specs.Bytes.{u16_at, u32_at}
 use Rattle.layout.specs.Layout.{record_at, lists_of, rules_of, count_of, records_before, start_of}
 use Rattle.scan.specs.Laws.{some_false}
 use Rattle.codes.specs.Refusal.{refusal_of}
 use Rattle.codes.specs.Laws.{none_fails}
-use Rattle.codes.specs.declared.Checked.TheVariants.{Accepted}
 use Rattle.std.proofs.lemmas.Bool.{not-false}
 use Rattle.layout.specs.Layout.{general_size, watts_size, is_second, tables_from, record_size, trailer_size, tables, bands, trailer_of}
 use Rattle.layout.specs.Form.{Whole, overfull_at, overfull, length_wrong, distance_wrong, form_tests}
@@ -45,7 +44,7 @@ pub or_false_both : (a b : Bool) → (a || b) ≡ false → (a ≡ false) × (b 
 or_false_both true b e = absurd (true≢false e)
 or_false_both false b e = (refl, e)
 
-pub whole_of : (l : List ℕ) → refusal_of (form_tests l) ≡ Accepted → Whole l
+pub whole_of : (l : List ℕ) → refusal_of (form_tests l) ≡ Ok tt → Whole l
 whole_of l e =
     let none = none_fails (form_tests l) e in
     let size = or_false_both (ltb (length l) (general_size + trailer_size)) (ltb 65552 (length l)) none.0 in

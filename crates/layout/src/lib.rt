@@ -8,7 +8,7 @@ ghost use Rattle.layout.specs.Bytes.{byte_at, u16_at, u32_at, u64_at};
 ghost use Rattle.layout.specs.Layout.{record_at, lists_of, rules_of, edition_of, watts_at, general_of, count_of, records_before, tables_from, start_of};
 ghost use Rattle.layout.specs.Form.{letters_wrong, edition_wrong, overfull, counts_wrong, form_tests};
 
-use codes::Checked;
+use codes::{Checked, Refusal};
 
 pub const GENERAL_SIZE: usize = 64;
 
@@ -255,10 +255,8 @@ pub fn records_before(s: &[u8], t: usize) -> u32
     ensures { result ≡ records_before s.now t }
 {
     let mut sum: u32 = 0;
-    let mut i: usize = 0;
-    while i < t {
+    for i in 0..t {
         sum += count_of(s, i) as u32;
-        i += 1;
     }
     sum
 }
@@ -287,14 +285,7 @@ fn has_overfull(s: &[u8]) -> bool
     requires { 28 ≤ length s.now }
     ensures { result ≡ overfull s.now }
 {
-    let mut i: usize = 0;
-    while i < TABLES {
-        if 256 < count_of(s, i) {
-            return true;
-        }
-        i += 1;
-    }
-    false
+    scan::some(TABLES, |t| 256 < count_of(s, t))
 }
 
 // Whether the trailer ends in other bytes than the letters.
@@ -302,16 +293,7 @@ fn letters_wrong(s: &[u8]) -> bool
     requires { 28 ≤ length s.now }
     ensures { result ≡ letters_wrong s.now }
 {
-    let at = s.len() - TRAILER_SIZE + 24;
-    let letters = LETTERS;
-    if byte_at(s, at + 0) == letters[0] {
-        if byte_at(s, at + 1) == letters[1] {
-            if byte_at(s, at + 2) == letters[2] {
-                return byte_at(s, at + 3) != letters[3];
-            }
-        }
-    }
-    true
+    s[s.len() - LETTERS.len()..] != LETTERS[..]
 }
 
 // Whether the edition is neither of the two.
@@ -343,19 +325,19 @@ pub fn form(s: &[u8]) -> Checked
     ensures { result ≡ refusal_of (form_tests s.now) }
 {
     if s.len() < GENERAL_SIZE + TRAILER_SIZE {
-        return Checked::Refused(1);
+        return Err(Refusal::ImageLength);
     }
     if LARGEST < s.len() {
-        return Checked::Refused(1);
+        return Err(Refusal::ImageLength);
     }
     if letters_wrong(s) {
-        return Checked::Refused(2);
+        return Err(Refusal::Letters);
     }
     if edition_wrong(s) {
-        return Checked::Refused(3);
+        return Err(Refusal::Edition);
     }
     if counts_wrong(s) {
-        return Checked::Refused(4);
+        return Err(Refusal::Counts);
     }
-    Checked::Accepted
+    Ok(())
 }

@@ -1,21 +1,16 @@
 -- The premises as the code asks them lead to the answers of the definitions. These laws rest on `nearest_in` and `nearest_of`.
-use Rattle.std.specs.Prelude.{ℕ, Bool, false, ◌&&◌, List, ◌≡◌, refl, Float}
+use Rattle.std.specs.Prelude.{ℕ, Bool, false, ◌&&◌, List, ◌≡◌, refl, Float, Option, Some, None, Ok, Err}
+use Rattle.codes.specs.Refusal.{Checked, refusal_of}
+use Rattle.codes.specs.declared.Refusal.{Refusal}
 use Rattle.std.proofs.Math.Bool.{true, cond}
-use Rattle.std.proofs.lemmas.Bool.{false≢true}
 use Rattle.std.proofs.Math.Path.{sym, ap}
 use Rattle.std.proofs.Common.{◌∙◌}
 use Rattle.std.proofs.Math.Dec.{eqb}
 use Rattle.codes.specs.Code.{policy_code}
-use Rattle.codes.specs.Read.{policy_of, direction_of}
-use Rattle.codes.specs.Refusal.{refusal_of}
+use Rattle.codes.specs.Read.{direction_of}
 use Rattle.codes.specs.Laws.{refusal_both}
-use Rattle.codes.specs.declared.Checked.{Checked}
-use Rattle.codes.specs.declared.Checked.TheVariants.{Accepted, Refused}
-use Rattle.codes.specs.declared.Control.TheVariants.{ControlIs, NoControl}
 use Rattle.codes.specs.declared.ControlMode.{ControlMode}
-use Rattle.codes.specs.declared.License.TheVariants.{LicenseIs, NoLicense}
 use Rattle.codes.specs.declared.LicenseClass.{LicenseClass}
-use Rattle.codes.specs.declared.SidebandSet.TheVariants.{SidebandIs, NoSideband}
 use Rattle.codes.specs.declared.Sideband.{Sideband}
 use Rattle.codes.specs.declared.Direction.{Direction}
 use Rattle.codes.specs.declared.Policy.{Policy}
@@ -23,8 +18,7 @@ use Rattle.codes.specs.declared.Policy.TheVariants.{Unset, NoProfile, Rules, Bro
 use Rattle.profile.specs.declared.Range.{Range}
 use Rattle.occupancy.specs.declared.Edges.{Edges}
 use Rattle.scan.specs.Laws.{and_true}
-use Rattle.station.specs.Station.{under_rules, situation_of}
-use Rattle.station.specs.declared.Figure.TheVariants.{Known, Absent}
+use Rattle.station.specs.Station.{situation_of}
 use Rattle.station.specs.declared.Situation.{Situation}
 use Rattle.station.specs.declared.StationRecord.{StationRecord}
 use Rattle.layout.specs.Form.{form_tests}
@@ -33,6 +27,7 @@ use Rattle.image.specs.Check.{content_tests, check_of}
 use Rattle.entry.specs.Entry.{entry_tests, entry_of, edges_read}
 use Rattle.entry.specs.Laws.{entry_accepted}
 use Rattle.verdict.specs.Verdict.{beside_valid, edge_tests}
+use Rattle.verdict.specs.Laws.{rules_code}
 use Rattle.dials.specs.List.{known_rows}
 use Rattle.dials.specs.Answer.{all_known}
 use Rattle.tidy.specs.Tidy.{tidy_table}
@@ -41,12 +36,9 @@ use Rattle.demand_3.specs.Words.{table_in_eighths, edges_in_eighths, dial_in_eig
 use Rattle.demand_3.specs.Words.{station_in_eighths, audio_of, accepted, rules_in_force, unrefused, has_control, has_license, has_sideband}
 use Rattle.demand_3.specs.Words.{has_dial, prerequisites_met, positive_width, table_met, station_met, signal_met}
 use Rattle.demand_3.specs.Tests.{and_both, all_three, same}
-use Rattle.nearest.specs.Nearest.{dial_met, within38, judged_of, answer_of, nearest_from, nearest_in, nearest_tests}
+use Rattle.nearest.specs.Nearest.{dial_met, within38, judged_of, answer_of, nearest_from, nearest_in, nearest_tests, nearest_unless_refused, nearest_of}
 use Rattle.nearest_rows.specs.Over.{nearest_over}
-use Rattle.nearest.specs.Nearest.{nearest_unless_refused, nearest_of}
-use Rattle.nearest_rows.specs.declared.Best.{Best}
-use Rattle.nearest_rows.specs.declared.Best.TheVariants.{Nowhere}
-use Rattle.nearest.specs.declared.Nearest.TheVariants.{NotJudged, Refused as NoAnswer}
+use Rattle.nearest.specs.declared.Nearest.TheVariants.{NotJudged}
 use Rattle.nearest.specs.Laws.{premises_of, known_nearest, grid_of, pair_of, edges_of_holds, table_of_holds}
 
 -- ---- the premises
@@ -81,7 +73,7 @@ module _ (table : Table) (s : Situation) (direction : Direction) (e : Edges) whe
   unfolding prerequisites_met
   no_region h = missing (and_left region (has_control s.control && most) h)
 
-  pub no_control : s.control ≡ NoControl → NotJudged ≡ nearest_in table s direction e
+  pub no_control : s.control ≡ None → NotJudged ≡ nearest_in table s direction e
   unfolding prerequisites_met
   no_control h = missing (and_right region (has_control s.control && most) (and_left (has_control s.control) most (ap has_control h)))
 
@@ -89,22 +81,22 @@ module _ (table : Table) (s : Situation) (direction : Direction) (e : Edges) whe
   unfolding prerequisites_met
   after_control h = missing (and_right region (has_control s.control && most) (and_right (has_control s.control) most h))
 
-  pub no_license : s.license ≡ NoLicense → NotJudged ≡ nearest_in table s direction e
+  pub no_license : s.license ≡ None → NotJudged ≡ nearest_in table s direction e
   no_license h = after_control (and_left (has_license s.license) last (ap has_license h))
 
-  pub no_sideband : s.sideband ≡ NoSideband → NotJudged ≡ nearest_in table s direction e
+  pub no_sideband : s.sideband ≡ None → NotJudged ≡ nearest_in table s direction e
   no_sideband h =
       after_control (and_right (has_license s.license) last (and_left (has_sideband s.sideband) (has_dial s.dial) (ap has_sideband h)))
 
-  pub no_dial : s.dial ≡ Absent → NotJudged ≡ nearest_in table s direction e
+  pub no_dial : s.dial ≡ None → NotJudged ≡ nearest_in table s direction e
   no_dial h =
       after_control (and_right (has_license s.license) last (and_right (has_sideband s.sideband) (has_dial s.dial) (ap has_dial h)))
 
   -- all of them met
   module _
       (rules : s.policy ≡ Rules) (ok : unrefused table ≡ true) (here : eqb s.itu_region table.general.region ≡ true)
-      (control : ControlMode) (c : s.control ≡ ControlIs control) (license : LicenseClass) (l : s.license ≡ LicenseIs license)
-      (sideband : Sideband) (b : s.sideband ≡ SidebandIs sideband) (dial : Float) (d : s.dial ≡ Known dial)
+      (control : ControlMode) (c : s.control ≡ Some control) (license : LicenseClass) (l : s.license ≡ Some license)
+      (sideband : Sideband) (b : s.sideband ≡ Some sideband) (dial : Float) (d : s.dial ≡ Some dial)
     where
       abbrev audio : Range
       audio = audio_of table e
@@ -145,55 +137,51 @@ module _ (table : Table) (s : Situation) (direction : Direction) (e : Edges) whe
       known_nearest_holds =
           let flags = table.general.flags in
           let channel = table.general.channel_band in
-          ap (λ (k : Bool). cond k (answer_of (nearest_over dial flags channel Nowhere (known_rows table s direction e sideband license control))) NotJudged)
+          ap (λ (k : Bool). cond k (answer_of (nearest_over dial flags channel None (known_rows table s direction e sideband license control))) NotJudged)
           (same (premises_of table s e dial audio) (judged_of table s e) judged_from judged_to)
-          ∙ ap (λ (x : Best). cond (judged_of table s e) (answer_of x) NotJudged)
-          (ap (nearest_over dial flags channel Nowhere) (sym (all_known table s direction e sideband license control b l c))
+          ∙ ap (λ (x : Option Float). cond (judged_of table s e) (answer_of x) NotJudged)
+          (ap (nearest_over dial flags channel None) (sym (all_known table s direction e sideband license control b l c))
           ∙ ap (nearest_from table s direction e) (sym d))
 
 -- ---- the call
 
 module _ (r : StationRecord) (direction : ℕ) (e : Edges) (l : List ℕ) where
-  pub dial_refused : (n : ℕ) → refusal_of (nearest_tests r direction e l) ≡ Refused n → NoAnswer n ≡ nearest_of r direction e l
+  pub dial_refused : (n : Refusal) → refusal_of (nearest_tests r direction e l) ≡ Err n → Err n ≡ nearest_of r direction e l
   unfolding nearest_of
   dial_refused n h =
       sym (ap (λ (x : Checked). nearest_unless_refused x (nearest_in (table_of l) (situation_of r) (direction_of direction) (edges_read e))) h)
 
   pub dial_judged :
-      refusal_of (nearest_tests r direction e l) ≡ Accepted
-      → nearest_in (table_of l) (situation_of r) (direction_of direction) (edges_read e) ≡ nearest_of r direction e l
+      refusal_of (nearest_tests r direction e l) ≡ Ok tt
+      → Ok (nearest_in (table_of l) (situation_of r) (direction_of direction) (edges_read e)) ≡ nearest_of r direction e l
   unfolding nearest_of
   dial_judged h =
       sym (ap (λ (x : Checked). nearest_unless_refused x (nearest_in (table_of l) (situation_of r) (direction_of direction) (edges_read e))) h)
 
   -- no Rules in force
-  not_rules : (n : ℕ) → eqb n 2 ≡ false → eqb (policy_code (policy_of n)) (policy_code Rules) ≡ false
-  not_rules n h = go (eqb n 0) (eqb n 1) (eqb n 2) h
-    where
-      go :
-          (a b c : Bool) → c ≡ false
-          → eqb (policy_code (cond a Unset (cond b NoProfile (cond c Rules Broken)))) (policy_code Rules) ≡ false
-      go true b c h = refl
-      go false true c h = refl
-      go false false true h = absurd (false≢true (sym h))
-      go false false false h = refl
+  not_rules : (p : Policy) → (p ≡ Rules → ⊥) → eqb (policy_code p) (policy_code Rules) ≡ false
+  not_rules Unset h = refl
+  not_rules NoProfile h = refl
+  not_rules Rules h = absurd (h refl)
+  not_rules Broken h = refl
 
-  pub dial_free : refusal_of (nearest_tests r direction e l) ≡ Accepted → eqb r.policy 2 ≡ false → NotJudged ≡ nearest_of r direction e l
-  unfolding nearest_in judged_of station_met situation_of
+  pub dial_free :
+      refusal_of (nearest_tests r direction e l) ≡ Ok tt → ((situation_of r).policy ≡ Rules → ⊥) → Ok NotJudged ≡ nearest_of r direction e l
+  unfolding nearest_in judged_of station_met
   dial_free h p =
       let table = table_of l in
       let s = situation_of r in
       let rest = prerequisites_met table s && station_in_eighths s in
       let more = signal_met table s (edges_read e) && (table_met table && within38 table s (edges_read e)) in
       sym
-      (ap (λ (b : Bool). cond b (answer_of (nearest_from table s (direction_of direction) (edges_read e) s.dial)) NotJudged)
-      (and_left (rules_in_force s && rest) more (and_left (rules_in_force s) rest (not_rules r.policy p))))
+      (ap (λ (b : Bool). Ok (cond b (answer_of (nearest_from table s (direction_of direction) (edges_read e) s.dial)) NotJudged))
+      (and_left (rules_in_force s && rest) more (and_left (rules_in_force s) rest (not_rules s.policy p))))
       ∙ dial_judged h
 
   -- Rules in force: the table is refused by no check
-  pub dial_unrefused : refusal_of (nearest_tests r direction e l) ≡ Accepted → under_rules r ≡ true → unrefused (table_of l) ≡ true
-  unfolding entry_of check_of
-  dial_unrefused h u =
+  pub dial_unrefused : refusal_of (nearest_tests r direction e l) ≡ Ok tt → (situation_of r).policy ≡ Rules → unrefused (table_of l) ≡ true
+  unfolding entry_of check_of situation_of
+  dial_unrefused h p =
       ap accepted
       (refusal_both (form_tests l) (content_tests (table_of l))
-      (entry_accepted r (beside_valid 0 direction) l (refusal_both (entry_tests r (beside_valid 0 direction) l) (edge_tests e) h).0 u)).1
+      (entry_accepted r (beside_valid 0 direction) l (refusal_both (entry_tests r (beside_valid 0 direction) l) (edge_tests e) h).0 (rules_code r.policy p))).1

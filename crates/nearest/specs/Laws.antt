@@ -1,5 +1,5 @@
 -- The search by its laws, the premises that the code asks, and that figures that meet them are in eighths.
-use Rattle.std.specs.Prelude.{ℕ, Bool, false, not, ◌&&◌, ◌||◌, ◌≡◌, refl, Float}
+use Rattle.std.specs.Prelude.{ℕ, Bool, false, not, ◌&&◌, ◌||◌, ◌≡◌, refl, Float, Option, None}
 use Rattle.std.proofs.Math.Bool.{true, cond}
 use Rattle.std.proofs.lemmas.Bool.{false≢true, not-true}
 use Rattle.std.proofs.Math.Path.{ap}
@@ -26,16 +26,12 @@ use Rattle.dials.specs.List.{known_rows}
 use Rattle.tidy.specs.Tidy.{tidy_table}
 use Rattle.eighths.specs.Grid.{in_eighths}
 use Rattle.on_grid.specs.Within.{limit38, figure_met, record_met, block_met, unmet_at, unmet_in, figures_met, range_met, edges_met, margins_met}
-use Rattle.demand_3.specs.Words.{record_in_eighths, block_in_eighths, off_grid_at, off_grid_in, table_in_eighths, edges_in_eighths}
-use Rattle.demand_3.specs.Words.{audio_of}
-use Rattle.demand_3.specs.Words.{positive_width}
+use Rattle.demand_3.specs.Words.{record_in_eighths, block_in_eighths, off_grid_at, off_grid_in, table_in_eighths, edges_in_eighths, audio_of, positive_width}
 use Rattle.demand_3.specs.Tests.{and_both, all_three}
 use Rattle.demand_3.specs.Rows.{band_rows_holds}
 use Rattle.nearest.specs.Nearest.{answer_of}
 use Rattle.nearest_rows.specs.Over.{nearest_over}
 use Rattle.nearest_rows.specs.Laws.{over_append, over_channels}
-use Rattle.nearest_rows.specs.declared.Best.{Best}
-use Rattle.nearest_rows.specs.declared.Best.TheVariants.{Nowhere}
 use Rattle.nearest.specs.declared.Nearest.{Nearest}
 use Rattle.nearest.specs.declared.Nearest.TheVariants.{NotJudged}
 
@@ -49,12 +45,12 @@ unfoldable pub known_nearest : Table → Situation → Direction → Edges → S
 known_nearest table s direction e sideband license control dial =
     cond (premises_of table s e dial (audio_of table e))
     (answer_of
-    (nearest_over dial table.general.flags table.general.channel_band Nowhere (known_rows table s direction e sideband license control)))
+    (nearest_over dial table.general.flags table.general.channel_band None (known_rows table s direction e sideband license control)))
     NotJudged
 
 -- all rows, by those of the data segments
 pub rows_over :
-    (table : Table) (q : Request) (dial : Float) (best : Best)
+    (table : Table) (q : Request) (dial : Float) (best : Option Float)
     → nearest_over dial table.general.flags table.general.channel_band best (rows_of table q)
     ≡ nearest_over dial table.general.flags table.general.channel_band best (data_rows table q)
 unfolding rows_of

@@ -1,14 +1,11 @@
 -- Where to move the dial to (document 02, 11): the nearest dial of the rows that the dial list would have, those of the channel band left out.
-use Rattle.std.specs.Prelude.{ℕ, Bool, true, cond, ◌&&◌, List}
+use Rattle.std.specs.Prelude.{ℕ, Bool, true, cond, ◌&&◌, List, Option, Some, None, Result, Ok, Err, Float}
+use Rattle.codes.specs.Refusal.{Checked, Test, refusal_of}
+use Rattle.codes.specs.declared.Refusal.{Refusal}
 use Rattle.codes.specs.Read.{direction_of}
-use Rattle.codes.specs.Refusal.{Test, refusal_of}
-use Rattle.codes.specs.declared.Checked.{Checked}
-use Rattle.codes.specs.declared.Checked.TheVariants.{Accepted, Refused}
 use Rattle.codes.specs.declared.Direction.{Direction}
 use Rattle.occupancy.specs.declared.Edges.{Edges}
 use Rattle.station.specs.Station.{situation_of}
-use Rattle.station.specs.declared.Figure.{Figure}
-use Rattle.station.specs.declared.Figure.TheVariants.{Known, Absent}
 use Rattle.station.specs.declared.Situation.{Situation}
 use Rattle.station.specs.declared.StationRecord.{StationRecord}
 use Rattle.table.specs.Table.{Table, table_of}
@@ -18,16 +15,14 @@ use Rattle.dials.specs.List.{situation_rows}
 use Rattle.on_grid.specs.Within.{figure_met, figures_met, edges_met, margins_met}
 use Rattle.demand_3.specs.Words.{table_met, station_met, signal_met}
 use Rattle.nearest_rows.specs.Over.{nearest_over}
-use Rattle.nearest_rows.specs.declared.Best.{Best}
-use Rattle.nearest_rows.specs.declared.Best.TheVariants.{At, Nowhere}
 use Rattle.nearest.specs.declared.Nearest.{Nearest}
-use Rattle.nearest.specs.declared.Nearest.TheVariants.{Dial, NoneAllowed, NotJudged, Refused as NoAnswer}
+use Rattle.nearest.specs.declared.Nearest.TheVariants.{Dial, NoneAllowed, NotJudged}
 
 -- ---- the premises: those "of the nought distance on table, station and signal …, and hertz figures of at most 2^38 in size"
 
-abbrev pub dial_met : Figure → Bool
-dial_met (Known x) = figure_met x
-dial_met Absent = true
+abbrev pub dial_met : Option Float → Bool
+dial_met (Some x) = figure_met x
+dial_met None = true
 
 -- every hertz figure of image, edges, margins and present dial in eighths and at most 2^38 in size
 unfoldable pub within38 : Table → Situation → Edges → Bool
@@ -38,15 +33,15 @@ judged_of table s e = station_met table s && (signal_met table s e && (table_met
 
 -- ---- the answer
 
-abbrev pub answer_of : Best → Nearest
-answer_of (At x) = Dial x
-answer_of Nowhere = NoneAllowed
+abbrev pub answer_of : Option Float → Nearest
+answer_of (Some x) = Dial x
+answer_of None = NoneAllowed
 
 -- from the present dial
-abbrev pub nearest_from : Table → Situation → Direction → Edges → Figure → Best
-nearest_from table s direction e (Known dial) =
-    nearest_over dial table.general.flags table.general.channel_band Nowhere (situation_rows table s direction e)
-nearest_from table s direction e Absent = Nowhere
+abbrev pub nearest_from : Table → Situation → Direction → Edges → Option Float → Option Float
+nearest_from table s direction e (Some dial) =
+    nearest_over dial table.general.flags table.general.channel_band None (situation_rows table s direction e)
+nearest_from table s direction e None = None
 
 -- "where one of these premises fails, and only there, the answer is "not judged""
 unfoldable pub nearest_in : Table → Situation → Direction → Edges → Nearest
@@ -56,11 +51,11 @@ nearest_in table s direction e = cond (judged_of table s e) (answer_of (nearest_
 abbrev pub nearest_tests : StationRecord → ℕ → Edges → List ℕ → List Test
 nearest_tests r direction e l = evaluate_tests r 0 direction e l
 
-abbrev pub nearest_unless_refused : Checked → Nearest → Nearest
-nearest_unless_refused Accepted x = x
-nearest_unless_refused (Refused n) x = NoAnswer n
+abbrev pub nearest_unless_refused : Checked → Nearest → Result Nearest Refusal
+nearest_unless_refused (Ok tt) x = Ok x
+nearest_unless_refused (Err n) x = Err n
 
-unfoldable pub nearest_of : StationRecord → ℕ → Edges → List ℕ → Nearest
+unfoldable pub nearest_of : StationRecord → ℕ → Edges → List ℕ → Result Nearest Refusal
 nearest_of r direction e l =
     nearest_unless_refused (refusal_of (nearest_tests r direction e l))
     (nearest_in (table_of l) (situation_of r) (direction_of direction) (edges_read e))

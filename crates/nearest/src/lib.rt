@@ -13,35 +13,32 @@ ghost use Rattle.nearest.specs.Nearest.{answer_of, nearest_in, nearest_of};
 ghost use Rattle.nearest_rows.specs.Over.{nearest_over};
 ghost use Rattle.nearest.specs.Laws.{premises_of, known_nearest};
 
-use codes::{
-    Checked, Control, ControlMode, Direction, License, LicenseClass, Sideband, SidebandSet,
-};
+use codes::{ControlMode, Direction, LicenseClass, Policy, Refusal, Sideband};
 use dial_rows::Request;
 use layout::General;
-use nearest_rows::{Best, Here};
+use nearest_rows::Here;
 use occupancy::Edges;
 use profile::Range;
-use station::{Figure, Situation, StationRecord};
-use table::ChannelBand;
+use station::{Situation, StationRecord};
 
-// The dial to move to, that no dial would be allowed, that a premise fails, or the number of the refusal.
+// The dial to move to, that no dial would be allowed, or that a premise fails.
 #[derive(Clone, Copy)]
 pub enum Nearest {
     Dial(f64),
     NoneAllowed,
     NotJudged,
-    Refused(u8),
 }
 
 // Whether the guarded width is positive.
+#[tactic(auto, unfolding(demand_3::specs::Words::positive_width, demand_3::specs::Words::guarded_width))]
 fn positive_width(s: Situation, audio: Range) -> bool
     ensures { result ≡ positive_width s audio }
 {
-    let margin = s.margin;
-    0.0 < air::width(audio) + (margin.lower_hz + margin.upper_hz)
+    0.0 < air::width(audio) + (s.margin.lower_hz + s.margin.upper_hz)
 }
 
 // The premises that are left where Rules are in force and the prerequisites met.
+#[tactic(auto, unfolding(crate::specs::Laws::premises_of))]
 fn premises_met(
     image: &[u8],
     g: General,
@@ -53,30 +50,19 @@ fn premises_met(
     requires { (Whole image.now) × (g ≡ general_of image.now) }
     ensures { result ≡ premises_of (table_of image.now) s e dial_hz audio }
 {
-    if !on_grid::figure_met(dial_hz) {
-        return false;
-    }
-    if !on_grid::margins_met(s.margin) {
-        return false;
-    }
-    if !on_grid::edges_met(e) {
-        return false;
-    }
-    if !positive_width(s, audio) {
-        return false;
-    }
-    if !on_grid::figures_met(image, g) {
-        return false;
-    }
-    tidy::tidy_table(image)
+    on_grid::figure_met(dial_hz)
+        && (on_grid::margins_met(s.margin)
+            && (on_grid::edges_met(e)
+                && (positive_width(s, audio)
+                    && (on_grid::figures_met(image, g) && tidy::tidy_table(image)))))
 }
 
-fn answer_of(best: Best) -> Nearest
+fn answer_of(best: Option<f64>) -> Nearest
     ensures { result ≡ answer_of best }
 {
     match best {
-        Best::At(x) => Nearest::Dial(x),
-        Best::Nowhere => Nearest::NoneAllowed,
+        Some(x) => Nearest::Dial(x),
+        None => Nearest::NoneAllowed,
     }
 }
 
@@ -84,21 +70,20 @@ fn answer_of(best: Best) -> Nearest
 // searched: none lies outside the channel band.
 fn nearest_for(image: &[u8], g: General, q: Request, dial_hz: f64) -> Nearest
     requires { (Whole image.now) × (g ≡ general_of image.now) }
-    ensures { result ≡ answer_of (nearest_over dial_hz g.flags g.channel_band Best.Nowhere (rows_of (table_of image.now) q)) }
+    ensures { result ≡ answer_of (nearest_over dial_hz g.flags g.channel_band None (rows_of (table_of image.now) q)) }
 {
-    let w = dial_rows::search_of(image, q, ChannelBand::NoChannels);
+    let w = dial_rows::search_of(image, q, None);
     let h = Here {
         dial_hz,
         flags: g.flags,
         channel_band: g.channel_band,
     };
     let mut none = [0u8; 1];
-    let t = dials::data_rows(image, &mut none, q, w, h);
-    let best = t.best;
-    answer_of(best)
+    answer_of(dials::data_rows(image, &mut none, q, w, h).best)
 }
 
 // With the prerequisites met.
+#[tactic(auto, unfolding(crate::specs::Laws::known_nearest))]
 fn nearest_known(
     image: &[u8],
     g: General,
@@ -116,12 +101,14 @@ fn nearest_known(
     let audio = e.range(table::reading_of(g));
     if premises_met(image, g, s, e, dial_hz, audio) {
         let q = dial_rows::request_of(g, license, sideband, control, direction, s.margin, audio);
-        return nearest_for(image, g, q, dial_hz);
+        nearest_for(image, g, q, dial_hz)
+    } else {
+        Nearest::NotJudged
     }
-    Nearest::NotJudged
 }
 
 // For a station and edges as they are read, under Rules.
+#[tactic(auto, using(crate::proofs::Premises::no_region, crate::proofs::Premises::no_control, crate::proofs::Premises::no_license, crate::proofs::Premises::no_sideband, crate::proofs::Premises::no_dial))]
 fn nearest_in(image: &[u8], s: Situation, direction: Direction, e: Edges) -> Nearest
     requires { (Whole image.now) × ((s.policy ≡ Rules) × (unrefused (table_of image.now) ≡ true)) }
     ensures { result ≡ nearest_in (table_of image.now) s direction e }
@@ -130,20 +117,9 @@ fn nearest_in(image: &[u8], s: Situation, direction: Direction, e: Edges) -> Nea
     if s.itu_region != g.region {
         return Nearest::NotJudged;
     }
-    let control_set = s.control;
-    let Control::ControlIs(control) = control_set else {
-        return Nearest::NotJudged;
-    };
-    let license_set = s.license;
-    let License::LicenseIs(license) = license_set else {
-        return Nearest::NotJudged;
-    };
-    let sideband_set = s.sideband;
-    let SidebandSet::SidebandIs(sideband) = sideband_set else {
-        return Nearest::NotJudged;
-    };
-    let dial = s.dial;
-    let Figure::Known(dial_hz) = dial else {
+    let (Some(control), Some(license), Some(sideband), Some(dial_hz)) = (
+        s.control, s.license, s.sideband, s.dial,
+    ) else {
         return Nearest::NotJudged;
     };
     nearest_known(
@@ -152,22 +128,18 @@ fn nearest_in(image: &[u8], s: Situation, direction: Direction, e: Edges) -> Nea
 }
 
 // The dial nearest to the present one at which data is allowed, outside the channel band.
-pub fn nearest_dial(r: StationRecord, direction: u8, e: Edges, image: &[u8]) -> Nearest
+pub fn nearest_dial(
+    r: StationRecord,
+    direction: u8,
+    e: Edges,
+    image: &[u8],
+) -> Result<Nearest, Refusal>
     ensures { result ≡ nearest_of r direction e image.now }
 {
-    match verdict::evaluate_refusals(r, 0, direction, e, image) {
-        Checked::Refused(n) => Nearest::Refused(n),
-        Checked::Accepted => {
-            if r.policy == 2 {
-                let s = station::situation_of(r);
-                return nearest_in(
-                    image,
-                    s,
-                    codes::direction_of(direction),
-                    entry::edges_read(e),
-                );
-            }
-            Nearest::NotJudged
-        }
+    verdict::evaluate_refusals(r, 0, direction, e, image)?;
+    let s = station::situation_of(r);
+    if s.policy != Policy::Rules {
+        return Ok(Nearest::NotJudged);
     }
+    Ok(nearest_in(image, s, Direction::from(direction), entry::edges_read(e)))
 }

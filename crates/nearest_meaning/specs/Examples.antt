@@ -1,5 +1,7 @@
 -- The answer computed from bytes, on small tables, and that what is proved of it is not vacuous: open dials there are.
-use Rattle.std.specs.Prelude.{ℕ, List, [], ◌∷◌, ◌++◌, ◌≡◌, refl, pos, replicate, Float}
+use Rattle.codes.specs.declared.Refusal.TheVariants as refusal
+use Rattle.codes.specs.declared.Refusal.{Refusal}
+use Rattle.std.specs.Prelude.{ℕ, List, [], ◌∷◌, ◌++◌, ◌≡◌, refl, pos, replicate, Float, Result, Ok, Err}
 use Rattle.std.specs.Float.{binary64}
 use Rattle.std.specs.Float.Ieee.{of_bits, to_bits, of_int, lt, le, eq, ne, neg, add, sub, mul, div}
 use Rattle.figures.specs.Figure.{zero_hz}
@@ -38,7 +40,7 @@ use Rattle.on_grid.specs.Within.{figure_met, record_met, block_met, figures_met,
 use Rattle.nearest_rows.specs.Over.{point_of, far_of, before, nearest_over}
 use Rattle.nearest.specs.Nearest.{within38, judged_of, nearest_in, nearest_of}
 use Rattle.nearest.specs.declared.Nearest.{Nearest}
-use Rattle.nearest.specs.declared.Nearest.TheVariants.{Dial, NoneAllowed, NotJudged, Refused}
+use Rattle.nearest.specs.declared.Nearest.TheVariants.{Dial, NoneAllowed, NotJudged}
 use Rattle.nearest_meaning.specs.Words.{Open}
 use Rattle.nearest_meaning.specs.Theorem.{dial_open}
 
@@ -106,7 +108,7 @@ station dial =
 abbrev narrow : Edges
 narrow = record { power = range zero_hz (hz 5); spectral = range zero_hz (hz 5) }
 
-abbrev from : List ℕ → Float → Nearest
+abbrev from : List ℕ → Float → Result Nearest Refusal
 from l dial = nearest_of (station dial) 0 narrow l
 
 -- ---- computed
@@ -128,39 +130,39 @@ unfolding
 opened = tt
 
 -- the row 20–75: from below its lower end, in it the dial itself, from above its upper end
-from_below : from small (hz 10) ≡ Dial (hz 20)
+from_below : from small (hz 10) ≡ Ok (Dial (hz 20))
 unfolding opened
 from_below = refl
 
-in_the_row : from small (hz 30) ≡ Dial (hz 30)
+in_the_row : from small (hz 30) ≡ Ok (Dial (hz 30))
 unfolding opened
 in_the_row = refl
 
-from_above : from small (hz 100) ≡ Dial (hz 75)
+from_above : from small (hz 100) ≡ Ok (Dial (hz 75))
 unfolding opened
 from_above = refl
 
 -- the rows 20–35 and 60–75: from 47.5 they are equally close, and the lower is given; from 47.625 the upper is closer
-equally_close : from two (of_bits binary64 0x4047c00000000000) ≡ Dial (hz 35)
+equally_close : from two (of_bits binary64 0x4047c00000000000) ≡ Ok (Dial (hz 35))
 unfolding opened
 equally_close = refl
 
-closer : from two (of_bits binary64 0x4047d00000000000) ≡ Dial (hz 60)
+closer : from two (of_bits binary64 0x4047d00000000000) ≡ Ok (Dial (hz 60))
 unfolding opened
 closer = refl
 
 -- the channel at the dial 88 is not moved to
-channel_only : from channelled (hz 88) ≡ NoneAllowed
+channel_only : from channelled (hz 88) ≡ Ok NoneAllowed
 unfolding opened
 channel_only = refl
 
 -- 30.0625 is not in eighths
-off_grid : from small (of_bits binary64 0x403e100000000000) ≡ NotJudged
+off_grid : from small (of_bits binary64 0x403e100000000000) ≡ Ok NotJudged
 unfolding opened
 off_grid = refl
 
 -- no image
-no_image : from [] (hz 30) ≡ Refused 22
+no_image : from [] (hz 30) ≡ Err refusal.NoImage
 unfolding opened
 no_image = refl
 

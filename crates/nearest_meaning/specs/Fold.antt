@@ -1,6 +1,6 @@
 -- The search over rows, by what it leaves: the nearest dial of some row outside the channel band, which no such row's nearest dial goes
 -- before; and nowhere exactly if there is no such row.
-use Rattle.std.specs.Prelude.{ℕ, Bool, false, cond, ◌||◌, ◌≡◌, Float}
+use Rattle.std.specs.Prelude.{ℕ, Bool, false, cond, ◌||◌, ◌≡◌, Float, Option, Some, None}
 use Rattle.std.proofs.Math.Bool.{true}
 use Rattle.std.proofs.Common.{true≢false, sym, ◌∙◌, arith}
 use mathlib.Core.List.{List, [], ◌∷◌}
@@ -11,19 +11,17 @@ use Rattle.rows.specs.declared.SafeDial.{SafeDial}
 use Rattle.distance.specs.Distance.{is_outside}
 use Rattle.nearest_rows.specs.Over.{point_of, before, better_of, considered_of, nearest_over}
 use Rattle.nearest_rows.specs.Laws.{over_channels}
-use Rattle.nearest_rows.specs.declared.Best.{Best}
-use Rattle.nearest_rows.specs.declared.Best.TheVariants.{At, Nowhere}
 use Rattle.nearest_meaning.specs.Order.{Spot, before_not, before_yes, not_before}
 
 -- what holds of the dial found, if one was
-abbrev pub IfAt : (Float → Type 0) → Best → Type 0
-IfAt P (At x) = P x
-IfAt P Nowhere = Unit
+abbrev pub IfAt : (Float → Type 0) → Option Float → Type 0
+IfAt P (Some x) = P x
+IfAt P None = Unit
 
 -- a dial that the one found leaves behind: it does not go before it
-abbrev pub Behind : Float → Float → Best → Type 0
-Behind dial y (At x) = before dial y x ≡ false
-Behind dial y Nowhere = ⊥
+abbrev pub Behind : Float → Float → Option Float → Type 0
+Behind dial y (Some x) = before dial y x ≡ false
+Behind dial y None = ⊥
 
 -- What some row passes and every row has: a row that does both.
 pub any_every :
@@ -66,11 +64,11 @@ module _ (dial : Float) (flags channel : ℕ) where
   abbrev pub Outside : (SafeDial → Type 0) → SafeDial → Type 0
   Outside P x = outside x ≡ true → P x
 
-  abbrev over : Best → List SafeDial → Best
+  abbrev over : Option Float → List SafeDial → Option Float
   over = nearest_over dial flags channel
 
   by_considered :
-      (P : Best → Type 0) (best : Best) (x : SafeDial) → (outside x ≡ true → P (better_of dial best (point x))) → (outside x ≡ false → P best)
+      (P : Option Float → Type 0) (best : Option Float) (x : SafeDial) → (outside x ≡ true → P (better_of dial best (point x))) → (outside x ≡ false → P best)
       → P (considered_of dial flags channel best x)
   by_considered P best x f g = go (outside x) refl
     where
@@ -79,21 +77,21 @@ module _ (dial : Float) (flags channel : ℕ) where
       go false e = g e
 
   by_better :
-      (P : Best → Type 0) (y x : Float) → (before dial x y ≡ true → P (At x)) → (before dial x y ≡ false → P (At y)) → P (better_of dial (At y) x)
+      (P : Option Float → Type 0) (y x : Float) → (before dial x y ≡ true → P (Some x)) → (before dial x y ≡ false → P (Some y)) → P (better_of dial (Some y) x)
   by_better P y x f g = go (before dial x y) refl
     where
-      go : (b : Bool) → before dial x y ≡ b → P (cond b (At x) (At y))
+      go : (b : Bool) → before dial x y ≡ b → P (cond b (Some x) (Some y))
       go true e = f e
       go false e = g e
 
   -- ---- the dial found is the nearest of a row outside: it has what all of these have
 
-  better_has : (P : Float → Type 0) (best : Best) (x : Float) → IfAt P best → P x → IfAt P (better_of dial best x)
-  better_has P (At y) x h k = by_better (IfAt P) y x (λ _. k) (λ _. h)
-  better_has P Nowhere x h k = k
+  better_has : (P : Float → Type 0) (best : Option Float) (x : Float) → IfAt P best → P x → IfAt P (better_of dial best x)
+  better_has P (Some y) x h k = by_better (IfAt P) y x (λ _. k) (λ _. h)
+  better_has P None x h k = k
 
   pub over_has :
-      (P : Float → Type 0) (xs : List SafeDial) → Every (Outside (λ x. P (point x))) xs → (best : Best) → IfAt P best → IfAt P (over best xs)
+      (P : Float → Type 0) (xs : List SafeDial) → Every (Outside (λ x. P (point x))) xs → (best : Option Float) → IfAt P best → IfAt P (over best xs)
   unfolding nearest_over
   over_has P [] h best k = k
   over_has P (x ∷ xs) h best k =
@@ -108,37 +106,37 @@ module _ (dial : Float) (flags channel : ℕ) where
     pub is_point : x ≡ point row
 
   -- The dial found is.
-  pub over_from : (xs : List SafeDial) → IfAt (FromRow xs) (over Nowhere xs)
+  pub over_from : (xs : List SafeDial) → IfAt (FromRow xs) (over None xs)
   over_from xs =
       over_has (FromRow xs) xs
       (every_map (Member xs) (Outside (λ x. FromRow xs (point x))) (λ x m o. record { row = x; listed = m; is_outside_holds = o; is_point = refl }) xs
       (members xs))
-      Nowhere tt
+      None tt
 
   -- ---- nowhere exactly if no row is outside
 
-  pub nowhere_where : (xs : List SafeDial) → Every (λ x. outside x ≡ false) xs → over Nowhere xs ≡ Nowhere
-  nowhere_where xs h = over_channels dial flags channel xs h Nowhere
+  pub nowhere_where : (xs : List SafeDial) → Every (λ x. outside x ≡ false) xs → over None xs ≡ None
+  nowhere_where xs h = over_channels dial flags channel xs h None
 
-  abbrev Found : Best → Type 0
-  Found (At x) = Unit
-  Found Nowhere = ⊥
+  abbrev Found : Option Float → Type 0
+  Found (Some x) = Unit
+  Found None = ⊥
 
-  better_found : (best : Best) (x : Float) → Found (better_of dial best x)
-  better_found (At y) x = by_better Found y x (λ _. tt) (λ _. tt)
-  better_found Nowhere x = tt
+  better_found : (best : Option Float) (x : Float) → Found (better_of dial best x)
+  better_found (Some y) x = by_better Found y x (λ _. tt) (λ _. tt)
+  better_found None x = tt
 
-  stays_found : (xs : List SafeDial) (best : Best) → Found best → Found (over best xs)
+  stays_found : (xs : List SafeDial) (best : Option Float) → Found best → Found (over best xs)
   unfolding nearest_over
   stays_found [] best h = h
   stays_found (x ∷ xs) best h =
       stays_found xs (considered_of dial flags channel best x) (by_considered Found best x (λ _. better_found best (point x)) (λ _. h))
 
-  not_found : (best : Best) → best ≡ Nowhere → Found best → ⊥
-  not_found (At x) e h = let z : ◌≡◌ {A = ℕ} 0 1 = cc in omega arith
-  not_found Nowhere e h = h
+  not_found : (best : Option Float) → best ≡ None → Found best → ⊥
+  not_found (Some x) e h = let z : ◌≡◌ {A = ℕ} 0 1 = cc in omega arith
+  not_found None e h = h
 
-  pub nowhere_only : (xs : List SafeDial) (best : Best) → over best xs ≡ Nowhere → Every (λ x. outside x ≡ false) xs
+  pub nowhere_only : (xs : List SafeDial) (best : Option Float) → over best xs ≡ None → Every (λ x. outside x ≡ false) xs
   unfolding nearest_over
   nowhere_only [] best e = tt
   nowhere_only (x ∷ xs) best e =
@@ -154,22 +152,22 @@ module _ (dial : Float) (flags channel : ℕ) where
   -- ---- no row's nearest dial goes before the one found
 
   module _ (D : Spot dial) where
-    better_behind : (y : Float) (best : Best) (x : Float) → Spot y → IfAt Spot best → Spot x → Behind dial y best → Behind dial y (better_of dial best x)
-    better_behind y (At z) x Y Z X h =
+    better_behind : (y : Float) (best : Option Float) (x : Float) → Spot y → IfAt Spot best → Spot x → Behind dial y best → Behind dial y (better_of dial best x)
+    better_behind y (Some z) x Y Z X h =
         by_better (Behind dial y) z x
         (λ e. let a = before_not D Y Z h in let b = before_yes D X Z e in not_before D Y X (omega arith))
         (λ _. h)
-    better_behind y Nowhere x Y Z X h = absurd h
+    better_behind y None x Y Z X h = absurd h
 
-    joins_behind : (best : Best) (x : Float) → IfAt Spot best → Spot x → Behind dial x (better_of dial best x)
-    joins_behind (At z) x Z X = by_better (Behind dial x) z x (λ _. not_before D X X (omega arith)) (λ e. e)
-    joins_behind Nowhere x Z X = not_before D X X (omega arith)
+    joins_behind : (best : Option Float) (x : Float) → IfAt Spot best → Spot x → Behind dial x (better_of dial best x)
+    joins_behind (Some z) x Z X = by_better (Behind dial x) z x (λ _. not_before D X X (omega arith)) (λ e. e)
+    joins_behind None x Z X = not_before D X X (omega arith)
 
-    next_spot : (best : Best) (x : SafeDial) → IfAt Spot best → Outside (λ x. Spot (point x)) x → IfAt Spot (considered_of dial flags channel best x)
+    next_spot : (best : Option Float) (x : SafeDial) → IfAt Spot best → Outside (λ x. Spot (point x)) x → IfAt Spot (considered_of dial flags channel best x)
     next_spot best x B h = by_considered (IfAt Spot) best x (λ o. better_has Spot best (point x) B (h o)) (λ _. B)
 
     stays_behind :
-        (y : Float) → Spot y → (xs : List SafeDial) → Every (Outside (λ x. Spot (point x))) xs → (best : Best) → IfAt Spot best → Behind dial y best
+        (y : Float) → Spot y → (xs : List SafeDial) → Every (Outside (λ x. Spot (point x))) xs → (best : Option Float) → IfAt Spot best → Behind dial y best
         → Behind dial y (over best xs)
     unfolding nearest_over
     stays_behind y Y [] h best B k = k
@@ -178,7 +176,7 @@ module _ (dial : Float) (flags channel : ℕ) where
         (by_considered (Behind dial y) best x (λ o. better_behind y best (point x) Y B (h.0 o) k) (λ _. k))
 
     pub over_behind :
-        (xs : List SafeDial) → Every (Outside (λ x. Spot (point x))) xs → (best : Best) → IfAt Spot best
+        (xs : List SafeDial) → Every (Outside (λ x. Spot (point x))) xs → (best : Option Float) → IfAt Spot best
         → Every (Outside (λ x. Behind dial (point x) (over best xs))) xs
     unfolding nearest_over
     over_behind [] h best B = tt

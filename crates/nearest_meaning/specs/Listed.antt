@@ -1,5 +1,6 @@
 -- Where the call is judged, a figure is a dial that one may move to exactly if it lies in a row outside the channel band.
-use Rattle.std.specs.Prelude.{ℕ, Bool, false, cond, ◌&&◌, ◌≡◌, refl, Float}
+use Rattle.std.specs.Prelude.{ℕ, Bool, false, cond, ◌&&◌, ◌≡◌, refl, Float, Some, Ok}
+use Rattle.codes.specs.Refusal.{Checked, refusal_of}
 use Rattle.std.proofs.Math.Bool.{true}
 use mathlib.Core.List.{List, []}
 use Rattle.std.proofs.Math.Path.{sym, ap, subst}
@@ -7,10 +8,7 @@ use Rattle.std.proofs.Common.{◌∙◌, arith, eqb-true}
 use Rattle.std.specs.Float.Ieee.{eq}
 use Rattle.figures.specs.Figure.{zero_hz, read_hz}
 use Rattle.codes.specs.Read.{policy_of, direction_of}
-use Rattle.codes.specs.Refusal.{refusal_of}
 use Rattle.codes.specs.Laws.{refusal_both}
-use Rattle.codes.specs.declared.Checked.{Checked}
-use Rattle.codes.specs.declared.Checked.TheVariants.{Accepted}
 use Rattle.codes.specs.declared.Policy.{Policy}
 use Rattle.codes.specs.declared.EmissionKind.TheVariants.{Data}
 use Rattle.codes.specs.declared.Direction.{Direction}
@@ -19,7 +17,6 @@ use Rattle.occupancy.specs.declared.Edges.{Edges}
 use Rattle.scan.specs.Laws.{and_true, cond_yes}
 use Rattle.lists.specs.Laws.{Every}
 use Rattle.station.specs.Station.{under_rules, situation_of}
-use Rattle.station.specs.declared.Figure.TheVariants.{Known}
 use Rattle.station.specs.declared.Situation.{Situation}
 use Rattle.station.specs.declared.StationRecord.{StationRecord}
 use Rattle.layout.specs.Layout.{general_of}
@@ -38,9 +35,8 @@ use Rattle.eighths.specs.Grid.{Figure}
 use Rattle.eighths.specs.Laws.{in_eighths_holds, zero_eighths}
 use Rattle.exact.specs.Air.{MarginFigures}
 use Rattle.on_grid.specs.Within.{figures_met, edges_met, margins_met}
-use Rattle.demand_3.specs.Words.{tuned, audio_of, rules_in_force, prerequisites_met, has_control, has_license, has_sideband, positive_width}
+use Rattle.demand_3.specs.Words.{tuned, audio_of, rules_in_force, prerequisites_met, has_control, has_license, has_sideband, positive_width, verdict_at, allows}
 use Rattle.demand_3.specs.Words.{channel_band_holds, channels_hold, on_channel_band, table_met, station_met, signal_met, station_in_eighths, edges_in_eighths}
-use Rattle.demand_3.specs.Words.{verdict_at, allows}
 use Rattle.demand_3.specs.Tests.{and_both, all_three}
 use Rattle.demand_3.specs.Order.{Figures}
 use Rattle.demand_3.specs.Dial.{guarded_lengthy}
@@ -66,7 +62,7 @@ read_figure x F = go (eq x zero_hz)
     go false = F
 
 module _
-    (r : StationRecord) (direction : ℕ) (e : Edges) (l : List ℕ) (ok : refusal r direction e l ≡ Accepted) (J : judged r direction e l ≡ true)
+    (r : StationRecord) (direction : ℕ) (e : Edges) (l : List ℕ) (ok : refusal r direction e l ≡ Ok tt) (J : judged r direction e l ≡ true)
   where
     abbrev table : Table
     table = table_of l
@@ -120,7 +116,7 @@ module _
     audio_figures : Figures audio
     audio_figures = figures (edges_met_holds (edges_read e) (reading_of (general_of l)) within.1)
 
-    pub dial_figure : (present : Float) → here.dial ≡ Known present → Figure present
+    pub dial_figure : (present : Float) → here.dial ≡ Some present → Figure present
     dial_figure present d =
         figure (met_figure present (sym (ap dial_met d) ∙ (and_true (margins_met here.margin) (dial_met here.dial) within.2).1))
 
@@ -170,13 +166,13 @@ module _
           (and_both _ _ (ap has_control known.has_control_holds)
           (and_both _ _ (ap has_license known.has_license_holds) (and_both _ _ (ap has_sideband known.has_sideband_holds) refl)))
 
-      module _ (accepted : refusal_of (evaluate_tests (tuned r dial) 0 direction e l) ≡ Accepted) where
-        verdict_is : verdict_at r direction e l dial ≡ under_rules_of table there (Known (read_hz dial)) Data way audio
+      module _ (accepted : refusal_of (evaluate_tests (tuned r dial) 0 direction e l) ≡ Ok tt) where
+        verdict_is : verdict_at r direction e l dial ≡ under_rules_of table there (Some (read_hz dial)) Data way audio
         unfolding evaluate_of decide_of situation_of tuned
         verdict_is =
             ap (λ (x : Checked). unless_refused x (decided there.policy)) accepted ∙ ap (λ (n : ℕ). decided (policy_of n)) (eqb-true r.policy 2 rules)
 
-        unrefused : (verdict_at r direction e l dial).refusal ≡ Accepted
+        unrefused : (verdict_at r direction e l dial).refusal ≡ Ok tt
         unrefused =
             let P = prerequisites table there prerequisites_there in
             ap (λ (d : Decision). d.refusal) (verdict_is ∙ ruling table there way audio (read_hz dial) P)
@@ -213,7 +209,7 @@ module _
           }
 
       -- and an open dial is a figure in such a row
-      open_accepted : Open r direction e l dial → refusal_of (evaluate_tests (tuned r dial) 0 direction e l) ≡ Accepted
+      open_accepted : Open r direction e l dial → refusal_of (evaluate_tests (tuned r dial) 0 direction e l) ≡ Ok tt
       unfolding evaluate_of
       open_accepted o = judged_of_refusal (refusal_of (evaluate_tests (tuned r dial) 0 direction e l)) (decided there.policy) o.not_refused
 

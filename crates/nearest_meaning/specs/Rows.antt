@@ -1,6 +1,6 @@
 -- Rows where every hertz figure is at most 2^38 in size: their dials are sums of three such figures, so they are in eighths and below 2^40,
 -- and no test refuses them.
-use Rattle.std.specs.Prelude.{ℕ, ◌+◌, ◌≤◌, ◌<◌, ◌^◌, Bool, false, not, cond, ◌||◌, ◌≡◌, eqb, Float}
+use Rattle.std.specs.Prelude.{ℕ, ◌+◌, ◌≤◌, ◌<◌, ◌^◌, Bool, false, not, cond, ◌||◌, ◌≡◌, eqb, Float, Some, None}
 use Rattle.std.proofs.Math.Bool.{true}
 use Rattle.std.proofs.Common.{true≢false, sym, ◌∙◌, arith, eqb-true}
 use mathlib.Core.List.{List, []}
@@ -12,13 +12,11 @@ use Rattle.codes.specs.declared.Sideband.{Sideband}
 use Rattle.codes.specs.declared.Sideband.TheVariants.{Usb, Lsb}
 use Rattle.profile.specs.Range.{lengthy, common_of, intersect_of}
 use Rattle.profile.specs.declared.Range.{Range}
-use Rattle.profile.specs.declared.Shared.TheVariants.{Stretch, Nothing}
 use Rattle.occupancy.specs.Edges.{range_of}
 use Rattle.occupancy.specs.declared.Edges.{Edges}
 use Rattle.occupancy.specs.declared.Reading.{Reading}
 use Rattle.occupancy.specs.declared.Reading.TheVariants.{Power, Spectral, Wider}
 use Rattle.air.specs.Air.{dial_ends_of}
-use Rattle.air.specs.declared.DialRange.TheVariants.{Dials, NoDial}
 use Rattle.air.specs.declared.Margins.{Margins}
 use Rattle.scan.specs.First.{some}
 use Rattle.scan.specs.Laws.{some_false, and_true}
@@ -246,7 +244,7 @@ module _ (table : Table) (q : Request) (S : Spans38 table) (M : Margins38 q.marg
       dials : Range
       dials = dial_ends_of piece q.sideband q.audio q.margin
 
-      go : (b : Bool) → le dials.low_hz dials.high_hz ≡ b → Every RowDials (dial_rows band rule piece (cond b (Dials dials) NoDial))
+      go : (b : Bool) → le dials.low_hz dials.high_hz ≡ b → Every RowDials (dial_rows band rule piece (cond b (Some dials) None))
       go true e = (
         record {
           low = low_figure piece q.audio q.margin P A M q.sideband;
@@ -262,7 +260,7 @@ module _ (table : Table) (q : Request) (S : Spans38 table) (M : Margins38 q.marg
       → Every RowDials (on_shared (intersect_of a b) f)
   shared_dials a b FA FB f h = go (lengthy (common_of a b))
     where
-      go : (t : Bool) → Every RowDials (on_shared (cond t (Stretch (common_of a b)) Nothing) f)
+      go : (t : Bool) → Every RowDials (on_shared (cond t (Some (common_of a b)) None) f)
       go true = h (common_of a b) (common38 a b FA FB)
       go false = tt
 

@@ -1,18 +1,16 @@
 -- Where to move the dial to, as document 02 (11) words it: the dial given is open and of all open dials the nearest, the lower of two equally
 -- near; none is said exactly if no dial is open, and exactly if no row outside the channel band would be listed.
-use Rattle.std.specs.Prelude.{ℕ, ◌+◌, ◌≤◌, ◌^◌, Bool, true, false, ◌&&◌, List, ◌≡◌, refl, eqb, Float}
+use Rattle.std.specs.Prelude.{ℕ, ◌+◌, ◌≤◌, ◌^◌, Bool, true, false, ◌&&◌, List, ◌≡◌, refl, eqb, Float, Option, Some, None, Result, Ok}
+use Rattle.codes.specs.declared.Refusal.{Refusal}
 use Rattle.std.proofs.Common.{true≢false, sym, ap, subst, ◌∙◌, arith, eqb-true, eq-eqb, le-leb}
 use Rattle.std.proofs.lemmas.Bool.{false≢true}
 use Rattle.std.specs.Float.Ieee.{le, eq}
 use Rattle.figures.specs.Figure.{read_hz}
 use Rattle.codes.specs.Read.{direction_of}
-use Rattle.codes.specs.declared.Checked.TheVariants.{Accepted}
 use Rattle.occupancy.specs.declared.Edges.{Edges}
 use Rattle.scan.specs.Laws.{and_true}
 use Rattle.lists.specs.Laws.{Every, every_map}
 use Rattle.station.specs.Station.{situation_of}
-use Rattle.station.specs.declared.Figure.{Figure as Dialled}
-use Rattle.station.specs.declared.Figure.TheVariants.{Known, Absent}
 use Rattle.station.specs.declared.StationRecord.{StationRecord}
 use Rattle.table.specs.Table.{table_of}
 use Rattle.entry.specs.Entry.{edges_read}
@@ -25,9 +23,8 @@ use Rattle.demand_3.specs.Words.{rules_in_force, has_control, has_license, has_s
 use Rattle.demand_3.specs.Tests.{and_both, all_three}
 use Rattle.demand_3.specs.Listed.{lies}
 use Rattle.nearest_rows.specs.Over.{point_of, before, nearest_over}
-use Rattle.nearest_rows.specs.declared.Best.{Best}
-use Rattle.nearest_rows.specs.declared.Best.TheVariants.{At, Nowhere}
 use Rattle.nearest.specs.Nearest.{judged_of, answer_of, nearest_from, nearest_of}
+use Rattle.nearest.specs.declared.Nearest.{Nearest}
 use Rattle.nearest.specs.declared.Nearest.TheVariants.{Dial, NoneAllowed}
 use Rattle.nearest_meaning.specs.Words.{Open, AtLeastAsNear}
 use Rattle.nearest_meaning.specs.Answers.{refusal, judged, found, answers, judged_where, answers_only, dial_of, none_of}
@@ -64,7 +61,7 @@ near_of {present} {x} {y} D X Y h =
 -- ---- the search
 
 module _
-    (r : StationRecord) (direction : ℕ) (e : Edges) (l : List ℕ) (ok : refusal r direction e l ≡ Accepted) (J : judged r direction e l ≡ true)
+    (r : StationRecord) (direction : ℕ) (e : Edges) (l : List ℕ) (ok : refusal r direction e l ≡ Ok tt) (J : judged r direction e l ≡ true)
   where
     abbrev flags : ℕ
     flags = (table_of l).general.flags
@@ -75,15 +72,15 @@ module _
     abbrev all : List SafeDial
     all = rows r direction e l ok J
 
-    module _ (present : Float) (d : (situation_of r).dial ≡ Known present) where
+    module _ (present : Float) (d : (situation_of r).dial ≡ Some present) where
       F : Figure present
       F = dial_figure r direction e l ok J present d
 
       D : Spot present
       D = figure_spot F
 
-      abbrev left : Best
-      left = nearest_over present flags channel Nowhere all
+      abbrev left : Option Float
+      left = nearest_over present flags channel None all
 
       search : found r direction e l ≡ left
       search = ap (nearest_from (table_of l) (situation_of r) (direction_of direction) (edges_read e)) d
@@ -133,8 +130,8 @@ module _
           (λ x h o. point_opened x (h.0 o) o h.1) all
           (both_every (λ x. is_outside flags channel x.band ≡ true → RowDials x) (Member all) all (dials_of_holds r direction e l ok J) (members all))
 
-      found_opened : (x : Float) → left ≡ At x → Opened x
-      found_opened x h = subst (IfAt Opened) h (over_has present flags channel Opened all points Nowhere tt)
+      found_opened : (x : Float) → left ≡ Some x → Opened x
+      found_opened x h = subst (IfAt Opened) h (over_has present flags channel Opened all points None tt)
 
       behind : Every (Outside present flags channel (λ x. Behind present (point present flags channel x) left)) all
       behind =
@@ -142,7 +139,7 @@ module _
           (every_map (Outside present flags channel (λ x. Opened (point present flags channel x)))
           (Outside present flags channel (λ x. Spot (point present flags channel x)))
           (λ x h o. figure_spot (h o).figure) all points)
-          Nowhere tt
+          None tt
 
       -- an open dial lies in a row outside the channel band: what is known of that row
       in_row :
@@ -164,7 +161,7 @@ module _
           (both_every (λ x. is_outside flags channel x.band ≡ true → RowDials x)
           (Outside present flags channel (λ x. Behind present (point present flags channel x) left)) all (dials_of_holds r direction e l ok J) behind)
 
-      found_nearest : (x : Float) → left ≡ At x → (y : Float) → Open r direction e l y → AtLeastAsNear present x (read_hz y)
+      found_nearest : (x : Float) → left ≡ Some x → (y : Float) → Open r direction e l y → AtLeastAsNear present x (read_hz y)
       found_nearest x h y o =
           in_row (AtLeastAsNear present x (read_hz y)) y o
           (λ row out R a b k.
@@ -177,14 +174,14 @@ module _
           let v : key D X ≤ key D P = before_not D P X (subst (Behind present (point present flags channel row)) h k) in
           near_of D X Y (omega arith))
 
-      none_open : left ≡ Nowhere → (y : Float) → Open r direction e l y → ⊥
+      none_open : left ≡ None → (y : Float) → Open r direction e l y → ⊥
       none_open h y o = in_row ⊥ y o (λ row out R a b k. subst (Behind present (point present flags channel row)) h k)
 
 -- ---- the present dial is known where the call is judged
 
 record Present (r : StationRecord) : Type 0 where
   hz : Float
-  known : (situation_of r).dial ≡ Known hz
+  known : (situation_of r).dial ≡ Some hz
 
 present_of : (r : StationRecord) (direction : ℕ) (e : Edges) (l : List ℕ) → judged r direction e l ≡ true → Present r
 unfolding judged_of station_met prerequisites_met
@@ -196,9 +193,9 @@ present_of r direction e l J =
     let f = all_three (has_license s.license) (has_sideband s.sideband) (has_dial s.dial) c.2 in
     go s.dial refl f.2
   where
-    go : (x : Dialled) → (situation_of r).dial ≡ x → has_dial x ≡ true → Present r
-    go (Known hz) p h = record { hz = hz; known = p }
-    go Absent p h = absurd (false≢true h)
+    go : (x : Option Float) → (situation_of r).dial ≡ x → has_dial x ≡ true → Present r
+    go (Some hz) p h = record { hz = hz; known = p }
+    go None p h = absurd (false≢true h)
 
 -- ---- what is proved of the answer
 
@@ -213,18 +210,18 @@ module _ (r : StationRecord) (direction : ℕ) (e : Edges) (l : List ℕ) where
   NoneOpen = (y : Float) → Open r direction e l y → ⊥
 
   -- what the search left, by the answer
-  dial_left : (x : Float) → nearest_of r direction e l ≡ Dial x → found r direction e l ≡ At x
+  dial_left : (x : Float) → nearest_of r direction e l ≡ Ok (Dial x) → found r direction e l ≡ Some x
   dial_left x h =
       let a = answers_only r direction e l (ap answers h) in
       dial_of (found r direction e l) x (sym (judged_where r direction e l a.0 a.1) ∙ h)
 
-  none_left : nearest_of r direction e l ≡ NoneAllowed → found r direction e l ≡ Nowhere
+  none_left : nearest_of r direction e l ≡ Ok NoneAllowed → found r direction e l ≡ None
   none_left h =
       let a = answers_only r direction e l (ap answers h) in
       none_of (found r direction e l) (sym (judged_where r direction e l a.0 a.1) ∙ h)
 
   -- The dial given is open: in eighths, not refused, off the channel band, and data is allowed there.
-  pub dial_open : (x : Float) → nearest_of r direction e l ≡ Dial x → Open r direction e l x
+  pub dial_open : (x : Float) → nearest_of r direction e l ≡ Ok (Dial x) → Open r direction e l x
   dial_open x h =
       let a = answers_only r direction e l (ap answers h) in
       let p = present_of r direction e l a.1 in
@@ -233,41 +230,41 @@ module _ (r : StationRecord) (direction : ℕ) (e : Edges) (l : List ℕ) where
 
   -- No open dial is closer to the present one, and of two equally close it is the lower.
   pub dial_nearest :
-      (present x : Float) → (situation_of r).dial ≡ Known present → nearest_of r direction e l ≡ Dial x → (y : Float) → Open r direction e l y
+      (present x : Float) → (situation_of r).dial ≡ Some present → nearest_of r direction e l ≡ Ok (Dial x) → (y : Float) → Open r direction e l y
       → AtLeastAsNear present x (read_hz y)
   dial_nearest present x d h y o =
       let a = answers_only r direction e l (ap answers h) in
       found_nearest r direction e l a.0 a.1 present d x (sym (search r direction e l a.0 a.1 present d) ∙ dial_left x h) y o
 
   -- None is said exactly if no dial is open …
-  pub none_open_only : nearest_of r direction e l ≡ NoneAllowed → NoneOpen
+  pub none_open_only : nearest_of r direction e l ≡ Ok NoneAllowed → NoneOpen
   none_open_only h y o =
       let a = answers_only r direction e l (ap answers h) in
       let p = present_of r direction e l a.1 in
       none_open r direction e l a.0 a.1 p.hz p.known (sym (search r direction e l a.0 a.1 p.hz p.known) ∙ none_left h) y o
 
-  pub none_open_where : refusal r direction e l ≡ Accepted → judged r direction e l ≡ true → NoneOpen → nearest_of r direction e l ≡ NoneAllowed
+  pub none_open_where : refusal r direction e l ≡ Ok tt → judged r direction e l ≡ true → NoneOpen → nearest_of r direction e l ≡ Ok NoneAllowed
   none_open_where a j none = judged_where r direction e l a j ∙ go (found r direction e l) refl
     where
-      go : (b : Best) → found r direction e l ≡ b → answer_of b ≡ NoneAllowed
-      go (At x) p = absurd (none x (dial_open x (judged_where r direction e l a j ∙ ap answer_of p)))
-      go Nowhere p = refl
+      go : (b : Option Float) → found r direction e l ≡ b → ◌≡◌ {A = Result Nearest Refusal} (Ok (answer_of b)) (Ok NoneAllowed)
+      go (Some x) p = absurd (none x (dial_open x (judged_where r direction e l a j ∙ ap (λ (b : Option Float). Ok (answer_of b)) p)))
+      go None p = refl
 
   -- … and exactly if no row outside the channel band would be listed.
-  pub none_row_only : nearest_of r direction e l ≡ NoneAllowed → NoneOutside
+  pub none_row_only : nearest_of r direction e l ≡ Ok NoneAllowed → NoneOutside
   none_row_only h =
       let a = answers_only r direction e l (ap answers h) in
       let p = present_of r direction e l a.1 in
       subst (Every (λ x. is_outside (table_of l).general.flags (table_of l).general.channel_band x.band ≡ false))
       (sym (rows_list r direction e l a.0 a.1))
-      (nowhere_only p.hz (table_of l).general.flags (table_of l).general.channel_band (rows r direction e l a.0 a.1) Nowhere
+      (nowhere_only p.hz (table_of l).general.flags (table_of l).general.channel_band (rows r direction e l a.0 a.1) None
       (sym (search r direction e l a.0 a.1 p.hz p.known) ∙ none_left h))
 
-  pub none_row_where : refusal r direction e l ≡ Accepted → judged r direction e l ≡ true → NoneOutside → nearest_of r direction e l ≡ NoneAllowed
+  pub none_row_where : refusal r direction e l ≡ Ok tt → judged r direction e l ≡ true → NoneOutside → nearest_of r direction e l ≡ Ok NoneAllowed
   none_row_where a j none =
       let p = present_of r direction e l j in
       judged_where r direction e l a j
-      ∙ ap answer_of
+      ∙ ap (λ (b : Option Float). Ok (answer_of b))
       (search r direction e l a j p.hz p.known
       ∙ nowhere_where p.hz (table_of l).general.flags (table_of l).general.channel_band (rows r direction e l a j)
       (subst (Every (λ x. is_outside (table_of l).general.flags (table_of l).general.channel_band x.band ≡ false))

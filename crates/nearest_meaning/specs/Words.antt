@@ -1,8 +1,7 @@
 -- Document 02's words for where to move the dial to (11).
-use Rattle.std.specs.Prelude.{ℕ, true, false, List, ◌≡◌, Float}
+use Rattle.std.specs.Prelude.{ℕ, true, false, List, ◌≡◌, Float, Ok}
 use Rattle.std.specs.Float.Ieee.{le, eq}
 use Rattle.figures.specs.Figure.{read_hz}
-use Rattle.codes.specs.declared.Checked.TheVariants.{Accepted}
 use Rattle.occupancy.specs.declared.Edges.{Edges}
 use Rattle.station.specs.Station.{situation_of}
 use Rattle.station.specs.declared.StationRecord.{StationRecord}
@@ -16,7 +15,7 @@ use Rattle.nearest_rows.specs.Over.{far_of, before}
 -- allowed". The gate refuses no such dial: a refused one isn't judged. Negative zero reads as zero, as in every call.
 pub record Open (r : StationRecord) (direction : ℕ) (e : Edges) (l : List ℕ) (dial : Float) : Type 0 where
   pub on_grid : in_eighths (read_hz dial) ≡ true
-  pub not_refused : (verdict_at r direction e l dial).refusal ≡ Accepted
+  pub not_refused : (verdict_at r direction e l dial).refusal ≡ Ok tt
   pub off_channels : on_channel_band (table_of l) (situation_of r) (audio_of (table_of l) (edges_read e)) (read_hz dial) ≡ false
   pub allowed : allows (verdict_at r direction e l dial) ≡ true
 

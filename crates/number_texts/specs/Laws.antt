@@ -1,10 +1,12 @@
 -- What the loops over digits know at each turn, and the parts of a text put one behind the other.
 use Prim.Native.Nat.{ℕ, zero, suc, ◌+◌, ◌-◌, ◌/◌, ◌%◌, ◌^◌, ◌<◌, ◌≤◌}
-use Rattle.std.specs.Prelude.{Bool, true, false, cond, List, [], ◌∷◌, ◌++◌, ◌≡◌, eqb, ltb, Float, drop, set}
+use Rattle.std.specs.Prelude.{Result, Ok, Err, Bool, true, false, cond, not, List, [], ◌∷◌, ◌++◌, ◌≡◌, eqb, ltb, Float, drop, set}
+use Rattle.codes.specs.declared.Refusal.TheVariants as refusal
+use Rattle.codes.specs.declared.Refusal.{Refusal}
 use Rattle.std.proofs.Math.Path.{refl, sym, ap}
 use Rattle.std.proofs.Common.{◌∙◌, add_assoc, zero-add, add-one, length-set, length-append}
 use native.Mathlib.Omega.{arith}
-use borrow.Author.Tests.{lt-ltb, le-ltb, ne_eqb}
+use borrow.Author.Tests.{lt-ltb, le-ltb}
 use Rattle.std.specs.Float.{binary64}
 use Rattle.std.specs.Float.Ieee.{mul}
 use Rattle.std.proofs.Math.ListN.{length}
@@ -13,16 +15,14 @@ use Rattle.std.proofs.lemmas.List.{set_comm}
 use Rattle.std.proofs.lemmas.List.Edits.{sets-eq}
 use Rattle.byte_writes.specs.Laws.{sets_next}
 use Rattle.figures.specs.Figure.{in_size}
-use Rattle.codes.specs.Refusal.{refusal_of}
+use Rattle.codes.specs.Refusal.{test, refusal_of}
 use Rattle.decimal.specs.Decimal.{decimal_rounded}
 use Rattle.decimal.specs.declared.Decimal.{Decimal}
 use Rattle.digit_groups.specs.Group.{group_of}
 use Rattle.digit_groups.specs.declared.Group.{Group}
 use Rattle.decimal.specs.Within.{Within, limit43, ten, in_size_within, within_more, div_within, mul_within}
-use Rattle.number_texts.specs.declared.TextAnswer.{TextAnswer}
-use Rattle.number_texts.specs.declared.TextAnswer.TheVariants.{Length, Refused as NoText}
-use Rattle.number_texts.specs.Text.{digits, digit_count, sign_text, whole_text, point_text, written, text_of, kilohertz, near_whole, khz_places}
-use Rattle.number_texts.specs.Text.{khz_text, room_tests, Left, Texted}
+use Rattle.number_texts.specs.Text.{digits, digit_count, sign_text, whole_text, point_text, written, text_of, kilohertz, near_whole, khz_places, sized}
+use Rattle.number_texts.specs.Text.{room_tests, Left, Texted}
 
 -- ---- counting digits
 
@@ -32,9 +32,6 @@ pub record Counting (n rest count : ℕ) : Type 0 where
   pub more : digit_count 12 n + 1 ≡ count + digit_count (13 - count) rest
 
 module _ (n : ℕ) where
-  pub count_none : Counting n n 1
-  count_none = record { some = omega arith; within = omega arith; more = omega arith }
-
   pub count_step : (rest count : ℕ) → Counting n rest count → count < 13 → 10 ≤ rest → Counting n (rest / 10) (count + 1)
   unfolding digit_count
   count_step rest count c h k =
@@ -145,9 +142,6 @@ pub record Digiting (l₀ : List ℕ) (at count n : ℕ) (l : List ℕ) (rest le
   pub held : sets l at (digits left rest) ≡ sets l₀ at (digits count n)
 
 module _ (l₀ : List ℕ) (at count n : ℕ) where
-  pub digit_none : Digiting l₀ at count n l₀ n count
-  digit_none = record { within = omega arith; same = refl; held = refl }
-
   last : (k rest : ℕ) (l : List ℕ) → sets l at (digits (suc k) rest) ≡ sets (set l (at + k) (48 + rest % 10)) at (digits k (rest / 10))
   unfolding digits
   last k rest l =
@@ -216,22 +210,6 @@ length_written negative whole places part =
     ∙ ap (λ (k : ℕ). digit_count 12 whole + k) (length_point places part))
     ∙ sym (add_assoc (length (sign_text negative)) (digit_count 12 whole) (point_length places))
 
-pub length_point_some : (places part : ℕ) → (places ≡ 0 → ⊥) → length (point_text places part) ≡ places + 1
-length_point_some places part h = length_point places part ∙ rw (ne_eqb places 0 h)
-
--- bytes with room for a text have room for its parts
-pub record Roomy (negative : Bool) (whole places part n : ℕ) : Type 0 where
-  pub sign : 1 ≤ n
-  pub number : length (sign_text negative) + digit_count 12 whole ≤ n
-  pub point : length (sign_text negative) + digit_count 12 whole + length (point_text places part) ≤ n
-
-pub roomy : (negative : Bool) (whole places part n : ℕ) → length (written negative whole places part) ≤ n → Roomy negative whole places part n
-roomy negative whole places part n h =
-    let a = length_written negative whole places part in
-    let b = count_some 12 whole in
-    let d = length_point places part in
-    record { sign = omega (arith, a, b, h); number = omega (arith, a, h); point = omega (arith, a, d, h) }
-
 pub sign_short : (negative : Bool) → length (sign_text negative) ≤ 1
 sign_short true = omega arith
 sign_short false = omega arith
@@ -255,30 +233,43 @@ put_all l negative whole places part sign point e f =
 -- ---- a text in lent bytes
 
 -- where only its length can be against it
-abbrev pub Shown : List ℕ → List ℕ → List ℕ → TextAnswer → Type 0
+abbrev pub Shown : List ℕ → List ℕ → List ℕ → Result ℕ Refusal → Type 0
 Shown text lent left answer = Left (refusal_of (room_tests text lent)) text lent left answer
 
-pub shown_few : (text lent : List ℕ) (n : ℕ) → length text ≡ n → length lent < n → Shown text lent lent (NoText 24)
+pub shown_few : (text lent : List ℕ) (n : ℕ) → length text ≡ n → length lent < n → Shown text lent lent (Err refusal.Text)
 shown_few text lent n e h =
     let k : length lent < length text = omega arith in
     record { answered = rw (lt-ltb (length lent) (length text) k); bytes = rw (lt-ltb (length lent) (length text) k) }
 
 pub shown_all : (text lent left : List ℕ) (n : ℕ) → length text ≡ n → n ≤ length lent → left ≡ sets lent 0 text
-    → Shown text lent left (Length n)
+    → Shown text lent left (Ok n)
 shown_all text lent left n e h b =
     let k : length text ≤ length lent = omega arith in
     record {
-      answered = rw (le-ltb (length lent) (length text) k) (ap Length (sym e));
+      answered = rw (le-ltb (length lent) (length text) k) (ap Ok (sym e));
       bytes = rw (le-ltb (length lent) (length text) k)
           (b ∙ sets-eq text lent 0 (omega (arith, k)) ∙ ap (λ (n : ℕ). text ++ drop n lent) (zero-add (length text)));
     }
 
-pub texted_size : (hz : Float) (text lent : List ℕ) → in_size limit43 hz ≡ false → Texted hz text lent lent (NoText 21)
-texted_size hz text lent h = record { answered = rw h; bytes = rw h }
+pub sized_in : (hz : Float) → sized hz ≡ Ok tt → in_size limit43 hz ≡ true
+sized_in hz h = go (in_size limit43 hz) h
+  where
+    go : (b : Bool) → refusal_of (test refusal.StationFigure (not b) ∷ []) ≡ Ok tt → b ≡ true
+    go true e = refl
+    go false e = absurd (cc)
 
-pub texted_shown : (hz : Float) (text lent left : List ℕ) (r : TextAnswer) → in_size limit43 hz ≡ true → Shown text lent left r
+pub texted_size : (hz : Float) (text lent : List ℕ) (r : Refusal) (answer : Result ℕ Refusal) → sized hz ≡ Err r → answer ≡ Err r
+    → Texted hz text lent lent answer
+texted_size hz text lent r answer h q = go (in_size limit43 hz) h
+  where
+    go : (b : Bool) → refusal_of (test refusal.StationFigure (not b) ∷ []) ≡ Err r
+        → Left (refusal_of (test refusal.StationFigure (not b) ∷ room_tests text lent)) text lent lent answer
+    go true e = absurd (cc)
+    go false e = let p : r ≡ refusal.StationFigure = cc in record { answered = q ∙ ap Err p; bytes = refl }
+
+pub texted_shown : (hz : Float) (text lent left : List ℕ) (r : Result ℕ Refusal) → sized hz ≡ Ok tt → Shown text lent left r
     → Texted hz text lent left r
-texted_shown hz text lent left r h s = record { answered = rw h s.answered; bytes = rw h s.bytes }
+texted_shown hz text lent left r h s = let e = sized_in hz h in record { answered = rw e s.answered; bytes = rw e s.bytes }
 
 -- ---- a figure's text by its decimal
 
@@ -312,27 +303,20 @@ module _ (x : Float) (places units : ℕ) (d : Decimal) (e : units ≡ 10 ^ plac
 
 -- ---- kilohertz are within the limit too
 
-pub khz_within : (hz : Float) → in_size limit43 hz ≡ true → Within 43 (kilohertz hz)
-khz_within hz h = within_more 34 43 (omega arith) (kilohertz hz) (div_within hz (in_size_within hz h))
+pub hertz_within : (hz : Float) → sized hz ≡ Ok tt → Within 43 hz
+hertz_within hz h = in_size_within hz (sized_in hz h)
 
-pub khz_ten_within : (hz : Float) → in_size limit43 hz ≡ true → Within 43 (mul binary64 (kilohertz hz) ten)
-khz_ten_within hz h = within_more 38 43 (omega arith) (mul binary64 (kilohertz hz) ten) (mul_within (kilohertz hz) (div_within hz (in_size_within hz h)))
+pub khz_within : (hz : Float) → sized hz ≡ Ok tt → Within 43 (kilohertz hz)
+khz_within hz h = within_more 34 43 (omega arith) (kilohertz hz) (div_within hz (hertz_within hz h))
 
--- ---- the places of khz
+pub khz_ten_within : (hz : Float) → sized hz ≡ Ok tt → Within 43 (mul binary64 (kilohertz hz) ten)
+khz_ten_within hz h = within_more 38 43 (omega arith) (mul binary64 (kilohertz hz) ten) (mul_within (kilohertz hz) (div_within hz (hertz_within hz h)))
 
-pub khz_none : (k : Float) → near_whole k ≡ true → khz_places k ≡ 0
+pub places_few : (k : Float) → khz_places k ≤ 3
 unfolding khz_places
-khz_none k h = rw h
-
-pub khz_one : (k : Float) → near_whole k ≡ false → near_whole (mul binary64 k ten) ≡ true → khz_places k ≡ 1
-unfolding khz_places
-khz_one k h t = rw h (rw t)
-
-pub khz_three : (k : Float) → near_whole k ≡ false → near_whole (mul binary64 k ten) ≡ false → khz_places k ≡ 3
-unfolding khz_places
-khz_three k h t = rw h (rw t)
-
-pub texted_khz : (hz : Float) (places : ℕ) (lent left : List ℕ) (r : TextAnswer) → in_size limit43 hz ≡ true → khz_places (kilohertz hz) ≡ places
-    → Shown (text_of places (kilohertz hz)) lent left r → Texted hz (khz_text hz) lent left r
-unfolding khz_text
-texted_khz hz places lent left r h e s = rw e (texted_shown hz (text_of places (kilohertz hz)) lent left r h s)
+places_few k = go (near_whole k) (near_whole (mul binary64 k ten))
+  where
+    go : (b c : Bool) → cond b 0 (cond c 1 3) ≤ 3
+    go true c = omega arith
+    go false true = omega arith
+    go false false = omega arith

@@ -1,15 +1,13 @@
 -- The number texts of `at` and `khz`, and whole hertz (document 02, 1): a double's exact value as a decimal, in ASCII.
-use Rattle.std.specs.Prelude.{ℕ, zero, suc, ◌+◌, ◌/◌, ◌%◌, ◌^◌, Bool, cond, not, List, [], ◌∷◌, ◌++◌, ◌≡◌, eqb, ltb, Float, drop, length}
+use Rattle.std.specs.Prelude.{ℕ, zero, suc, ◌+◌, ◌/◌, ◌%◌, ◌^◌, Bool, cond, not, List, [], ◌∷◌, ◌++◌, ◌≡◌, eqb, ltb, Float, drop, length, Result, Ok, Err}
+use Rattle.codes.specs.declared.Refusal.TheVariants as refusal
+use Rattle.codes.specs.Refusal.{Checked, Test, test, refusal_of}
+use Rattle.codes.specs.declared.Refusal.{Refusal}
 use Rattle.std.specs.Float.{binary64}
 use Rattle.std.specs.Float.Ieee.{div, lt, mul, of_bits, sub}
 use Rattle.figures.specs.Figure.{abs_of, in_size}
-use Rattle.codes.specs.Refusal.{Test, test, refusal_of}
-use Rattle.codes.specs.declared.Checked.{Checked}
-use Rattle.codes.specs.declared.Checked.TheVariants.{Accepted, Refused}
 use Rattle.decimal.specs.Decimal.{decimal_of, round_of, sign_of}
 use Rattle.decimal.specs.Within.{limit43, ten, thousand}
-use Rattle.number_texts.specs.declared.TextAnswer.{TextAnswer}
-use Rattle.number_texts.specs.declared.TextAnswer.TheVariants.{Length, Refused as NoText}
 
 -- ---- a text of so many places
 
@@ -78,25 +76,32 @@ hertz_text hz = text_of 0 hz
 
 -- "A figure not finite or above 2^43 in size meets 21. It refuses (24, after 23) when the lent bytes are too few, and writes none."
 abbrev pub room_tests : List ℕ → List ℕ → List Test
-room_tests text lent = test 24 (ltb (length lent) (length text)) ∷ []
+room_tests text lent = test refusal.Text (ltb (length lent) (length text)) ∷ []
+
+abbrev pub size_test : Float → Test
+size_test hz = test refusal.StationFigure (not (in_size limit43 hz))
+
+-- the first of the two
+abbrev pub sized : Float → Checked
+sized hz = refusal_of (size_test hz ∷ [])
 
 abbrev pub text_tests : Float → List ℕ → List ℕ → List Test
-text_tests hz text lent = test 21 (not (in_size limit43 hz)) ∷ room_tests text lent
+text_tests hz text lent = size_test hz ∷ room_tests text lent
 
-abbrev pub text_answer : Checked → List ℕ → TextAnswer
-text_answer Accepted text = Length (length text)
-text_answer (Refused n) text = NoText n
+abbrev pub text_answer : Checked → List ℕ → Result ℕ Refusal
+text_answer (Ok tt) text = Ok (length text)
+text_answer (Err n) text = Err n
 
 -- the text from the first byte on, and behind it what was lent; with a refusal, what was lent
 abbrev pub text_bytes : Checked → List ℕ → List ℕ → List ℕ
-text_bytes Accepted text lent = text ++ drop (length text) lent
-text_bytes (Refused n) text lent = lent
+text_bytes (Ok tt) text lent = text ++ drop (length text) lent
+text_bytes (Err n) text lent = lent
 
 -- an answer and the bytes that were left
-pub record Left (c : Checked) (text lent left : List ℕ) (answer : TextAnswer) : Type 0 where
+pub record Left (c : Checked) (text lent left : List ℕ) (answer : Result ℕ Refusal) : Type 0 where
   pub answered : answer ≡ text_answer c text
   pub bytes : left ≡ text_bytes c text lent
 
 -- what the calls promise
-abbrev pub Texted : Float → List ℕ → List ℕ → List ℕ → TextAnswer → Type 0
+abbrev pub Texted : Float → List ℕ → List ℕ → List ℕ → Result ℕ Refusal → Type 0
 Texted hz text lent left answer = Left (refusal_of (text_tests hz text lent)) text lent left answer

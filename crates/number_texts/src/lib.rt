@@ -1,33 +1,30 @@
 // The number texts of a panel and a log, in lent bytes: the texts of the Rust's `at` and `khz`, and whole hertz. Digits are made in
-// whole numbers alone, three at a time. It uses figures, decimal and digit_groups; its definitions use codes, its laws byte_writes.
+// whole numbers alone, three at a time. It uses codes, figures, decimal and digit_groups; its laws use byte_writes.
 #![tactic(auto)]
 
 ghost use Rattle.std.specs.Prelude.{◌≡◌, ◌+◌, ◌≤◌, ◌<◌, ◌^◌, length};
 ghost use Rattle.std.proofs.lemmas.List.Edits.{sets};
-ghost use Rattle.decimal.specs.Within.{Within};
-ghost use Rattle.number_texts.specs.Text.{digits, digit_count, sign_text, point_text, written, text_of, near_whole, khz_places};
+ghost use Rattle.std.specs.Float.{binary64};
+ghost use Rattle.std.specs.Float.Ieee.{mul};
+ghost use Rattle.decimal.specs.Within.{Within, ten};
+ghost use Rattle.number_texts.specs.Text.{digits, digit_count, sign_text, point_text, written, text_of, near_whole, khz_places, sized};
 ghost use Rattle.number_texts.specs.Text.{at_text, khz_text, hertz_text, Texted};
 ghost use Rattle.number_texts.specs.Laws.{Room, group_set, first_set, point_length, Shown};
 
+use codes::{Checked, Refusal};
 use digit_groups::Group;
 
 // The limit on a figure that is written, 2^43.
 pub const LIMIT: f64 = 8796093022208.0;
 
-// A text's answer: its length, or the refusal's number.
-#[derive(Clone, Copy)]
-pub enum TextAnswer {
-    Length(u32),
-    Refused(u8),
-}
-
 // How many digits a number has, of at most 13, three at a time.
+#[tactic(auto, using(crate::specs::Laws::count_few, crate::specs::Laws::count_two, crate::specs::Laws::count_all, crate::specs::Laws::count_three, crate::specs::Laws::count_end))]
 fn digit_count(n: u64) -> usize
     ensures { result ≡ digit_count 12 n }
 {
     let mut rest = n;
-    let mut count: usize = 1;
-    while count < 13 {
+    for k in 0..4 {
+        let count = 1 + 3 * k;
         if rest < 10 {
             return count;
         }
@@ -37,10 +34,9 @@ fn digit_count(n: u64) -> usize
         if rest < 1000 {
             return count + 2;
         }
-        rest = rest / 1000;
-        count += 3;
+        rest /= 1000;
     }
-    count
+    13
 }
 
 // A group of three digits, from a place on.
@@ -67,6 +63,7 @@ fn put_first(out: &mut [u8], at: usize, count: usize, g: Group)
 }
 
 // The last so many digits of a number, from a place on, three at a time. The one call of `last_three` is compiled into the loop.
+#[tactic(auto, using(crate::specs::Laws::digit_three, crate::specs::Laws::digit_first, crate::specs::Laws::digit_end))]
 fn put_digits(out: &mut [u8], at: usize, count: usize, n: u64)
     requires { at + count ≤ length out.old }
     ensures { out.new ≡ sets out.old at (digits count n) }
@@ -81,7 +78,7 @@ fn put_digits(out: &mut [u8], at: usize, count: usize, n: u64)
         }
         left -= 3;
         put_group(out, at + left, g);
-        rest = rest / 1000;
+        rest /= 1000;
     }
 }
 
@@ -91,19 +88,19 @@ fn put_sign(out: &mut [u8], negative: bool)
     ensures { out.new ≡ sets out.old 0 (sign_text negative) }
 {
     if negative {
-        out[0] = 45;
+        out[0] = b'-';
     }
 }
 
 // The point and the digits after it, where there are places.
 fn put_point(out: &mut [u8], at: usize, places: usize, part: u64)
-    requires { at + length (point_text places part) ≤ length out.old }
+    requires { at + point_length places ≤ length out.old }
     ensures { out.new ≡ sets out.old at (point_text places part) }
 {
     if places == 0 {
         return;
     }
-    out[at] = 46;
+    out[at] = b'.';
     put_digits(out, at + 1, places, part);
 }
 
@@ -111,7 +108,7 @@ fn put_point(out: &mut [u8], at: usize, places: usize, part: u64)
 fn sign_length(negative: bool) -> usize
     ensures { result ≡ length (sign_text negative) }
 {
-    if negative { 1 } else { 0 }
+    negative as usize
 }
 
 fn point_length(places: usize) -> usize
@@ -122,8 +119,9 @@ fn point_length(places: usize) -> usize
 }
 
 // A text, from the first byte on; the whole number has so many digits.
+#[tactic(auto, using(crate::specs::Laws::count_some, crate::specs::Laws::put_all))]
 fn put_text(out: &mut [u8], negative: bool, whole: u64, width: usize, places: usize, part: u64)
-    requires { (width ≡ digit_count 12 whole) × (length (written negative whole places part) ≤ length out.old) }
+    requires { (width ≡ digit_count 12 whole) × (length (sign_text negative) + width + point_length places ≤ length out.old) }
     ensures { out.new ≡ sets out.old 0 (written negative whole places part) }
 {
     let sign = sign_length(negative);
@@ -133,23 +131,36 @@ fn put_text(out: &mut [u8], negative: bool, whole: u64, width: usize, places: us
 }
 
 // The text of a figure with so many places, in the bytes lent. Its length comes first.
-fn show(out: &mut [u8], x: f64, places: usize, units: u64) -> TextAnswer
-    requires { Within 43 x × ((units ≡ 10 ^ places) × (places ≤ 3)) }
+#[tactic(auto, using(crate::specs::Laws::ten_power, crate::specs::Laws::text_length, crate::specs::Laws::text_short, crate::specs::Laws::shown_few, crate::specs::Laws::sign_short, crate::specs::Laws::count_most))]
+fn show(out: &mut [u8], x: f64, places: usize) -> Result<u32, Refusal>
+    requires { Within 43 x × (places ≤ 3) }
     ensures { Shown (text_of places x) out.old out.new result }
 {
+    let units = 10u64.pow(places as u32);
     let d = decimal::rounded(x, units);
     let whole = d.count / units;
     let part = d.count % units;
     let width = digit_count(whole);
     let length = sign_length(d.negative) + width + point_length(places);
     if out.len() < length {
-        return TextAnswer::Refused(24);
+        return Err(Refusal::Text);
     }
     put_text(out, d.negative, whole, width, places, part);
-    TextAnswer::Length(length as u32)
+    Ok(length as u32)
+}
+
+// The size of a figure that is written.
+fn sized(hz: f64) -> Checked
+    ensures { result ≡ sized hz }
+{
+    if figures::in_size(LIMIT, hz) {
+        return Ok(());
+    }
+    Err(Refusal::StationFigure)
 }
 
 // The branch test of khz.
+#[tactic(auto, unfolding(crate::specs::Text::near_whole))]
 fn near_whole(k: f64) -> bool
     requires { Within 43 k }
     ensures { result ≡ near_whole k }
@@ -157,39 +168,45 @@ fn near_whole(k: f64) -> bool
     figures::abs(k - decimal::round(k)) < 1e-6
 }
 
+// The decimals of khz: none, one or three.
+#[tactic(auto, unfolding(crate::specs::Text::khz_places))]
+fn khz_places(k: f64) -> usize
+    requires { Within 43 k × Within 43 (mul binary64 k ten) }
+    ensures { result ≡ khz_places k }
+{
+    if near_whole(k) {
+        return 0;
+    }
+    if near_whole(k * 10.0) {
+        return 1;
+    }
+    3
+}
+
 // The text of a frequency in kilohertz, with three decimals.
-pub fn at(hz: f64, out: &mut [u8]) -> TextAnswer
+#[tactic(auto, using(crate::specs::Laws::texted_size, crate::specs::Laws::texted_shown, crate::specs::Laws::khz_within), unfolding(crate::specs::Text::at_text))]
+pub fn at(hz: f64, out: &mut [u8]) -> Result<u32, Refusal>
     ensures { Texted hz (at_text hz) out.old out.new result }
 {
-    if !figures::in_size(LIMIT, hz) {
-        return TextAnswer::Refused(21);
-    }
-    show(out, hz / 1000.0, 3, 1000)
+    sized(hz)?;
+    show(out, hz / 1000.0, 3)
 }
 
 // The text of a frequency in kilohertz, with as many decimals as it needs: none, one or three.
-pub fn khz(hz: f64, out: &mut [u8]) -> TextAnswer
+#[tactic(auto, using(crate::specs::Laws::texted_size, crate::specs::Laws::texted_shown, crate::specs::Laws::khz_within, crate::specs::Laws::khz_ten_within, crate::specs::Laws::places_few), unfolding(crate::specs::Text::khz_text))]
+pub fn khz(hz: f64, out: &mut [u8]) -> Result<u32, Refusal>
     ensures { Texted hz (khz_text hz) out.old out.new result }
 {
-    if !figures::in_size(LIMIT, hz) {
-        return TextAnswer::Refused(21);
-    }
+    sized(hz)?;
     let k = hz / 1000.0;
-    if near_whole(k) {
-        return show(out, k, 0, 1);
-    }
-    if near_whole(k * 10.0) {
-        return show(out, k, 1, 10);
-    }
-    show(out, k, 3, 1000)
+    show(out, k, khz_places(k))
 }
 
 // The text of a figure in whole hertz.
-pub fn hertz(hz: f64, out: &mut [u8]) -> TextAnswer
+#[tactic(auto, using(crate::specs::Laws::texted_size, crate::specs::Laws::texted_shown, crate::specs::Laws::hertz_within), unfolding(crate::specs::Text::hertz_text))]
+pub fn hertz(hz: f64, out: &mut [u8]) -> Result<u32, Refusal>
     ensures { Texted hz (hertz_text hz) out.old out.new result }
 {
-    if !figures::in_size(LIMIT, hz) {
-        return TextAnswer::Refused(21);
-    }
-    show(out, hz, 0, 1)
+    sized(hz)?;
+    show(out, hz, 0)
 }

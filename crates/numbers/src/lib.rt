@@ -13,80 +13,47 @@ pub fn refusal_number(c: Checked) -> u8
     ensures { result ≡ refusal_number c }
 {
     match c {
-        Checked::Accepted => 0,
-        Checked::Refused(n) => n,
+        Ok(()) => 0,
+        Err(n) => n.into(),
     }
 }
 
 pub fn verdict_number(v: Verdict) -> u8
     ensures { result ≡ verdict_number v }
 {
-    match v {
-        Verdict::Legal => 0,
-        Verdict::Warning => 1,
-        Verdict::Blocked => 2,
-    }
+    v.into()
 }
 
-pub fn code_number(c: Code) -> u8
+// 0 where there is none: a refusal.
+pub fn code_number(c: Option<Code>) -> u8
     ensures { result ≡ code_number c }
 {
-    match c {
-        Code::NoProfile => 1,
-        Code::ProfileBroken => 2,
-        Code::NoRules => 3,
-        Code::Unmeasured => 4,
-        Code::Region => 5,
-        Code::NoControl => 6,
-        Code::NoLicense => 7,
-        Code::NoSideband => 8,
-        Code::NoDial => 9,
-        Code::OutOfBand => 10,
-        Code::AutomaticExcluded => 11,
-        Code::TooWide => 12,
-        Code::OutsideDataSegment => 13,
-        Code::NoDataHere => 14,
-        Code::Privilege => 15,
-        Code::Permitted => 16,
-        Code::AutomaticSegment => 17,
-        Code::AutomaticOutside => 18,
-        Code::AutomaticBandwidth => 19,
-        Code::AutomaticOriginate => 20,
-        Code::AutomaticResponse => 21,
-        Code::SixtyEmission => 22,
-        Code::SixtyOffChannel => 23,
-        Code::SixtyChannel => 24,
-        Code::SixtySegment => 25,
-        Code::NoCode => 0,
-    }
+    c.map_or(0, u8::from)
 }
 
 pub fn edge_number(e: Edge) -> u8
     ensures { result ≡ edge_number e }
 {
-    match e {
-        Edge::Lower => 0,
-        Edge::Upper => 1,
-    }
+    e.into()
 }
 
-pub fn overshoot_number(o: Overshoot) -> u8
+pub fn overshoot_number(o: Option<Overshoot>) -> u8
     ensures { result ≡ overshoot_number o }
 {
     match o {
-        Overshoot::Beyond(_, _) => 1,
-        Overshoot::TooClose(_) => 2,
-        Overshoot::NoOvershoot => 0,
+        Some(Overshoot::Beyond(_, _)) => 1,
+        Some(Overshoot::TooClose(_)) => 2,
+        None => 0,
     }
 }
 
-pub fn guidance_number(g: Guidance) -> u8
+pub fn guidance_number(g: Option<Guidance>) -> u8
     ensures { result ≡ guidance_number g }
 {
     match g {
-        Guidance::Avoid(_) => 1,
-        Guidance::Inside(_) => 2,
-        Guidance::Outside => 3,
-        Guidance::NoGuidance => 0,
+        Some(Guidance::Avoid(_)) => 1,
+        Some(Guidance::Inside(_)) => 2,
+        Some(Guidance::Outside) => 3,
+        None => 0,
     }
 }

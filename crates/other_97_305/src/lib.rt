@@ -10,7 +10,7 @@ ghost use Rattle.part97.specs.Part97.{other_rule, emitted, keyed};
 ghost use Rattle.part97.specs.Finding.{concluded};
 
 use codes::EmissionKind;
-use decision::{BandNumber, Code, Verdict};
+use decision::{Code, Verdict};
 use layout::General;
 use part97::{Case, Finding, Privileged};
 use profile::Range;
@@ -19,59 +19,40 @@ fn other_rule(kind: EmissionKind) -> u16
     ensures { result ≡ other_rule kind }
 {
     match kind {
-        EmissionKind::Data => decision::RULE_97_301,
         EmissionKind::Cw => decision::RULE_97_305A,
         EmissionKind::Test => decision::RULE_97_305B,
-        EmissionKind::Nothing => decision::RULE_97_301,
+        EmissionKind::Data | EmissionKind::Nothing => decision::RULE_97_301,
     }
 }
 
 // An emission that is allowed wherever the operator's privileges allow it.
+#[tactic(auto, using(part97::specs::Finding::on_band_holds))]
 pub fn judge_emitted(s: &[u8], c: Case, band: u8, kind: EmissionKind) -> Finding
     requires { Whole s.now }
     ensures { concluded (table_of s.now) c result ≡ emitted (table_of s.now) c band kind }
 {
-    let place = BandNumber::Band(band);
-    match privileges_97_301::privileged(s, c, kind) {
-        Privileged::Granted => {
-            findings::on_band(place, Verdict::Legal, Code::Permitted, other_rule(kind))
-        }
-        Privileged::Forbidden => {
-            findings::on_band(
-                place,
-                Verdict::Blocked,
-                Code::Privilege,
-                decision::RULE_97_307F9,
-            )
-        }
-        Privileged::Unheld => {
-            findings::on_band(
-                place,
-                Verdict::Blocked,
-                Code::Privilege,
-                decision::RULE_97_301,
-            )
-        }
-    }
+    let (verdict, code, rule) = match privileges_97_301::privileged(s, c, kind) {
+        Privileged::Granted => (Verdict::Legal, Code::Permitted, other_rule(kind)),
+        Privileged::Forbidden => (Verdict::Blocked, Code::Privilege, decision::RULE_97_307F9),
+        Privileged::Unheld => (Verdict::Blocked, Code::Privilege, decision::RULE_97_301),
+    };
+    findings::on_band(Some(band), verdict, code, rule)
 }
 
 // Keyed with no audio: some privilege holds the dial.
+#[tactic(auto, using(part97::specs::Finding::on_band_holds))]
 pub fn judge_keyed(s: &[u8], g: General, c: Case, band: u8) -> Finding
     requires { (Whole s.now) × (g ≡ general_of s.now) }
     ensures { concluded (table_of s.now) c result ≡ keyed (table_of s.now) c band }
 {
-    let place = BandNumber::Band(band);
     let dial = Range {
         low_hz: c.dial_hz,
         high_hz: c.dial_hz,
     };
-    if privileges_97_301::some_privilege(s, c, dial) {
-        return findings::on_band(
-            place,
-            Verdict::Legal,
-            Code::Permitted,
-            decision::RULE_97_301,
-        );
-    }
-    findings::on_band(place, Verdict::Blocked, Code::Privilege, g.privileges_rule)
+    let (verdict, code, rule) = if privileges_97_301::some_privilege(s, c, dial) {
+        (Verdict::Legal, Code::Permitted, decision::RULE_97_301)
+    } else {
+        (Verdict::Blocked, Code::Privilege, g.privileges_rule)
+    };
+    findings::on_band(Some(band), verdict, code, rule)
 }

@@ -9,7 +9,7 @@ ghost use Rattle.table.specs.Table.{table_of};
 ghost use Rattle.part97.specs.Part97.{below, above, reach, overshoot_by, overshoot_of, nearer_by, considered, nearest_up_to};
 
 use decision::{Edge, Overshoot};
-use part97::{Case, Nearest};
+use part97::Case;
 use profile::Range;
 
 // How far a signal reaches below a segment, and above it.
@@ -42,6 +42,7 @@ fn overshoot_by(by: f64, edge: Edge) -> Overshoot
 }
 
 // Beyond an edge by a distance, or merely too close to an edge.
+#[tactic(auto, unfolding(part97::specs::Part97::overshoot_of))]
 pub fn overshoot_of(segment: Range, air: Range) -> Overshoot
     ensures { result ≡ overshoot_of segment air }
 {
@@ -55,46 +56,38 @@ pub fn overshoot_of(segment: Range, air: Range) -> Overshoot
 }
 
 // Of two segments the one with the less overshoot, the earlier at a tie.
-fn nearer_by(best: Nearest, i: usize, by: f64) -> Nearest
+fn nearer_by(best: Option<(usize, f64)>, i: usize, by: f64) -> Option<(usize, f64)>
     ensures { result ≡ nearer_by best i by }
 {
     match best {
-        Nearest::Near(j, least) => {
-            if figures::total_less(by, least) {
-                Nearest::Near(i, by)
-            } else {
-                Nearest::Near(j, least)
-            }
-        }
-        Nearest::NoneNear => Nearest::Near(i, by),
+        Some((_, least)) if !figures::total_less(by, least) => best,
+        _ => Some((i, by)),
     }
 }
 
-fn consider(c: Case, best: Nearest, i: usize, segment: Range) -> Nearest
+#[tactic(auto, unfolding(part97::specs::Part97::considered))]
+fn consider(c: Case, best: Option<(usize, f64)>, i: usize, segment: Range) -> Option<(usize, f64)>
     ensures { result ≡ considered c best i segment }
 {
-    let guarded = c.guarded;
-    let air = c.air;
-    if segment.overlaps(guarded) {
-        nearer_by(best, i, reach_of(segment, air))
+    if segment.overlaps(c.guarded) {
+        nearer_by(best, i, reach_of(segment, c.air))
     } else {
         best
     }
 }
 
 // Among the segments that overlap the guarded range the one with the least overshoot, the first at a tie.
-pub fn nearest_segment(s: &[u8], c: Case) -> Nearest
+#[tactic(auto, using(layout::specs::Laws::table_within, table::specs::Laws::read_in, part97::specs::Laws::nearest_more), unfolding(part97::specs::Part97::nearest_up_to))]
+pub fn nearest_segment(s: &[u8], c: Case) -> Option<(usize, f64)>
     requires { Whole s.now }
     ensures { result ≡ nearest_up_to (table_of s.now) c (count_of s.now segments) }
 {
     let start = layout::start_of(s, layout::SEGMENTS);
     let count = layout::count_of(s, layout::SEGMENTS) as usize;
-    let mut best = Nearest::NoneNear;
-    let mut i: usize = 0;
-    while i < count {
+    let mut best = None;
+    for i in 0..count {
         let segment = table::span_of(layout::record_at(s, start + layout::RECORD_SIZE * i));
         best = consider(c, best, i, segment);
-        i += 1;
     }
     best
 }

@@ -1,7 +1,8 @@
 -- What the gate answers for a transmission under 47 CFR Part 97, as a table of an administration's rules states it. The tests stand in
 -- the order in which they are made; the last definition, `judge`, makes the first. The paragraphs are named as document 01 and the
 -- original's comments name them. After the list of names from other files stands how to read the rules.
-use Rattle.std.specs.Prelude.{ℕ, zero, suc, Bool, true, false, not, cond, ◌&&◌, ◌||◌, List, eqb, set, Float}
+use Rattle.std.specs.Prelude.{ℕ, zero, suc, Bool, true, false, not, cond, ◌&&◌, ◌||◌, List, eqb, set, Float, Option, Some, None}
+use Rattle.table.specs.declared.Elsewhere.{Elsewhere}
 use Rattle.std.specs.Float.{binary64}
 use Rattle.std.specs.Float.Ieee.{add, sub, lt, le}
 use Rattle.figures.specs.Figure.{zero_hz, max_of, abs_of, midpoint_of, total_less, figure_of}
@@ -16,9 +17,6 @@ use Rattle.profile.specs.declared.Range.{Range}
 use Rattle.profile.specs.declared.DataLimit.{DataLimit}
 use Rattle.air.specs.Air.{wider}
 use Rattle.scan.specs.First.{on_found}
-use Rattle.scan.specs.declared.Found.{Found}
-use Rattle.station.specs.declared.Figure.{Figure}
-use Rattle.station.specs.declared.Figure.TheVariants.{Known, Absent}
 use Rattle.layout.specs.Layout.{bands, segments, channels, privileges, automatic, excluded, power, plan_data, plan_avoid}
 use Rattle.table.specs.Table.{Table}
 use Rattle.table.specs.Parts.{span_of, band_of, segment_of, centre_of, privilege_of, excluded_of, power_of, data_of, elsewhere_of, channels_of, sixty_of, has_plan}
@@ -26,13 +24,7 @@ use Rattle.table.specs.declared.Band.{Band as BandRecord}
 use Rattle.table.specs.declared.Segment.{Segment as SegmentRecord}
 use Rattle.table.specs.declared.Privilege.{Privilege as PrivilegeRecord}
 use Rattle.table.specs.declared.PowerLimit.{PowerLimit}
-use Rattle.table.specs.declared.ElsewhereRule.{ElsewhereRule}
-use Rattle.table.specs.declared.ElsewhereRule.TheVariants.{Under, Nowhere}
 use Rattle.table.specs.declared.Channels.{Channels}
-use Rattle.table.specs.declared.ChannelBand.{ChannelBand}
-use Rattle.table.specs.declared.ChannelBand.TheVariants.{On, NoChannels}
-use Rattle.table.specs.declared.SixtyEmissions.{SixtyEmissions}
-use Rattle.table.specs.declared.SixtyEmissions.TheVariants.{Allowed, AnyEmission}
 use Rattle.find.specs.Question.{first_in, some_in}
 use Rattle.find.specs.declared.Question.TheVariants.{Holds, Overlaps, OfBand, BandHolds, ClassHolds, ChannelOverlaps}
 use Rattle.automatic_97_221.specs.Automatic.{responds}
@@ -47,20 +39,14 @@ use Rattle.decision.specs.declared.Code.TheVariants.{AutomaticResponse, SixtyEmi
 use Rattle.decision.specs.declared.Edge.{Edge}
 use Rattle.decision.specs.declared.Edge.TheVariants.{Lower, Upper}
 use Rattle.decision.specs.declared.Overshoot.{Overshoot}
-use Rattle.decision.specs.declared.Overshoot.TheVariants.{Beyond, TooClose, NoOvershoot}
+use Rattle.decision.specs.declared.Overshoot.TheVariants.{Beyond, TooClose}
 use Rattle.decision.specs.declared.Guidance.{Guidance}
-use Rattle.decision.specs.declared.Guidance.TheVariants.{Avoid, Inside, Outside, NoGuidance}
-use Rattle.decision.specs.declared.BandNumber.{BandNumber}
-use Rattle.decision.specs.declared.BandNumber.TheVariants.{Band, NoBand}
-use Rattle.decision.specs.declared.JudgedSegment.TheVariants.{Segment, NoSegment}
-use Rattle.decision.specs.declared.MaybeRange.TheVariants.{Is, NoRange}
+use Rattle.decision.specs.declared.Guidance.TheVariants.{Avoid, Inside, Outside}
 use Rattle.decision.specs.declared.SixtyNotes.{SixtyNotes}
 use Rattle.decision.specs.declared.Draft.{Draft}
 use Rattle.decision.specs.declared.Advice.{Advice}
 use Rattle.decision.specs.declared.Decision.{Decision}
 use Rattle.part97.specs.declared.Case.{Case}
-use Rattle.part97.specs.declared.Nearest.{Nearest}
-use Rattle.part97.specs.declared.Nearest.TheVariants.{Near, NoneNear}
 use Rattle.part97.specs.declared.Privileged.{Privileged}
 use Rattle.part97.specs.declared.Privileged.TheVariants.{Granted, Forbidden, Unheld}
 
@@ -99,15 +85,15 @@ general_limit table = data_of table.general
 -- ---- a decision's facts, as they become known
 
 -- the signal alone, on a band (or on none)
-unfoldable pub draft_of : Case → BandNumber → Draft
+unfoldable pub draft_of : Case → Option ℕ → Draft
 draft_of c band =
     record {
       audio = c.audio;
       width = c.width;
-      air = Is c.air;
+      air = Some c.air;
       band = band;
-      segment = NoSegment;
-      automatic_segment = NoRange;
+      segment = None;
+      automatic_segment = None;
     }
 
 -- judged against a segment, which has a rule
@@ -116,10 +102,10 @@ draft_inside c band segment rule =
     record {
       audio = c.audio;
       width = c.width;
-      air = Is c.air;
-      band = Band band;
-      segment = Segment segment rule;
-      automatic_segment = NoRange;
+      air = Some c.air;
+      band = Some band;
+      segment = Some (segment, rule);
+      automatic_segment = None;
     }
 
 -- and inside a segment for automatic control
@@ -128,10 +114,10 @@ draft_automatic c band segment rule inside =
     record {
       audio = c.audio;
       width = c.width;
-      air = Is c.air;
-      band = Band band;
-      segment = Segment segment rule;
-      automatic_segment = Is inside;
+      air = Some c.air;
+      band = Some band;
+      segment = Some (segment, rule);
+      automatic_segment = Some inside;
     }
 
 -- ---- 97.301, 97.305(a), (b), 97.307(f)(9): the operator's privileges
@@ -158,9 +144,9 @@ some_privilege table c r = some_in table privileges (ClassHolds (class_code c.cl
 -- ---- 97.313 and the band plan: what an operator is told of a lawful data transmission over a range
 
 -- a power limit that reaches into the range, is meant for the class, and is exceeded
-abbrev pub exceeds : Figure → Float → Bool
-exceeds (Known watts) most = lt most watts
-exceeds Absent most = false
+abbrev pub exceeds : Option Float → Float → Bool
+exceeds (Some watts) most = lt most watts
+exceeds None most = false
 
 unfoldable pub noted : Case → Range → PowerLimit → Bool
 noted c r limit = overlaps_of limit.range r && (meant_of limit.classes c.class && exceeds c.power limit.max_w)
@@ -185,15 +171,15 @@ plan_says table r = on_found (first_in table plan_avoid (Overlaps r)) Avoid (on_
 unfoldable pub wants_plan : Table → Case → Bool
 wants_plan table c = c.band_plan && has_plan table.general
 
-unfoldable pub guidance_of : Table → Case → Range → Guidance
-guidance_of table c r = cond (wants_plan table c) (plan_says table r) NoGuidance
+unfoldable pub guidance_of : Table → Case → Range → Option Guidance
+guidance_of table c r = cond (wants_plan table c) (Some (plan_says table r)) None
 
 -- whether the plan calls for a warning; inside an area for data it calls for none, and takes none away that the power limits give
-abbrev pub plan_warns : Guidance → Bool
-plan_warns (Avoid i) = true
-plan_warns (Inside i) = false
-plan_warns Outside = true
-plan_warns NoGuidance = false
+abbrev pub plan_warns : Option Guidance → Bool
+plan_warns (Some (Avoid i)) = true
+plan_warns (Some (Inside i)) = false
+plan_warns (Some Outside) = true
+plan_warns None = false
 
 abbrev pub warned : Bool → Verdict
 warned b = cond b Warning Legal
@@ -207,7 +193,7 @@ advice_warns table c r = any_note (note_at table c r) (table.count power) || pla
 
 -- lawful, with what the operator should know
 unfoldable pub advised : Table → Case → Range → Draft → Code → ℕ → Decision
-advised table c r draft code rule = finish_of draft (warned (advice_warns table c r)) code rule NoOvershoot (advice_of table c r)
+advised table c r draft code rule = finish_of draft (warned (advice_warns table c r)) code rule None (advice_of table c r)
 
 -- ---- 97.221: automatically controlled digital stations
 
@@ -221,12 +207,12 @@ advised_automatic table c draft code rule = advised table c c.advised draft code
 
 -- 97.221(c), outside the segments of 97.221(b): only where the table allows it at all, no wider than its limit, and, where it
 -- requires a response, only answering interrogation
-unfoldable pub automatic_elsewhere : Table → Case → Draft → ElsewhereRule → Decision
-automatic_elsewhere table c draft (Under e) =
+unfoldable pub automatic_elsewhere : Table → Case → Draft → Option Elsewhere → Decision
+automatic_elsewhere table c draft (Some e) =
     cond (wider c.width e.max_bandwidth_hz) (simple_of draft Blocked AutomaticBandwidth e.rule)
     (cond (e.requires_response && not (responds c.direction)) (simple_of draft Blocked AutomaticOriginate e.rule)
     (advised_automatic table c draft AutomaticResponse e.rule))
-automatic_elsewhere table c draft Nowhere = simple_of draft Blocked AutomaticOutside (automatic_rule_of table)
+automatic_elsewhere table c draft None = simple_of draft Blocked AutomaticOutside (automatic_rule_of table)
 
 -- 97.221(b): inside a segment for automatic control, or else by (c)
 unfoldable pub automatic_data : Table → Case → ℕ → Range → ℕ → Decision
@@ -250,22 +236,22 @@ abbrev pub reach : Range → Range → Float
 reach segment air = add binary64 (below segment air) (above segment air)
 
 -- of two segments the one with the less overshoot, the earlier at a tie
-abbrev pub nearer_by : Nearest → ℕ → Float → Nearest
-nearer_by (Near j least) i by = cond (total_less by least) (Near i by) (Near j least)
-nearer_by NoneNear i by = Near i by
+abbrev pub nearer_by : Option (ℕ × Float) → ℕ → Float → Option (ℕ × Float)
+nearer_by (Some (j, least)) i by = cond (total_less by least) (Some (i, by)) (Some (j, least))
+nearer_by None i by = Some (i, by)
 
 -- segment i is in question where it overlaps the guarded range; its overshoot is the unguarded signal's
-unfoldable pub considered : Case → Nearest → ℕ → Range → Nearest
+unfoldable pub considered : Case → Option (ℕ × Float) → ℕ → Range → Option (ℕ × Float)
 considered c best i segment = cond (overlaps_of segment c.guarded) (nearer_by best i (reach segment c.air)) best
 
 -- "among segments overlapping the guarded range take the least overshoot (unguarded), first at a tie": of the first n
-unfoldable pub nearest_up_to : Table → Case → ℕ → Nearest
-nearest_up_to table c zero = NoneNear
+unfoldable pub nearest_up_to : Table → Case → ℕ → Option (ℕ × Float)
+nearest_up_to table c zero = None
 nearest_up_to table c (suc n) = considered c (nearest_up_to table c n) n (segment_at table n).range
 
-abbrev pub on_nearest : {A : Type 0} → Nearest → (ℕ → A) → A → A
-on_nearest (Near i by) f a = f i
-on_nearest NoneNear f a = a
+abbrev pub on_nearest : {A : Type 0} → Option (ℕ × Float) → (ℕ → A) → A → A
+on_nearest (Some (i, by)) f a = f i
+on_nearest None f a = a
 
 -- "beyond an edge by a distance or merely too close to an edge"
 abbrev pub overshoot_by : Float → Edge → Overshoot
@@ -282,8 +268,8 @@ outside_segments table c band =
     on_nearest (nearest_up_to table c (table.count segments))
     (λ i.
     finish_of (draft_inside c band (segment_at table i).range (segment_at table i).rule) Blocked OutsideDataSegment (segment_at table i).rule
-    (overshoot_of (segment_at table i).range c.air) no_advice)
-    (simple_of (draft_of c (Band band)) Blocked NoDataHere §97-305c)
+    (Some (overshoot_of (segment_at table i).range c.air)) no_advice)
+    (simple_of (draft_of c (Some band)) Blocked NoDataHere §97-305c)
 
 -- inside a data segment: the operator's privileges (97.301), then automatic control (97.221)
 unfoldable pub inside_segment : Table → Case → ℕ → SegmentRecord → Decision
@@ -293,15 +279,15 @@ inside_segment table c band s =
     (advised table c c.air (draft_inside c band s.range s.rule) Permitted s.rule))
 
 -- 97.307(f): the widest data emission, by the segment that holds the guarded range, else the general limit
-abbrev pub limit_for : Table → Found → DataLimit
+abbrev pub limit_for : Table → Option ℕ → DataLimit
 limit_for table found =
     on_found found (λ i. data_limit_of (segment_at table i).own (segment_at table i).second (general_limit table)) (general_limit table)
 
 abbrev pub blocked_too_wide : Case → ℕ → DataLimit → Decision
-blocked_too_wide c band limit = simple_of (draft_of c (Band band)) Blocked TooWide limit.rule
+blocked_too_wide c band limit = simple_of (draft_of c (Some band)) Blocked TooWide limit.rule
 
 -- 97.305(c), by the first data segment that holds the guarded range; too wide comes before "no segment"
-unfoldable pub judge_data : Table → Case → ℕ → Found → Decision
+unfoldable pub judge_data : Table → Case → ℕ → Option ℕ → Decision
 judge_data table c band found =
     cond (wider c.width (limit_for table found).max_bandwidth_hz)
     (blocked_too_wide c band (limit_for table found))
@@ -319,13 +305,13 @@ other_rule NoEmission = §97-301
 -- an emission that is allowed wherever the operator's privileges allow it
 abbrev pub emitted : Table → Case → ℕ → EmissionKind → Decision
 emitted table c band kind =
-    under_privilege (privileged_of table c kind) (draft_of c (Band band)) (simple_of (draft_of c (Band band)) Legal Permitted (other_rule kind))
+    under_privilege (privileged_of table c kind) (draft_of c (Some band)) (simple_of (draft_of c (Some band)) Legal Permitted (other_rule kind))
 
 -- keyed with no audio: some privilege holds the dial
 abbrev pub keyed : Table → Case → ℕ → Decision
 keyed table c band =
-    cond (some_privilege table c (range c.dial_hz c.dial_hz)) (simple_of (draft_of c (Band band)) Legal Permitted §97-301)
-    (simple_of (draft_of c (Band band)) Blocked Privilege table.general.privileges_rule)
+    cond (some_privilege table c (range c.dial_hz c.dial_hz)) (simple_of (draft_of c (Some band)) Legal Permitted §97-301)
+    (simple_of (draft_of c (Some band)) Blocked Privilege table.general.privileges_rule)
 
 -- by the kind of emission, off 60 m
 abbrev pub off_sixty : Table → Case → ℕ → EmissionKind → Decision
@@ -347,7 +333,7 @@ segment_watts_of table = figure_of table.general.segment_watts
 -- allowed on 60 m, with its notes
 unfoldable pub allowed_on_sixty : Draft → Bool → Code → ℕ → SixtyNotes → Decision
 allowed_on_sixty draft warn code rule marks =
-    finish_of draft (warned warn) code rule NoOvershoot (record { guidance = NoGuidance; notes = no_notes; sixty = marks })
+    finish_of draft (warned warn) code rule None (record { guidance = None; notes = no_notes; sixty = marks })
 
 -- a CW carrier on the channel's centre, within the tolerance
 abbrev pub cw_on_channel : Case → Channels → Float → Bool
@@ -415,46 +401,46 @@ unfoldable pub sixty_place : Table → Case → Channels → Decision
 sixty_place table c ch =
     on_found (first_in table channels (ChannelOverlaps ch.width_hz c.guarded))
     (λ i. sixty_overlap table c ch (centre_of (table.at channels i)))
-    (in_sixty_segment table c ch (simple_of (draft_of c (Band ch.band)) Blocked SixtyOffChannel ch.rule))
+    (in_sixty_segment table c ch (simple_of (draft_of c (Some ch.band)) Blocked SixtyOffChannel ch.rule))
 
 -- 97.307(f)(14): the emissions allowed on 60 m; the bit for keying alone is never asked for
-unfoldable pub sixty_emission : Table → Case → Channels → SixtyEmissions → Decision
-sixty_emission table c ch (Allowed bits rule) =
-    cond (bit_of bits (kind_code c.kind)) (sixty_place table c ch) (simple_of (draft_of c (Band ch.band)) Blocked SixtyEmission rule)
-sixty_emission table c ch AnyEmission = sixty_place table c ch
+unfoldable pub sixty_emission : Table → Case → Channels → Option (ℕ × ℕ) → Decision
+sixty_emission table c ch (Some (bits, rule)) =
+    cond (bit_of bits (kind_code c.kind)) (sixty_place table c ch) (simple_of (draft_of c (Some ch.band)) Blocked SixtyEmission rule)
+sixty_emission table c ch None = sixty_place table c ch
 
 -- "Nothing is then permitted."
 unfoldable pub sixty_kind : Table → Case → Channels → EmissionKind → Decision
 sixty_kind table c ch Data = sixty_emission table c ch (sixty_of table.general)
 sixty_kind table c ch Cw = sixty_emission table c ch (sixty_of table.general)
 sixty_kind table c ch Test = sixty_emission table c ch (sixty_of table.general)
-sixty_kind table c ch NoEmission = simple_of (draft_of c (Band ch.band)) Legal Permitted §97-301
+sixty_kind table c ch NoEmission = simple_of (draft_of c (Some ch.band)) Legal Permitted §97-301
 
 -- "some privilege must hold the unguarded range; emission lists of privileges aren't read"
 unfoldable pub sixty : Table → Case → Channels → Decision
 sixty table c ch =
     cond (some_privilege table c c.air) (sixty_kind table c ch c.kind)
-    (simple_of (draft_of c (Band ch.band)) Blocked Privilege §97-301)
+    (simple_of (draft_of c (Some ch.band)) Blocked Privilege §97-301)
 
 -- ---- 97.301, 97.109(d): the band, and where automatic control is not allowed at all
 
 -- 60 m is the band that has the channels' number
-unfoldable pub judge_on_band : Table → Case → ℕ → ChannelBand → Decision
-judge_on_band table c band (On ch) = cond (eqb ch.band band) (sixty table c ch) (off_sixty table c band c.kind)
-judge_on_band table c band NoChannels = off_sixty table c band c.kind
+unfoldable pub judge_on_band : Table → Case → ℕ → Option Channels → Decision
+judge_on_band table c band (Some ch) = cond (eqb ch.band band) (sixty table c ch) (off_sixty table c band c.kind)
+judge_on_band table c band None = off_sixty table c band c.kind
 
 -- an excluded band, for a station to which 97.221 applies
 unfoldable pub judge_in_band : Table → Case → ℕ → Decision
 judge_in_band table c band =
     cond c.automatic
     (on_found (first_in table excluded (OfBand band))
-    (λ x. simple_of (draft_of c (Band band)) Blocked AutomaticExcluded (excluded_of (table.at excluded x)).rule)
+    (λ x. simple_of (draft_of c (Some band)) Blocked AutomaticExcluded (excluded_of (table.at excluded x)).rule)
     (judge_on_band table c band (channels_of table.general)))
     (judge_on_band table c band (channels_of table.general))
 
 -- the first band that the guarded range touches
-unfoldable pub touching : Table → Case → BandNumber
-touching table c = on_found (first_in table bands (Overlaps c.guarded)) (λ b. Band (band_at table b).band) NoBand
+unfoldable pub touching : Table → Case → Option ℕ
+touching table c = on_found (first_in table bands (Overlaps c.guarded)) (λ b. Some (band_at table b).band) None
 
 -- 97.301: the first band that holds the guarded range
 unfoldable pub judge : Table → Case → Decision

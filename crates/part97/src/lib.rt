@@ -1,12 +1,11 @@
 // 47 CFR Part 97 as a definition: specs/Part97.antt says what the gate answers for a transmission, over what an accepted
 // table says. No code; the structs are what every judgement works from and what it finds. It uses figures, codes, profile,
-// air, table, find, decision, station and automatic_97_221.
+// air, scan, layout, table, find, decision and automatic_97_221.
 #![tactic(auto)]
 
 use codes::{Direction, EmissionKind, LicenseClass, Sideband};
-use decision::{BandNumber, Code, JudgedSegment, MaybeRange, Overshoot, SixtyNotes, Verdict};
+use decision::{Code, Overshoot, SixtyNotes, Verdict};
 use profile::Range;
-use station::Figure;
 
 // The facts every judgement works from, once the prerequisites are met.
 #[derive(Clone, Copy)]
@@ -26,7 +25,7 @@ pub struct Case {
     pub guarded: Range,
     // The guarded range with the margin taken off again: what an automatic station's advice goes by.
     pub advised: Range,
-    pub power: Figure,
+    pub power: Option<f64>,
     // Whether to say where the voluntary band plan differs.
     pub band_plan: bool,
 }
@@ -39,24 +38,17 @@ pub enum Privileged {
     Unheld,
 }
 
-// The nearest data segment so far, with its overshoot.
-#[derive(Clone, Copy)]
-pub enum Nearest {
-    Near(usize, f64),
-    NoneNear,
-}
-
 // What judging finds: all of a decision that does not stand in the case. Where the operator is to be told of power limits and
 // the plan, `over` has the range that they are asked over; they then settle the verdict.
 #[derive(Clone, Copy)]
 pub struct Finding {
-    pub band: BandNumber,
-    pub segment: JudgedSegment,
-    pub automatic_segment: MaybeRange,
+    pub band: Option<u8>,
+    pub segment: Option<(Range, u16)>,
+    pub automatic_segment: Option<Range>,
     pub verdict: Verdict,
     pub code: Code,
     pub rule: u16,
-    pub overshoot: Overshoot,
+    pub overshoot: Option<Overshoot>,
     pub sixty: SixtyNotes,
-    pub over: MaybeRange,
+    pub over: Option<Range>,
 }

@@ -4,7 +4,7 @@
 // layout and coded; its laws use figures, bit_order, profile, table and find.
 #![tactic(auto)]
 
-ghost use Rattle.std.specs.Prelude.{◌+◌, ◌*◌, ◌≤◌, ◌<◌, ◌≡◌, false, length};
+ghost use Rattle.std.specs.Prelude.{◌+◌, ◌*◌, ◌≤◌, ◌<◌, ◌≡◌, ℕ, Bool, false, length};
 ghost use Rattle.scan.specs.First.{first, some, is_at};
 ghost use Rattle.layout.specs.Layout.{record_at, count_of};
 ghost use Rattle.layout.specs.Form.{Whole};
@@ -15,12 +15,12 @@ ghost use Rattle.plain.specs.Quick.{range_within, point_within, listed_privilege
 ghost use Rattle.plain.specs.Home.{held_bits};
 
 use layout::Record;
-use scan::Found;
 
 // The bits of 2^40.
 const LIMIT_BITS: u64 = 0x4270_0000_0000_0000;
 
 // Plain figures.
+#[tactic(auto, unfolding(crate::specs::Plain::sized_of))]
 fn is_sized(r: Record) -> bool
     ensures { result ≡ sized_of r }
 {
@@ -28,6 +28,7 @@ fn is_sized(r: Record) -> bool
 }
 
 // A positive length, where the table asks for one.
+#[tactic(auto, unfolding(crate::specs::Plain::long_of))]
 fn is_long(t: usize, r: Record) -> bool
     ensures { result ≡ long_of t r }
 {
@@ -41,11 +42,12 @@ fn is_long(t: usize, r: Record) -> bool
 }
 
 // An own limit of a segment is positive.
+#[tactic(auto, unfolding(crate::specs::Plain::limited_of))]
 fn is_limited(t: usize, r: Record) -> bool
     ensures { result ≡ limited_of t r }
 {
     if t == layout::SEGMENTS {
-        if codes::bit0(r.flags) {
+        if codes::bit(r.flags, 0) {
             return 0 < r.figure;
         }
         return true;
@@ -54,6 +56,7 @@ fn is_limited(t: usize, r: Record) -> bool
 }
 
 // All the tests of a record.
+#[tactic(auto, unfolding(crate::specs::Plain::plain_of))]
 fn whole_test(t: usize, r: Record) -> bool
     ensures { result ≡ plain_of t r }
 {
@@ -61,6 +64,7 @@ fn whole_test(t: usize, r: Record) -> bool
 }
 
 // Fewer tests, for a record with a range: what its parts are at most.
+#[tactic(auto, unfolding(crate::specs::Quick::range_within))]
 fn range_at(s: &[u8], at: usize, figure: u64, band: u8, lists: u32, rules: u32) -> bool
     requires { at + 32 ≤ length s.now }
     ensures { result ≡ range_within figure band lists rules (record_at s.now at) }
@@ -74,6 +78,7 @@ fn range_at(s: &[u8], at: usize, figure: u64, band: u8, lists: u32, rules: u32) 
 }
 
 // And for one with no high end.
+#[tactic(auto, unfolding(crate::specs::Quick::point_within))]
 fn point_at(s: &[u8], at: usize, low: u64, lists: u32, rules: u32) -> bool
     requires { at + 32 ≤ length s.now }
     ensures { result ≡ point_within low lists rules (record_at s.now at) }
@@ -85,6 +90,7 @@ fn point_at(s: &[u8], at: usize, low: u64, lists: u32, rules: u32) -> bool
 }
 
 // A privilege with a list of emissions.
+#[tactic(auto, unfolding(crate::specs::Quick::listed_privilege))]
 fn is_listed(r: Record) -> bool
     ensures { result ≡ listed_privilege r }
 {
@@ -98,6 +104,7 @@ fn is_listed(r: Record) -> bool
 }
 
 // And for a privilege, with or without one.
+#[tactic(auto, unfolding(crate::specs::Quick::privilege_within))]
 fn privilege_at(s: &[u8], at: usize) -> bool
     requires { at + 32 ≤ length s.now }
     ensures { result ≡ privilege_within (record_at s.now at) }
@@ -105,7 +112,26 @@ fn privilege_at(s: &[u8], at: usize) -> bool
     range_at(s, at, 0, 0, 1024, 0) || is_listed(layout::record_at(s, at))
 }
 
-// How far the records from one on pass the fewer tests.
+// How far the records from one on pass a test of their index. One that answers as p does, record by record, goes as far as p holds.
+fn pass_by<F: Fn(usize) -> bool>(
+    s: &[u8],
+    start: usize,
+    count: usize,
+    from: usize,
+    test: F,
+) -> usize
+    requires { (i : ℕ) → i < count → F.pre test i }
+    ensures { (p : Record → Bool) → ((i : ℕ) (b : Bool) → i < count → F.post test i b → b ≡ p (record_at s.now (start + 32 * i)))
+        → Stretch p s.now start from result }
+{
+    for i in from..count {
+        if !test(i) {
+            return i;
+        }
+    }
+    if count < from { from } else { count }
+}
+
 fn pass_ranges(
     s: &[u8],
     start: usize,
@@ -119,21 +145,20 @@ fn pass_ranges(
     requires { start + 32 * count ≤ length s.now }
     ensures { Stretch (range_within figure band lists rules) s.now start from result }
 {
-    let mut i = from;
-    while i < count {
-        if !range_at(
+    pass_by(
+        s,
+        start,
+        count,
+        from,
+        |i| range_at(
             s,
             start + layout::RECORD_SIZE * i,
             figure,
             band,
             lists,
             rules,
-        ) {
-            return i;
-        }
-        i += 1;
-    }
-    i
+        ),
+    )
 }
 
 fn pass_points(
@@ -148,28 +173,26 @@ fn pass_points(
     requires { start + 32 * count ≤ length s.now }
     ensures { Stretch (point_within low lists rules) s.now start from result }
 {
-    let mut i = from;
-    while i < count {
-        if !point_at(s, start + layout::RECORD_SIZE * i, low, lists, rules) {
-            return i;
-        }
-        i += 1;
-    }
-    i
+    pass_by(
+        s,
+        start,
+        count,
+        from,
+        |i| point_at(s, start + layout::RECORD_SIZE * i, low, lists, rules),
+    )
 }
 
 fn pass_privileges(s: &[u8], start: usize, count: usize, from: usize) -> usize
     requires { start + 32 * count ≤ length s.now }
-    ensures { Stretch privilege_within s.now start from result }
+    ensures { Stretch (privilege_within) s.now start from result }
 {
-    let mut i = from;
-    while i < count {
-        if !privilege_at(s, start + layout::RECORD_SIZE * i) {
-            return i;
-        }
-        i += 1;
-    }
-    i
+    pass_by(
+        s,
+        start,
+        count,
+        from,
+        |i| privilege_at(s, start + layout::RECORD_SIZE * i),
+    )
 }
 
 // By the table: most records are plain at once.
@@ -212,14 +235,12 @@ pub fn is_rough(s: &[u8]) -> bool
     ensures { result ≡ is_rough s.now }
 {
     let mut start = layout::tables_from(s);
-    let mut t: usize = 0;
-    while t < layout::TABLES {
+    for t in 0..layout::TABLES {
         let count = layout::count_of(s, t) as usize;
         if rough_from(s, t, start, count) {
             return true;
         }
         start += layout::RECORD_SIZE * count;
-        t += 1;
     }
     false
 }
@@ -234,35 +255,28 @@ fn held_by(s: &[u8], j: usize, low: u64, high: u64) -> bool
 }
 
 // The first band that does.
-fn first_home(s: &[u8], low: u64, high: u64) -> Found
+fn first_home(s: &[u8], low: u64, high: u64) -> Option<usize>
     requires { Whole s.now }
     ensures { result ≡ first (held_bits s.now low high) (count_of s.now 0) }
 {
     let count = layout::count_of(s, layout::BANDS) as usize;
-    let mut j: usize = 0;
-    while j < count {
-        if held_by(s, j, low, high) {
-            return Found::At(j);
-        }
-        j += 1;
-    }
-    Found::Nothing
+    scan::first(count, |j| held_by(s, j, low, high))
 }
 
 // A band that does: band near, the next one, or else the first of all. Segments mostly stand in the bands' order.
-fn home_near(s: &[u8], near: usize, low: u64, high: u64) -> Found
+fn home_near(s: &[u8], near: usize, low: u64, high: u64) -> Option<usize>
     requires { Whole s.now }
     ensures { is_at result ≡ some (held_bits s.now low high) (count_of s.now 0) }
 {
     let count = layout::count_of(s, layout::BANDS) as usize;
     if near < count {
         if held_by(s, near, low, high) {
-            return Found::At(near);
+            return Some(near);
         }
         let next = near + 1;
         if next < count {
             if held_by(s, next, low, high) {
-                return Found::At(next);
+                return Some(next);
             }
         }
     }
@@ -277,18 +291,16 @@ pub fn is_homeless(s: &[u8]) -> bool
     let start = layout::start_of(s, layout::SEGMENTS);
     let count = layout::count_of(s, layout::SEGMENTS) as usize;
     let mut near: usize = 0;
-    let mut i: usize = 0;
-    while i < count {
+    for i in 0..count {
         let at = start + layout::RECORD_SIZE * i;
         match home_near(s, near, layout::low_at(s, at), layout::high_at(s, at)) {
-            Found::At(k) => {
+            Some(k) => {
                 near = k;
             }
-            Found::Nothing => {
+            None => {
                 return true;
             }
         }
-        i += 1;
     }
     false
 }

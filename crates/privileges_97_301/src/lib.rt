@@ -8,7 +8,7 @@ ghost use Rattle.table.specs.Table.{table_of};
 ghost use Rattle.part97.specs.Part97.{privileged_of, some_privilege};
 
 use codes::EmissionKind;
-use find::{Pick, Question};
+use find::Question;
 use part97::{Case, Privileged};
 use profile::Range;
 
@@ -17,29 +17,27 @@ pub fn some_privilege(s: &[u8], c: Case, r: Range) -> bool
     requires { Whole s.now }
     ensures { result ≡ some_privilege (table_of s.now) c r }
 {
-    let class = c.class;
-    let n = codes::class_code(class);
-    find::some_in(s, layout::PRIVILEGES, Question::ClassHolds(n, r))
+    find::some_in(
+        s,
+        layout::PRIVILEGES,
+        Question::ClassHolds(c.class.into(), r),
+    )
 }
 
 // What the first privilege of the operator's class that holds the guarded range says of an emission.
+#[tactic(auto, unfolding(part97::specs::Part97::privileged_of, find::specs::Question::pick_in))]
 pub fn privileged(s: &[u8], c: Case, kind: EmissionKind) -> Privileged
     requires { Whole s.now }
     ensures { result ≡ privileged_of (table_of s.now) c kind }
 {
-    let class = c.class;
-    let guarded = c.guarded;
-    let n = codes::class_code(class);
-    match find::pick_class(s, layout::PRIVILEGES, n, guarded) {
-        Pick::Picked(i, held) => {
-            let p = table::privilege_of(held);
-            let emissions = p.emissions;
-            if profile::allows(emissions, kind) {
+    match find::pick_class(s, layout::PRIVILEGES, c.class.into(), c.guarded) {
+        Some((_, held)) => {
+            if profile::allows(table::privilege_of(held).emissions, kind) {
                 Privileged::Granted
             } else {
                 Privileged::Forbidden
             }
         }
-        Pick::Missing => Privileged::Unheld,
+        None => Privileged::Unheld,
     }
 }

@@ -1,11 +1,9 @@
 -- Ranges of hertz. Low above high is a range like others: nothing here sorts.
-use Rattle.std.specs.Prelude.{Bool, ◌&&◌, cond, Float}
+use Rattle.std.specs.Prelude.{Bool, ◌&&◌, cond, Float, Option, Some, None}
 use Rattle.std.specs.Float.{binary64}
 use Rattle.std.specs.Float.Ieee.{add, sub, div, lt, le}
 use Rattle.figures.specs.Figure.{two, min_of, max_of}
 use Rattle.profile.specs.declared.Range.{Range}
-use Rattle.profile.specs.declared.Shared.{Shared}
-use Rattle.profile.specs.declared.Shared.TheVariants.{Stretch, Nothing}
 
 abbrev pub range : Float → Float → Range
 range low high = record { low_hz = low; high_hz = high }
@@ -27,8 +25,8 @@ abbrev pub common_of : Range → Range → Range
 common_of a b = range (max_of a.low_hz b.low_hz) (min_of a.high_hz b.high_hz)
 
 -- "`intersect` needs low < high"
-abbrev pub intersect_of : Range → Range → Shared
-intersect_of a b = cond (lengthy (common_of a b)) (Stretch (common_of a b)) Nothing
+abbrev pub intersect_of : Range → Range → Option Range
+intersect_of a b = cond (lengthy (common_of a b)) (Some (common_of a b)) None
 
 -- "share a stretch of positive length"
 abbrev pub share_of : Range → Range → Bool

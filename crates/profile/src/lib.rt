@@ -15,39 +15,11 @@ pub struct Range {
     pub high_hz: f64,
 }
 
-// What two ranges have in common.
-#[derive(Clone, Copy)]
-pub enum Shared {
-    Stretch(Range),
-    Nothing,
-}
-
 // The widest data emission allowed, and the rule that says so.
 #[derive(Clone, Copy)]
 pub struct DataLimit {
     pub max_bandwidth_hz: f64,
     pub rule: u16,
-}
-
-// A segment's own limit, where it has one.
-#[derive(Clone, Copy)]
-pub enum OwnLimit {
-    Own(f64),
-    General,
-}
-
-// A rule that a record may name.
-#[derive(Clone, Copy)]
-pub enum RuleName {
-    Named(u16),
-    Unnamed,
-}
-
-// A list of emissions or of classes, by its bits, where there is one.
-#[derive(Clone, Copy)]
-pub enum Listed {
-    Only(u8),
-    Every,
 }
 
 impl Range {
@@ -74,18 +46,18 @@ impl Range {
 }
 
 // The overlap of two ranges, if they have one.
-pub fn intersect(a: Range, b: Range) -> Shared
+pub fn intersect(a: Range, b: Range) -> Option<Range>
     ensures { result ≡ intersect_of a b }
 {
     let low = figures::max(a.low_hz, b.low_hz);
     let high = figures::min(a.high_hz, b.high_hz);
     if low < high {
-        Shared::Stretch(Range {
+        Some(Range {
             low_hz: low,
             high_hz: high,
         })
     } else {
-        Shared::Nothing
+        None
     }
 }
 
@@ -107,40 +79,28 @@ pub fn channel_range(width_hz: f64, center_hz: f64) -> Range
 }
 
 // The widest data emission allowed in a segment, and the rule for it.
-pub fn data_limit(own: OwnLimit, second: RuleName, general: DataLimit) -> DataLimit
+pub fn data_limit(own: Option<f64>, second: Option<u16>, general: DataLimit) -> DataLimit
     ensures { result ≡ data_limit_of own second general }
 {
-    let OwnLimit::Own(max) = own else {
-        return general;
-    };
-    let RuleName::Named(rule) = second else {
-        return DataLimit {
+    match own {
+        Some(max) => DataLimit {
             max_bandwidth_hz: max,
-            rule: general.rule,
-        };
-    };
-    DataLimit {
-        max_bandwidth_hz: max,
-        rule,
+            rule: second.unwrap_or(general.rule),
+        },
+        None => general,
     }
 }
 
 // Whether a privilege's list allows a kind of emission.
-pub fn allows(emissions: Listed, kind: EmissionKind) -> bool
+pub fn allows(emissions: Option<u8>, kind: EmissionKind) -> bool
     ensures { result ≡ allows_of emissions kind }
 {
-    match emissions {
-        Listed::Only(bits) => codes::has_kind(bits, kind),
-        Listed::Every => true,
-    }
+    emissions.is_none_or(|bits| codes::has_kind(bits, kind))
 }
 
 // Whether a power limit is meant for a licence class.
-pub fn meant_for(classes: Listed, class: LicenseClass) -> bool
+pub fn meant_for(classes: Option<u8>, class: LicenseClass) -> bool
     ensures { result ≡ meant_of classes class }
 {
-    match classes {
-        Listed::Only(bits) => codes::has_class(bits, class),
-        Listed::Every => true,
-    }
+    classes.is_none_or(|bits| codes::has_class(bits, class))
 }

@@ -1,7 +1,7 @@
 -- How many rows a report has at most. Each gap of a piece but the lowest begins where a record ends inside the piece, so there is at most
 -- one more than there are records.
 use Prim.Native.Nat.{ℕ, zero, suc, ◌+◌, ◌*◌, ◌-◌, ◌<◌, ◌≤◌}
-use Rattle.std.specs.Prelude.{Bool, false, cond, ◌&&◌, List, [], ◌∷◌, ◌++◌, ◌≡◌, Float}
+use Rattle.std.specs.Prelude.{Option, Some, None, Bool, false, cond, ◌&&◌, List, [], ◌∷◌, ◌++◌, ◌≡◌, Float}
 use Rattle.std.proofs.Math.Bool.{true}
 use Rattle.std.proofs.Common.{sym, ap, ◌∙◌, length-append}
 use Rattle.std.proofs.Math.Path.{refl}
@@ -14,8 +14,6 @@ use Rattle.order.specs.Total.{lt_number, lt_trans, lt_not, not_lt, lt_both}
 use Rattle.order.specs.Greater.{max_second, min_second}
 use Rattle.profile.specs.Range.{lengthy, common_of}
 use Rattle.profile.specs.declared.Range.{Range}
-use Rattle.profile.specs.declared.Shared.{Shared}
-use Rattle.profile.specs.declared.Shared.TheVariants.{Stretch, Nothing}
 use Rattle.lists.specs.Each.{each}
 use Rattle.lists.specs.From.{stretch}
 use Rattle.lists.specs.Laws.{each_few}
@@ -27,10 +25,8 @@ use Rattle.table.specs.Parts.{span_of}
 use Rattle.table.specs.Table.{Table, table_of}
 use Rattle.table.specs.Laws.{count_in_holds}
 use Rattle.sweep.specs.Sweep.{is_member, shared_with, on_shared, gives}
-use Rattle.sweep.specs.declared.Members.{Members}
-use Rattle.sweep.specs.declared.Members.TheVariants.{OfClass}
 use Rattle.report.specs.Gaps.{below, above, of_part, left_from}
-use Rattle.report.specs.Report.{pair_members, pair_class, overlap_row, pair_rows, pair_rows_at, overlap_rows, gap_row, gaps_in, gaps_at, gap_rows, report_rows}
+use Rattle.report.specs.Report.{pair_members, overlap_row, pair_rows, pair_rows_at, overlap_rows, gap_row, gaps_in, gaps_at, gap_rows, report_rows}
 
 -- ---- what a record shares with a piece of positive length
 
@@ -120,12 +116,12 @@ module _ (p x : Range) (shared : lengthy x ≡ true) (low : lt x.low_hz p.high_h
 -- ---- gaps
 
 -- a record's stretch is what it shares with the piece, and of positive length
-shared_is : (m : Members) (p : Range) (r : Record) (x : Range) → shared_with m p r ≡ Stretch x → (x ≡ common_of (span_of r) p) × (lengthy x ≡ true)
+shared_is : (m : Option ℕ) (p : Range) (r : Record) (x : Range) → shared_with m p r ≡ Some x → (x ≡ common_of (span_of r) p) × (lengthy x ≡ true)
 unfolding shared_with
 shared_is m p r x e = go (is_member m r) (lengthy (common_of (span_of r) p)) refl e
   where
     go :
-        (a b : Bool) → lengthy (common_of (span_of r) p) ≡ b → cond a (cond b (Stretch (common_of (span_of r) p)) Nothing) Nothing ≡ Stretch x
+        (a b : Bool) → lengthy (common_of (span_of r) p) ≡ b → cond a (cond b (Some (common_of (span_of r) p)) None) None ≡ Some x
         → (x ≡ common_of (span_of r) p) × (lengthy x ≡ true)
     go true true f q =
         let y : common_of (span_of r) p ≡ x = cc in
@@ -165,7 +161,7 @@ module _ (F : Range → List Range) (E : Range → ℕ) (few : (q : Range) → l
       go false true f g e = omega (arith, few (above p x) g)
       go false false f g e = omega arith
 
-module _ (at : ℕ → Record) (m : Members) where
+module _ (at : ℕ → Record) (m : Option ℕ) where
   left_few : (n i : ℕ) (p : Range) → lengthy p ≡ true → length (left_from at m n i p) ≤ suc (ending at n i p)
   unfolding left_from ending
   left_few zero i p long = omega arith
@@ -173,26 +169,26 @@ module _ (at : ℕ → Record) (m : Members) where
     where
       go :
           ((q : Range) → lengthy q ≡ true → length (left_from at m n (suc i) q) ≤ suc (ending at n (suc i) q))
-          → (s : Shared) → shared_with m p (at i) ≡ s
+          → (s : Option Range) → shared_with m p (at i) ≡ s
           → length (on_shared s (λ x. of_part (left_from at m n (suc i)) (below p x) ++ of_part (left_from at m n (suc i)) (above p x)) (left_from at m n (suc i) p))
           ≤ suc (unit (within p (span_of (at i)).high_hz) + ending at n (suc i) p)
-      go few (Stretch x) e =
+      go few (Some x) e =
           let r = shared_is m p (at i) x e in
           parts_few (left_from at m n (suc i)) (ending at n (suc i)) few (span_of (at i)) p x long r.0 r.1
           (beside_ending p x r.1 (begins_inside (span_of (at i)) p x long r.0 r.1) (ends_inside (span_of (at i)) p x long r.0 r.1) at n (suc i))
-      go few Nothing e = omega (arith, few p long)
+      go few None e = omega (arith, few p long)
 
   part_of_few : (n i : ℕ) (p : Range) → length (of_part (left_from at m n i) p) ≤ suc n
   part_of_few n i p = omega (arith, part_few (left_from at m n i) (ending at n i) (left_few n i) p, ending_few at n i p)
 
 -- ---- rows
 
-gives_few : {A : Type 0} (at : ℕ → Record) (m : Members) (w : Range) (g : ℕ → Range → A) (j : ℕ) → length (gives at m w g j) ≤ 1
+gives_few : {A : Type 0} (at : ℕ → Record) (m : Option ℕ) (w : Range) (g : ℕ → Range → A) (j : ℕ) → length (gives at m w g j) ≤ 1
 gives_few at m w g j = go (shared_with m w (at j))
   where
-    go : (s : Shared) → length (on_shared s (λ x. g j x ∷ []) []) ≤ 1
-    go (Stretch x) = omega arith
-    go Nothing = omega arith
+    go : (s : Option Range) → length (on_shared s (λ x. g j x ∷ []) []) ≤ 1
+    go (Some x) = omega arith
+    go None = omega arith
 
 stretch_few : {A : Type 0} (f : ℕ → List A) → ((j : ℕ) → length (f j) ≤ 1) → (k i : ℕ) → length (stretch k i f) ≤ k
 unfolding stretch
@@ -205,10 +201,10 @@ pairs_few : (table : Table) (t i : ℕ) → length (pair_rows_at table t i) ≤ 
 unfolding pair_rows
 pairs_few table t i =
     let r = table.at t i in
-    let f = gives (table.at t) (pair_members t r) (span_of r) (overlap_row t (pair_class t r) i) in
+    let f = gives (table.at t) (pair_members t r) (span_of r) (overlap_row t (pair_members t r) i) in
     omega (
       arith,
-      stretch_few f (gives_few (table.at t) (pair_members t r) (span_of r) (overlap_row t (pair_class t r) i)) (table.count t - (i + 1)) (i + 1),
+      stretch_few f (gives_few (table.at t) (pair_members t r) (span_of r) (overlap_row t (pair_members t r) i)) (table.count t - (i + 1)) (i + 1),
     )
 
 overlaps_few : (table : Table) (t : ℕ) → table.count t ≤ 256 → length (overlap_rows table t) ≤ 65536
@@ -225,8 +221,8 @@ gaps_few table class h k =
     each_few (table.count segments) 257 (gaps_at table class)
     (λ i. omega (
       arith,
-      length-map (of_part (left_from (table.at privileges) (OfClass class) (table.count privileges) 0) (span_of (table.at segments i))) (gap_row class i),
-      part_of_few (table.at privileges) (OfClass class) (table.count privileges) 0 (span_of (table.at segments i)),
+      length-map (of_part (left_from (table.at privileges) (Some class) (table.count privileges) 0) (span_of (table.at segments i))) (gap_row class i),
+      part_of_few (table.at privileges) (Some class) (table.count privileges) 0 (span_of (table.at segments i)),
     )) in
     omega arith
 

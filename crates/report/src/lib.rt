@@ -3,50 +3,34 @@
 // image, sweep, byte_writes and report_rows; its laws use lists and order.
 #![tactic(auto)]
 
-ghost use Rattle.std.specs.Prelude.{◌≡◌, ◌++◌, map, ◌+◌, ◌*◌, ◌-◌, ◌≤◌, ◌<◌, length, drop};
+ghost use Rattle.std.specs.Prelude.{Some, ◌≡◌, ◌++◌, map, ◌+◌, ◌*◌, ◌-◌, ◌≤◌, ◌<◌, length, drop};
 ghost use Rattle.lists.specs.Pour.{Poured};
 ghost use Rattle.layout.specs.Form.{Whole};
 ghost use Rattle.table.specs.Table.{table_of};
 ghost use Rattle.sweep.specs.Sweep.{ranges_of};
-ghost use Rattle.sweep.specs.declared.Members.TheVariants.{OfClass};
 ghost use Rattle.report_rows.specs.Rows.{encode_all, offer_at};
 ghost use Rattle.report.specs.Gaps.{of_part, left_from};
-ghost use Rattle.report.specs.Report.{pair_members, pair_class, overlap_row, pair_rows, overlap_rows};
+ghost use Rattle.report.specs.Report.{pair_members, overlap_row, pair_rows, overlap_rows};
 ghost use Rattle.report.specs.Report.{gap_row, gaps_in, gap_rows, report_rows, Begun, Filled, Reported};
 
-use codes::Checked;
+use codes::Refusal;
 use layout::Record;
 use profile::Range;
-use report_rows::ReportRow;
-use sweep::{Members, Ranges, Swept};
-
-// A report of so many rows, or the number of the refusal.
-#[derive(Clone, Copy)]
-pub enum TableReport {
-    Rows(usize),
-    Refused(u8),
-}
-
-const GAP: u8 = 255;
+use report_rows::{ReportRow, RowKind};
+use sweep::Ranges;
 
 // The bytes that rows are counted on: 64 rows. A report of no more takes one pass.
 const OWN: usize = 1536;
 
-// With which records of table t a record makes a pair, and the class of such a pair.
-fn pair_members(t: usize, r: Record) -> Members
+// With which records of table t a record makes a pair: of a class, or all.
+fn pair_members(t: usize, r: Record) -> Option<u8>
     ensures { result ≡ pair_members t r }
 {
     if t == layout::PRIVILEGES {
-        Members::OfClass(r.class)
+        Some(r.class)
     } else {
-        Members::All
+        None
     }
-}
-
-fn pair_class(t: usize, r: Record) -> u8
-    ensures { result ≡ pair_class t r }
-{
-    if t == layout::PRIVILEGES { r.class } else { 0 }
 }
 
 // The pairs of record i of a table, which is r, with later ones, as rows into bytes that may have room for them or not. Each of these
@@ -58,32 +42,25 @@ fn pair_rows(image: &[u8], rows: &mut [u8], g: Ranges, i: usize, r: Record, befo
         (pair_rows (table_of image.now) g.table i r) }
 {
     let members = pair_members(g.table, r);
-    let class = pair_class(g.table, r);
     let window = table::span_of(r);
     let mut n = before;
     let mut from = i + 1;
-    loop {
-        match sweep::next(image, g, members, window, from) {
-            Swept::Shares(j, x) => {
-                report_rows::offer(
-                    rows,
-                    n,
-                    ReportRow {
-                        stretch: x,
-                        kind: g.table as u8,
-                        class,
-                        first: i,
-                        second: j,
-                    },
-                );
-                from = j + 1;
-            }
-            Swept::NoMore => {
-                return n;
-            }
-        }
+    while let Some((j, x)) = sweep::next(image, g, members, window, from) {
+        report_rows::offer(
+            rows,
+            n,
+            ReportRow {
+                stretch: x,
+                kind: RowKind::Overlap(g.table as u8),
+                class: members,
+                first: i,
+                second: j,
+            },
+        );
+        from = j + 1;
         n += 1;
     }
+    n
 }
 
 // The pairs of table t.
@@ -93,11 +70,8 @@ fn overlap_rows(image: &[u8], rows: &mut [u8], t: usize, before: usize) -> usize
 {
     let g = sweep::ranges_of(image, t);
     let mut n = before;
-    let mut i: usize = 0;
-    while i < g.count {
-        let r = layout::record_at(image, g.start + layout::RECORD_SIZE * i);
-        n = pair_rows(image, rows, g, i, r, n);
-        i += 1;
+    for i in 0..g.count {
+        n = pair_rows(image, rows, g, i, sweep::record_of(image, g, i), n);
     }
     n
 }
@@ -115,41 +89,37 @@ fn gaps_left(
     before: usize,
 ) -> usize
     requires { (Whole image.now) × (g.table < 9) × (g ≡ ranges_of image.now g.table) × (before
-        + length (of_part (left_from ((table_of image.now).at g.table) (OfClass class) (g.count - from) from) piece) ≤ 0x1_0000_0000) }
+        + length (of_part (left_from ((table_of image.now).at g.table) (Some class) (g.count - from) from) piece) ≤ 0x1_0000_0000) }
     ensures { Poured offer_at rows.old before rows.new result (map (gap_row class segment)
-        (of_part (left_from ((table_of image.now).at g.table) (OfClass class) (g.count - from) from) piece)) }
+        (of_part (left_from ((table_of image.now).at g.table) (Some class) (g.count - from) from) piece)) }
 {
-    if piece.is_lengthy() {
-        match sweep::next(image, g, Members::OfClass(class), piece, from) {
-            Swept::Shares(j, x) => {
-                let below = Range {
-                    low_hz: piece.low_hz,
-                    high_hz: x.low_hz,
-                };
-                let above = Range {
-                    low_hz: x.high_hz,
-                    high_hz: piece.high_hz,
-                };
-                let n = gaps_left(image, rows, g, class, segment, below, j + 1, before);
-                return gaps_left(image, rows, g, class, segment, above, j + 1, n);
-            }
-            Swept::NoMore => {
-                report_rows::offer(
-                    rows,
-                    before,
-                    ReportRow {
-                        stretch: piece,
-                        kind: GAP,
-                        class,
-                        first: segment,
-                        second: segment,
-                    },
-                );
-                return before + 1;
-            }
-        }
+    if !piece.is_lengthy() {
+        return before;
     }
-    before
+    let Some((j, x)) = sweep::next(image, g, Some(class), piece, from) else {
+        report_rows::offer(
+            rows,
+            before,
+            ReportRow {
+                stretch: piece,
+                kind: RowKind::Gap,
+                class: Some(class),
+                first: segment,
+                second: segment,
+            },
+        );
+        return before + 1;
+    };
+    let below = Range {
+        low_hz: piece.low_hz,
+        high_hz: x.low_hz,
+    };
+    let above = Range {
+        low_hz: x.high_hz,
+        high_hz: piece.high_hz,
+    };
+    let n = gaps_left(image, rows, g, class, segment, below, j + 1, before);
+    gaps_left(image, rows, g, class, segment, above, j + 1, n)
 }
 
 // The gaps of the data segments, for the privileges of a class.
@@ -160,16 +130,15 @@ fn gap_rows(image: &[u8], rows: &mut [u8], class: u8, before: usize) -> usize
     let g = sweep::ranges_of(image, layout::PRIVILEGES);
     let s = sweep::ranges_of(image, layout::SEGMENTS);
     let mut n = before;
-    let mut i: usize = 0;
-    while i < s.count {
-        let r = layout::record_at(image, s.start + layout::RECORD_SIZE * i);
-        n = gaps_left(image, rows, g, class, i, table::span_of(r), 0, n);
-        i += 1;
+    for i in 0..s.count {
+        let segment = table::span_of(sweep::record_of(image, s, i));
+        n = gaps_left(image, rows, g, class, i, segment, 0, n);
     }
     n
 }
 
 // Every row; and their count.
+#[tactic(auto, using(crate::specs::Few::table_few, crate::specs::Few::segments_few))]
 fn gather(image: &[u8], rows: &mut [u8], class: u8) -> usize
     requires { Whole image.now }
     ensures { Poured offer_at rows.old 0 rows.new result (report_rows (table_of image.now) class) }
@@ -181,6 +150,7 @@ fn gather(image: &[u8], rows: &mut [u8], class: u8) -> usize
 }
 
 // Writes the rows, which fit: from the bytes that they were counted on, where these had room for all, and else by one more pass.
+#[tactic(auto, using(crate::specs::Answer::copied))]
 fn settle(image: &[u8], rows: &mut [u8], class: u8, own: &[u8], count: usize)
     requires { (Whole image.now) × (Begun (report_rows (table_of image.now) class) own.now)
         × (count ≡ length (report_rows (table_of image.now) class)) × (count * 24 ≤ length rows.old) }
@@ -195,20 +165,21 @@ fn settle(image: &[u8], rows: &mut [u8], class: u8, own: &[u8], count: usize)
 }
 
 // Counts the rows on bytes of their own, refuses where too few whole rows are lent, and writes them where they fit.
-fn fill_from(image: &[u8], class: u8, rows: &mut [u8], own: &mut [u8]) -> TableReport
+#[tactic(auto, using(crate::specs::Answer::begun, crate::specs::Answer::filled_long, crate::specs::Answer::filled_fit))]
+fn fill_from(image: &[u8], class: u8, rows: &mut [u8], own: &mut [u8]) -> Result<usize, Refusal>
     requires { Whole image.now }
     ensures { Filled (report_rows (table_of image.now) class) rows.old rows.new result }
 {
     let count = gather(image, own, class);
     if rows.len() / report_rows::ROW_SIZE < count {
-        return TableReport::Refused(25);
+        return Err(Refusal::Report);
     }
     settle(image, rows, class, own, count);
-    TableReport::Rows(count)
+    Ok(count)
 }
 
 // The same with bytes made for it.
-fn fill(image: &[u8], class: u8, rows: &mut [u8]) -> TableReport
+fn fill(image: &[u8], class: u8, rows: &mut [u8]) -> Result<usize, Refusal>
     requires { Whole image.now }
     ensures { Filled (report_rows (table_of image.now) class) rows.old rows.new result }
 {
@@ -217,14 +188,12 @@ fn fill(image: &[u8], class: u8, rows: &mut [u8]) -> TableReport
 }
 
 // The overlaps and gaps of an image's table, for a licence class, as rows of 24 bytes.
-pub fn report_of(image: &[u8], class: u8, rows: &mut [u8]) -> TableReport
+pub fn report_of(image: &[u8], class: u8, rows: &mut [u8]) -> Result<usize, Refusal>
     ensures { Reported image.now class rows.old rows.new result }
 {
     if 4 < class {
-        return TableReport::Refused(20);
+        return Err(Refusal::StationCode);
     }
-    match image::check(image) {
-        Checked::Refused(n) => TableReport::Refused(n),
-        Checked::Accepted => fill(image, class, rows),
-    }
+    image::check(image)?;
+    fill(image, class, rows)
 }

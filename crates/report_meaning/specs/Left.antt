@@ -1,6 +1,6 @@
 -- What is left of a piece of positive length, when each range that counts takes its stretch away.
 use Prim.Native.Nat.{ℕ, zero, suc, ◌+◌, ◌<◌, ◌≤◌}
-use Rattle.std.specs.Prelude.{Bool, false, cond, ◌⊎◌, ◌≡◌, Float}
+use Rattle.std.specs.Prelude.{Option, Some, None, Bool, false, cond, ◌⊎◌, ◌≡◌, Float}
 use Rattle.std.proofs.Math.Bool.{true}
 use Rattle.std.proofs.Common.{true≢false, inr, sym, ap, subst, ◌∙◌, arith}
 use mathlib.Core.List.{List, [], ◌∷◌, ◌++◌}
@@ -11,14 +11,11 @@ use Rattle.order.specs.Total.{lt_not, not_lt, lt_both, not_lt_trans, not_above_l
 use Rattle.order.specs.Greater.{max_first, max_second, min_first, min_second}
 use Rattle.profile.specs.Range.{holds_of, lengthy, common_of, share_of}
 use Rattle.profile.specs.declared.Range.{Range}
-use Rattle.profile.specs.declared.Shared.{Shared}
-use Rattle.profile.specs.declared.Shared.TheVariants.{Stretch, Nothing}
 use Rattle.lists.specs.Laws.{Every, every_append, every_map}
 use Rattle.scan.specs.Laws.{from_here}
 use Rattle.layout.specs.declared.Record.{Record}
 use Rattle.table.specs.Parts.{span_of}
 use Rattle.sweep.specs.Sweep.{is_member, shared_with, on_shared}
-use Rattle.sweep.specs.declared.Members.{Members}
 use Rattle.report.specs.Gaps.{below as under, above as over, of_part, left_from}
 use Rattle.report_meaning.specs.Words.{In, lies, below, Apart, InGap, HeldBy}
 use Rattle.report_meaning.specs.Ranges.{and_of, low_number, high_number, not_self, lt_le, held, held_low, held_high, holds_self, holds_trans}
@@ -54,30 +51,30 @@ taken s p S P h =
     }
 
 -- what a record shares with a piece, told
-pub record Share (m : Members) (p : Range) (r : Record) (x : Range) : Type 0 where
+pub record Share (m : Option ℕ) (p : Range) (r : Record) (x : Range) : Type 0 where
   pub counts : is_member m r ≡ true
   pub taken : Taken (span_of r) p x
 
-shared_stretch : (m : Members) (p : Range) (r : Record) (x : Range) → lengthy (span_of r) ≡ true → lengthy p ≡ true
-    → shared_with m p r ≡ Stretch x → Share m p r x
+shared_stretch : (m : Option ℕ) (p : Range) (r : Record) (x : Range) → lengthy (span_of r) ≡ true → lengthy p ≡ true
+    → shared_with m p r ≡ Some x → Share m p r x
 unfolding shared_with
 shared_stretch m p r x S P e = go (is_member m r) refl (lengthy (common_of (span_of r) p)) refl e
   where
     go :
         (a : Bool) → is_member m r ≡ a → (b : Bool) → lengthy (common_of (span_of r) p) ≡ b
-        → cond a (cond b (Stretch (common_of (span_of r) p)) Nothing) Nothing ≡ Stretch x → Share m p r x
+        → cond a (cond b (Some (common_of (span_of r) p)) None) None ≡ Some x → Share m p r x
     go true k true f q =
         let y : common_of (span_of r) p ≡ x = cc in
         record { counts = k; taken = subst (Taken (span_of r) p) y (taken (span_of r) p S P f) }
     go true k false f q = absurd (let z : ◌≡◌ {A = ℕ} 0 1 = cc in omega arith)
     go false k b f q = absurd (let z : ◌≡◌ {A = ℕ} 0 1 = cc in omega arith)
 
-shared_nothing : (m : Members) (p : Range) (r : Record) → is_member m r ≡ true → shared_with m p r ≡ Nothing → share_of (span_of r) p ≡ false
+shared_nothing : (m : Option ℕ) (p : Range) (r : Record) → is_member m r ≡ true → shared_with m p r ≡ None → share_of (span_of r) p ≡ false
 unfolding shared_with
 shared_nothing m p r k e = go (lengthy (common_of (span_of r) p)) refl (ap (λ (a : Bool). cond a (cond (lengthy (common_of (span_of r) p))
-    (Stretch (common_of (span_of r) p)) Nothing) Nothing) (sym k) ∙ e)
+    (Some (common_of (span_of r) p)) None) None) (sym k) ∙ e)
   where
-    go : (b : Bool) → lengthy (common_of (span_of r) p) ≡ b → cond b (Stretch (common_of (span_of r) p)) Nothing ≡ Nothing → share_of (span_of r) p ≡ false
+    go : (b : Bool) → lengthy (common_of (span_of r) p) ≡ b → cond b (Some (common_of (span_of r) p)) None ≡ None → share_of (span_of r) p ≡ false
     go true f q = absurd (let z : ◌≡◌ {A = ℕ} 0 1 = cc in omega arith)
     go false f q = f
 
@@ -135,7 +132,7 @@ module _ (s p x : Range) (P : lengthy p ≡ true) (T : Taken s p x) where
 
 -- ---- what is left
 
-module _ (at : ℕ → Record) (m : Members) where
+module _ (at : ℕ → Record) (m : Option ℕ) where
   -- the records from i on below n that count are of positive length
   abbrev pub Lengthy : ℕ → ℕ → Type 0
   Lengthy n i = (j : ℕ) → i ≤ j → j < i + n → lengthy (span_of (at j)) ≡ true
@@ -180,10 +177,10 @@ module _ (at : ℕ → Record) (m : Members) where
 
       go :
           ((q : Range) → lengthy q ≡ true → Every (Sound n (suc i) q) (left_from at m n (suc i) q))
-          → (s : Shared) → shared_with m p (at i) ≡ s
+          → (s : Option Range) → shared_with m p (at i) ≡ s
           → Every (Sound (suc n) i p)
           (on_shared s (λ x. of_part (left_from at m n (suc i)) (under p x) ++ of_part (left_from at m n (suc i)) (over p x)) (left_from at m n (suc i) p))
-      go rec (Stretch x) e =
+      go rec (Some x) e =
           let T = (shared_stretch m p (at i) x S P e).taken in
           every_append (Sound (suc n) i p) (of_part (left_from at m n (suc i)) (under p x)) (of_part (left_from at m n (suc i)) (over p x))
           (part_every (left_from at m n (suc i)) (Sound (suc n) i p) (under p x)
@@ -194,7 +191,7 @@ module _ (at : ℕ → Record) (m : Members) where
           (λ O. every_map (Sound n (suc i) (over p x)) (Sound (suc n) i p)
           (λ g s. rises n i p (over p x) g P O (over_held (span_of (at i)) p x P T O) S (λ _. over_clear (span_of (at i)) p x P T S O) s)
           (left_from at m n (suc i) (over p x)) (rec (over p x) O)))
-      go rec Nothing e =
+      go rec None e =
           every_map (Sound n (suc i) p) (Sound (suc n) i p)
           (λ g s. rises n i p p g P P (holds_self p P) S (λ k. shared_nothing m p (at i) k e) s)
           (left_from at m n (suc i) p) (rec p P)
@@ -251,10 +248,10 @@ module _ (at : ℕ → Record) (m : Members) where
 
       go :
           ((q : Range) → lengthy q ≡ true → lt y q.low_hz ≡ false → lt q.high_hz y ≡ false → InGap y (F q) ⊎ InRange n (suc i) y)
-          → (s : Shared) → shared_with m p (at i) ≡ s
+          → (s : Option Range) → shared_with m p (at i) ≡ s
           → InGap y (on_shared s (λ x. of_part F (under p x) ++ of_part F (over p x)) (F p)) ⊎ InRange (suc n) i y
-      go rec Nothing e = later n i y (F p) (rec p P a b)
-      go rec (Stretch x) e = split (lt y x.low_hz) refl (lt x.high_hz y) refl
+      go rec None e = later n i y (F p) (rec p P a b)
+      go rec (Some x) e = split (lt y x.low_hz) refl (lt x.high_hz y) refl
         where
           H : Share m p (at i) x
           H = shared_stretch m p (at i) x S P e
@@ -307,10 +304,10 @@ module _ (at : ℕ → Record) (m : Members) where
       F = left_from at m n (suc i)
 
       go :
-          ((q : Range) → lengthy q ≡ true → holds_of q r ≡ true → HeldBy r (F q)) → (s : Shared) → shared_with m p (at i) ≡ s
+          ((q : Range) → lengthy q ≡ true → holds_of q r ≡ true → HeldBy r (F q)) → (s : Option Range) → shared_with m p (at i) ≡ s
           → HeldBy r (on_shared s (λ x. of_part F (under p x) ++ of_part F (over p x)) (F p))
-      go rec Nothing e = rec p P h
-      go rec (Stretch x) e = split (lt x.low_hz r.high_hz) refl (lt r.low_hz x.high_hz) refl
+      go rec None e = rec p P h
+      go rec (Some x) e = split (lt x.low_hz r.high_hz) refl (lt r.low_hz x.high_hz) refl
         where
           H : Share m p (at i) x
           H = shared_stretch m p (at i) x S P e
@@ -377,9 +374,9 @@ module _ (at : ℕ → Record) (m : Members) where
 
       go :
           ((q : Range) → lengthy q ≡ true → Apart (F q)) → ((q : Range) → lengthy q ≡ true → Every (Sound n (suc i) q) (F q))
-          → (s : Shared) → shared_with m p (at i) ≡ s → Apart (on_shared s (λ x. of_part F (under p x) ++ of_part F (over p x)) (F p))
-      go rec sound Nothing e = rec p P
-      go rec sound (Stretch x) e =
+          → (s : Option Range) → shared_with m p (at i) ≡ s → Apart (on_shared s (λ x. of_part F (under p x) ++ of_part F (over p x)) (F p))
+      go rec sound None e = rec p P
+      go rec sound (Some x) e =
           let H = shared_stretch m p (at i) x (L i (omega arith) (omega arith)) P e in
           apart_append x.low_hz x.high_hz H.taken.long (of_part F (under p x)) (of_part F (over p x))
           (part_every F (UpTo x.low_hz) (under p x)

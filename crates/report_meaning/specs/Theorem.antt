@@ -1,15 +1,13 @@
 -- What the rows of a report mean, over the definition that the call's promise cites, for the table of an accepted image.
-use Rattle.std.specs.Prelude.{ℕ, zero, suc, ◌+◌, ◌-◌, ◌<◌, ◌≤◌, Bool, true, false, cond, List, [], ◌∷◌, ◌++◌, map, ◌⊎◌, ◌≡◌, refl, Float}
+use Rattle.std.specs.Prelude.{ℕ, zero, suc, ◌+◌, ◌-◌, ◌<◌, ◌≤◌, Bool, true, false, cond, List, [], ◌∷◌, ◌++◌, map, ◌⊎◌, ◌≡◌, refl, Float, Option, Some, None, Ok}
 use Rattle.std.proofs.Common.{inl, inr, sym, subst, ◌∙◌, arith}
 use Rattle.std.proofs.lemmas.Bool.{not-false}
 use Rattle.std.proofs.Math.Decide.{dec_le}
 use Rattle.std.specs.Float.Ieee.{lt, is_nan}
 use Rattle.codes.specs.Laws.{refusal_both, none_fails}
-use Rattle.codes.specs.declared.Checked.TheVariants.{Accepted}
 use Rattle.order.specs.Total.{lt_both, lt_not, not_lt}
 use Rattle.profile.specs.Range.{holds_of, lengthy, common_of, share_of}
 use Rattle.profile.specs.declared.Range.{Range}
-use Rattle.profile.specs.declared.Shared.TheVariants.{Stretch, Nothing}
 use Rattle.lists.specs.Each.{each}
 use Rattle.lists.specs.From.{stretch}
 use Rattle.scan.specs.First.{some}
@@ -23,11 +21,9 @@ use Rattle.find.specs.Question.{asks}
 use Rattle.find.specs.declared.Question.TheVariants.{NotLengthy}
 use Rattle.image.specs.Check.{content_tests, check_of}
 use Rattle.sweep.specs.Sweep.{is_member, shared_with, on_shared, gives}
-use Rattle.sweep.specs.declared.Members.{Members}
-use Rattle.sweep.specs.declared.Members.TheVariants.{OfClass}
 use Rattle.report_rows.specs.declared.ReportRow.{ReportRow}
 use Rattle.report.specs.Gaps.{of_part, left_from}
-use Rattle.report.specs.Report.{pair_members, pair_class, overlap_row, pair_rows, pair_rows_at, overlap_rows, gap_row, gaps_in, gaps_at}
+use Rattle.report.specs.Report.{pair_members, overlap_row, pair_rows, pair_rows_at, overlap_rows, gap_row, gaps_in, gaps_at}
 use Rattle.report_meaning.specs.Words.{In, Pair, share, Bare, Gap, below, Apart, InGap, HeldBy}
 use Rattle.report_meaning.specs.Ranges.{low_number, high_number, held_low, held_high, holds_trans}
 use Rattle.report_meaning.specs.Left.{in_left, in_right, in_either, in_every, InRange, left_sound, left_covers, left_longest, left_apart}
@@ -44,7 +40,7 @@ long_of_holds : (table : Table) (t : ℕ) → some (λ i. asks NotLengthy (table
 unfolding asks
 long_of_holds table t e j h = not-false (lengthy (span_of (table.at t j))) (some_false (λ i. asks NotLengthy (table.at t i)) (table.count t) e j h)
 
-pub accepted_ranged : (l : List ℕ) → check_of l ≡ Accepted → Ranged (table_of l)
+pub accepted_ranged : (l : List ℕ) → check_of l ≡ Ok tt → Ranged (table_of l)
 unfolding check_of
 accepted_ranged l e =
     let n = none_fails (content_tests (table_of l)) (refusal_both (form_tests l) (content_tests (table_of l)) e).1 in
@@ -111,23 +107,23 @@ pub record Overlap (table : Table) (t : ℕ) (x : ReportRow) : Type 0 where
   pub shares : share table t first second ≡ true
   pub row :
       x
-      ≡ overlap_row t (pair_class t (table.at t first)) first second (common_of (span_of (table.at t second)) (span_of (table.at t first)))
+      ≡ overlap_row t (pair_members t (table.at t first)) first second (common_of (span_of (table.at t second)) (span_of (table.at t first)))
 
 -- what one record gives, by what it shares
-given_one : {A : Type 0} (m : Members) (w : Range) (r : Record) (y : Range → A) (x : A) → In x (on_shared (shared_with m w r) (λ s. y s ∷ []) [])
+given_one : {A : Type 0} (m : Option ℕ) (w : Range) (r : Record) (y : Range → A) (x : A) → In x (on_shared (shared_with m w r) (λ s. y s ∷ []) [])
     → (is_member m r ≡ true) × (share_of (span_of r) w ≡ true) × (x ≡ y (common_of (span_of r) w))
 unfolding shared_with
 given_one m w r y x h = go (is_member m r) (lengthy (common_of (span_of r) w)) h
   where
     go :
-        (a b : Bool) → In x (on_shared (cond a (cond b (Stretch (common_of (span_of r) w)) Nothing) Nothing) (λ s. y s ∷ []) [])
+        (a b : Bool) → In x (on_shared (cond a (cond b (Some (common_of (span_of r) w)) None) None) (λ s. y s ∷ []) [])
         → (a ≡ true) × (b ≡ true) × (x ≡ y (common_of (span_of r) w))
     go false b i = elim i [ ]
     go true false i = elim i [ ]
     go true true (inl e) = (refl, refl, e)
     go true true (inr i) = elim i [ ]
 
-one_given : {A : Type 0} (m : Members) (w : Range) (r : Record) (y : Range → A) → is_member m r ≡ true → share_of (span_of r) w ≡ true
+one_given : {A : Type 0} (m : Option ℕ) (w : Range) (r : Record) (y : Range → A) → is_member m r ≡ true → share_of (span_of r) w ≡ true
     → In (y (common_of (span_of r) w)) (on_shared (shared_with m w r) (λ s. y s ∷ []) [])
 unfolding shared_with
 one_given m w r y h k = rw h (rw k (inl refl))
@@ -138,9 +134,9 @@ unfolding overlap_rows pair_rows
 overlap_only table t x h =
     let i = each_member (pair_rows_at table t) (table.count t) x h in
     let j = stretch_member (gives (table.at t) (pair_members t (table.at t i.index)) (span_of (table.at t i.index))
-    (overlap_row t (pair_class t (table.at t i.index)) i.index)) (table.count t - (i.index + 1)) (i.index + 1) x i.member in
+    (overlap_row t (pair_members t (table.at t i.index)) i.index)) (table.count t - (i.index + 1)) (i.index + 1) x i.member in
     let g = given_one (pair_members t (table.at t i.index)) (span_of (table.at t i.index)) (table.at t j.index)
-    (overlap_row t (pair_class t (table.at t i.index)) i.index j.index) x j.member in
+    (overlap_row t (pair_members t (table.at t i.index)) i.index j.index) x j.member in
     record {
       first = i.index;
       second = j.index;
@@ -151,20 +147,20 @@ overlap_only table t x h =
 
 pub overlap_listed :
     (table : Table) (t i j : ℕ) → Pair table t i j → share table t i j ≡ true
-    → In (overlap_row t (pair_class t (table.at t i)) i j (common_of (span_of (table.at t j)) (span_of (table.at t i)))) (overlap_rows table t)
+    → In (overlap_row t (pair_members t (table.at t i)) i j (common_of (span_of (table.at t j)) (span_of (table.at t i)))) (overlap_rows table t)
 unfolding overlap_rows pair_rows
 overlap_listed table t i j p s =
     let r = table.at t i in
     member_each (pair_rows_at table t) (table.count t) i _ (omega (arith, p.ordered, p.there))
-    (member_stretch (gives (table.at t) (pair_members t r) (span_of r) (overlap_row t (pair_class t r) i)) (table.count t - (i + 1)) (i + 1) j _
+    (member_stretch (gives (table.at t) (pair_members t r) (span_of r) (overlap_row t (pair_members t r) i)) (table.count t - (i + 1)) (i + 1) j _
     (omega (arith, p.ordered)) (omega (arith, p.ordered, p.there))
-    (one_given (pair_members t r) (span_of r) (table.at t j) (overlap_row t (pair_class t r) i j) p.together s))
+    (one_given (pair_members t r) (span_of r) (table.at t j) (overlap_row t (pair_members t r) i j) p.together s))
 
 -- ---- gaps
 
 -- the gaps of segment i for a class, lowest first
 abbrev pub gaps_of : Table → ℕ → ℕ → List Range
-gaps_of table class i = of_part (left_from (table.at privileges) (OfClass class) (table.count privileges) 0) (span_of (table.at segments i))
+gaps_of table class i = of_part (left_from (table.at privileges) (Some class) (table.count privileges) 0) (span_of (table.at segments i))
 
 -- the rows are theirs
 pub gaps_rows : (table : Table) (class i : ℕ) → gaps_at table class i ≡ map (gap_row class i) (gaps_of table class i)
@@ -196,8 +192,8 @@ module _ (table : Table) (R : Ranged table) (class i : ℕ) (there : i < table.c
   abbrev s : Range
   s = span_of (table.at segments i)
 
-  abbrev m : Members
-  m = OfClass class
+  abbrev m : Option ℕ
+  m = Some class
 
   abbrev n : ℕ
   n = table.count privileges
@@ -248,5 +244,5 @@ module _ (table : Table) (R : Ranged table) (class i : ℕ) (there : i < table.c
   -- Gaps and privileges together cover the segment.
   pub gaps_cover :
       (y : Float) → is_nan y ≡ false → lt y (span_of (table.at segments i)).low_hz ≡ false → lt (span_of (table.at segments i)).high_hz y ≡ false
-      → InGap y (gaps_of table class i) ⊎ InRange (table.at privileges) (OfClass class) (table.count privileges) 0 y
+      → InGap y (gaps_of table class i) ⊎ InRange (table.at privileges) (Some class) (table.count privileges) 0 y
   gaps_cover y N a b = rw whole (left_covers (table.at privileges) m n 0 s S L y N a b)

@@ -1,12 +1,11 @@
 -- A table is tidy exactly if its report has no overlap row and every data segment lies in a band of its number.
-use Rattle.std.specs.Prelude.{ℕ, ◌<◌, Bool, not, cond, ◌&&◌, ◌≡◌, eqb}
+use Rattle.std.specs.Prelude.{ℕ, ◌<◌, Bool, not, cond, ◌&&◌, ◌≡◌, eqb, Some, None, Ok, Err}
+use Rattle.codes.specs.Refusal.{Checked}
 use Rattle.std.proofs.Math.Bool.{true, false, true≢false}
 use Rattle.std.proofs.lemmas.Bool.{not-true}
 use mathlib.Core.List.{List, [], ◌∷◌}
 use Rattle.std.proofs.Common.{inl, sym, ◌∙◌, arith, eq-eqb, eqb-true}
 use Rattle.std.proofs.Math.Path.{refl}
-use Rattle.codes.specs.declared.Checked.{Checked}
-use Rattle.codes.specs.declared.Checked.TheVariants.{Accepted, Refused}
 use Rattle.profile.specs.Range.{lengthy, share_of}
 use Rattle.scan.specs.Laws.{some_false, some_all, and_true}
 use Rattle.layout.specs.Layout.{bands, segments, privileges}
@@ -15,9 +14,7 @@ use Rattle.table.specs.Table.{Table, table_of}
 use Rattle.find.specs.Question.{asks, homeless_of}
 use Rattle.image.specs.Check.{check_of}
 use Rattle.tidy.specs.Tidy.{pair_question, shares_earlier, two_share, tidy_table, tidiness_of, tidy_of}
-use Rattle.tidy.specs.declared.Tidiness.TheVariants.{Tidy}
 use Rattle.sweep.specs.Sweep.{is_member}
-use Rattle.sweep.specs.declared.Members.TheVariants.{All, OfClass}
 use Rattle.report.specs.Report.{pair_members, overlap_rows}
 use Rattle.report_rows.specs.declared.ReportRow.{ReportRow}
 use Rattle.report_meaning.specs.Words.{In, Pair, share}
@@ -44,7 +41,7 @@ module _ (table : Table) (t : ℕ) (long : (j : ℕ) → j < table.count t → l
       turn s = share_turned (span_of (table.at t i)) (span_of (table.at t j)) (long i (omega arith)) (long j k) s
 
       go : (b : Bool) → asks (pair_question b (table.at t j)) (table.at t i) ≡ true
-          → (is_member (cond b (OfClass (table.at t i).class) All) (table.at t j) ≡ true) × (share table t i j ≡ true)
+          → (is_member (cond b (Some (table.at t i).class) None) (table.at t j) ≡ true) × (share table t i j ≡ true)
       go true q =
           let w = and_true (eqb (table.at t i).class (table.at t j).class) (share_of (span_of (table.at t i)) (span_of (table.at t j))) q in
           (eqb_turned (table.at t i).class (table.at t j).class w.0, turn w.1)
@@ -58,7 +55,7 @@ module _ (table : Table) (t : ℕ) (long : (j : ℕ) → j < table.count t → l
       turned =
           share_turned (span_of (table.at t j)) (span_of (table.at t i)) (long j p.there) (long i (omega (arith, p.ordered, p.there))) s
 
-      go : (b : Bool) → is_member (cond b (OfClass (table.at t i).class) All) (table.at t j) ≡ true
+      go : (b : Bool) → is_member (cond b (Some (table.at t i).class) None) (table.at t j) ≡ true
           → asks (pair_question b (table.at t j)) (table.at t i) ≡ true
       go true q = and_of (eqb_turned (table.at t j).class (table.at t i).class q) turned
       go false q = turned
@@ -103,7 +100,7 @@ pub record NoOverlap (table : Table) : Type 0 where
   pub housed : homeless_of table true ≡ false
 
 -- "Tidy shall follow", and back: of an accepted image.
-pub tidy_follows : (l : List ℕ) → check_of l ≡ Accepted → NoOverlap (table_of l) → tidy_of l ≡ Tidy
+pub tidy_follows : (l : List ℕ) → check_of l ≡ Ok tt → NoOverlap (table_of l) → tidy_of l ≡ Ok true
 unfolding tidy_table
 tidy_follows l e n =
     let R = accepted_ranged l e in
@@ -113,15 +110,15 @@ tidy_follows l e n =
     (rw (no_row (table_of l) segments R.segment n.segments_apart)
     (rw (no_row (table_of l) privileges R.privilege n.classes_apart)))))
 
-tidy_accepted : (l : List ℕ) → tidy_of l ≡ Tidy → (check_of l ≡ Accepted) × (tidy_table (table_of l) ≡ true)
+tidy_accepted : (l : List ℕ) → tidy_of l ≡ Ok true → (check_of l ≡ Ok tt) × (tidy_table (table_of l) ≡ true)
 tidy_accepted l e = go (check_of l) (tidy_table (table_of l)) e
   where
-    go : (c : Checked) (b : Bool) → tidiness_of c b ≡ Tidy → (c ≡ Accepted) × (b ≡ true)
-    go Accepted true q = (refl, refl)
-    go Accepted false q = absurd (let z : ◌≡◌ {A = ℕ} 0 1 = cc in omega arith)
-    go (Refused n) b q = absurd (let z : ◌≡◌ {A = ℕ} 0 1 = cc in omega arith)
+    go : (c : Checked) (b : Bool) → tidiness_of c b ≡ Ok true → (c ≡ Ok tt) × (b ≡ true)
+    go (Ok tt) true q = (refl, refl)
+    go (Ok tt) false q = absurd (let z : ◌≡◌ {A = ℕ} 0 1 = cc in omega arith)
+    go (Err n) b q = absurd (let z : ◌≡◌ {A = ℕ} 0 1 = cc in omega arith)
 
-pub tidy_only : (l : List ℕ) → tidy_of l ≡ Tidy → NoOverlap (table_of l)
+pub tidy_only : (l : List ℕ) → tidy_of l ≡ Ok true → NoOverlap (table_of l)
 unfolding tidy_table
 tidy_only l e =
     let a = tidy_accepted l e in

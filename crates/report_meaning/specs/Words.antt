@@ -1,5 +1,5 @@
 -- The words of document 02, 5, without the way that rows are found.
-use Rattle.std.specs.Prelude.{ℕ, ◌<◌, Bool, true, false, ◌&&◌, List, [], ◌∷◌, ◌⊎◌, ◌≡◌, Float}
+use Rattle.std.specs.Prelude.{ℕ, ◌<◌, Bool, true, false, ◌&&◌, List, [], ◌∷◌, ◌⊎◌, ◌≡◌, Float, Some}
 use Rattle.std.specs.Float.Ieee.{lt, le}
 use Rattle.profile.specs.Range.{holds_of, lengthy, share_of}
 use Rattle.profile.specs.declared.Range.{Range}
@@ -8,7 +8,6 @@ use Rattle.layout.specs.Layout.{segments, privileges}
 use Rattle.table.specs.Parts.{span_of}
 use Rattle.table.specs.Table.{Table}
 use Rattle.sweep.specs.Sweep.{is_member}
-use Rattle.sweep.specs.declared.Members.TheVariants.{OfClass}
 use Rattle.report.specs.Report.{pair_members}
 
 -- x is a member of a list
@@ -33,7 +32,7 @@ share table t i j = share_of (span_of (table.at t j)) (span_of (table.at t i))
 -- a range shares no stretch of positive length with a privilege of the class: none touches it but at its ends
 abbrev pub Clear : Table → ℕ → Range → Type 0
 Clear table class r =
-    (j : ℕ) → j < table.count privileges → is_member (OfClass class) (table.at privileges j) ≡ true → share_of (span_of (table.at privileges j)) r ≡ false
+    (j : ℕ) → j < table.count privileges → is_member (Some class) (table.at privileges j) ≡ true → share_of (span_of (table.at privileges j)) r ≡ false
 
 -- a stretch of segment i, "of positive length", that no privilege of the class covers
 pub record Bare (table : Table) (class i : ℕ) (r : Range) : Type 0 where

@@ -6,7 +6,7 @@ use Rattle.std.proofs.Math.Seq.{drop-append-add}
 use Rattle.byte_writes.specs.Bytes.{little, figure_bytes}
 use Rattle.byte_writes.specs.Laws.{eight, length_little, sets_next}
 use Rattle.lists.specs.Pour.{pour}
-use Rattle.report_rows.specs.Rows.{row_size, stretch_bytes, mark_bytes, encode_row, encode_all, offer_at}
+use Rattle.report_rows.specs.Rows.{row_size, kind_byte, class_byte, stretch_bytes, mark_bytes, encode_row, encode_all, offer_at}
 use Rattle.report_rows.specs.declared.ReportRow.{ReportRow}
 
 length_stretch : (x : ReportRow) → length (stretch_bytes x) ≡ 16
@@ -41,18 +41,18 @@ stretch_set x l at =
 
 pub marks_set :
     (x : ReportRow) (l : List ℕ) (at : ℕ)
-    → sets (sets (sets (sets (sets l at (little 1 x.kind)) (at + 1) (little 1 x.class)) (at + 2) (little 2 x.first))
+    → sets (sets (sets (sets (sets l at (little 1 (kind_byte x.kind))) (at + 1) (little 1 (class_byte x.class))) (at + 2) (little 2 x.first))
     (at + 4) (little 2 x.second)) (at + 6) (little 2 0)
     ≡ sets l at (mark_bytes x)
 unfolding mark_bytes
 marks_set x l at =
-    let k = little 1 x.kind in
-    let c = little 1 x.class in
+    let k = little 1 (kind_byte x.kind) in
+    let c = little 1 (class_byte x.class) in
     let i = little 2 x.first in
     let j = little 2 x.second in
     let z = little 2 0 in
-    let lk = length_little 1 x.kind in
-    let lc = length_little 1 x.class in
+    let lk = length_little 1 (kind_byte x.kind) in
+    let lc = length_little 1 (class_byte x.class) in
     let li = length_little 2 x.first in
     let lj = length_little 2 x.second in
     sets_next j z (sets (sets (sets l at k) (at + 1) c) (at + 2) i) (at + 4) (at + 6) (omega arith)

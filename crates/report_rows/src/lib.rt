@@ -4,23 +4,42 @@
 
 ghost use Rattle.std.specs.Prelude.{◌≡◌, ◌+◌, ◌≤◌, length};
 ghost use Rattle.std.proofs.lemmas.List.Edits.{sets};
-ghost use Rattle.report_rows.specs.Rows.{stretch_bytes, mark_bytes, encode_row, offer_at};
+ghost use Rattle.report_rows.specs.Rows.{kind_byte, stretch_bytes, mark_bytes, encode_row, offer_at};
 
 use profile::Range;
 
 pub const ROW_SIZE: usize = 24;
 
-// A stretch, what it is, its class, and the indices of the two records that share it; of a gap its segment's, twice.
+// What a stretch is: shared by two records of the table of this number, or covered by no privilege.
+#[derive(Clone, Copy, PartialEq, Eq)]
+pub enum RowKind {
+    Overlap(u8),
+    Gap,
+}
+
+impl From<RowKind> for u8 {
+    ghost from_gives = { λ kind n. n ≡ kind_byte kind };
+
+    fn from(kind: RowKind) -> u8 {
+        match kind {
+            RowKind::Overlap(table) => table,
+            RowKind::Gap => 255,
+        }
+    }
+}
+
+// A stretch, what it is, its class, if it has one, and the indices of the two records that share it; of a gap its segment's, twice.
 #[derive(Clone, Copy)]
 pub struct ReportRow {
     pub stretch: Range,
-    pub kind: u8,
-    pub class: u8,
+    pub kind: RowKind,
+    pub class: Option<u8>,
     pub first: usize,
     pub second: usize,
 }
 
 // The two figures of a row.
+#[tactic(auto, using(crate::specs::Laws::stretch_set))]
 fn put_stretch(rows: &mut [u8], at: usize, x: ReportRow)
     requires { at + 16 ≤ length rows.old }
     ensures { rows.new ≡ sets rows.old at (stretch_bytes x) }
@@ -30,18 +49,20 @@ fn put_stretch(rows: &mut [u8], at: usize, x: ReportRow)
 }
 
 // Its kind, class and indices, and the two zero bytes.
+#[tactic(auto, using(crate::specs::Laws::marks_set))]
 fn put_marks(rows: &mut [u8], at: usize, x: ReportRow)
     requires { at + 8 ≤ length rows.old }
     ensures { rows.new ≡ sets rows.old at (mark_bytes x) }
 {
-    byte_writes::put(rows, at, 1, x.kind as u64);
-    byte_writes::put(rows, at + 1, 1, x.class as u64);
+    byte_writes::put(rows, at, 1, u8::from(x.kind) as u64);
+    byte_writes::put(rows, at + 1, 1, x.class.unwrap_or(0) as u64);
     byte_writes::put(rows, at + 2, 2, x.first as u64);
     byte_writes::put(rows, at + 4, 2, x.second as u64);
     byte_writes::put(rows, at + 6, 2, 0);
 }
 
 // A row, in the 24 bytes from at on.
+#[tactic(auto, using(crate::specs::Laws::row_set))]
 fn put_row(rows: &mut [u8], at: usize, x: ReportRow)
     requires { at + 24 ≤ length rows.old }
     ensures { rows.new ≡ sets rows.old at (encode_row x) }
@@ -51,6 +72,7 @@ fn put_row(rows: &mut [u8], at: usize, x: ReportRow)
 }
 
 // A row behind n others, where there is room for it; else nothing.
+#[tactic(auto, unfolding(crate::specs::Rows::offer_at))]
 pub fn offer(rows: &mut [u8], n: usize, x: ReportRow)
     ensures { rows.new ≡ offer_at x n rows.old }
 {

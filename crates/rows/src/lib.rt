@@ -22,6 +22,7 @@ pub struct SafeDial {
 }
 
 // The four figures of a row.
+#[tactic(auto, using(crate::specs::Turns::figures_set))]
 fn put_figures(rows: &mut [u8], at: usize, row: SafeDial)
     requires { at + 36 ≤ length rows.old }
     ensures { rows.new ≡ sets rows.old at (figures_of row) }
@@ -33,6 +34,7 @@ fn put_figures(rows: &mut [u8], at: usize, row: SafeDial)
 }
 
 // A row, in the 36 bytes from at on.
+#[tactic(auto, using(crate::specs::Turns::row_set))]
 fn put_row(rows: &mut [u8], at: usize, row: SafeDial)
     requires { at + 36 ≤ length rows.old }
     ensures { rows.new ≡ sets rows.old at (encode_row row) }
@@ -66,56 +68,43 @@ pub fn band_at(rows: &[u8], at: usize) -> u8
 }
 
 // The place of a lower dial among the first count rows: after the last row that does not lie above it.
+#[tactic(auto, using(crate::specs::Turns::place_below, crate::specs::Turns::place_none))]
 fn place(rows: &[u8], count: usize, dial_low_hz: f64) -> usize
     requires { count * 36 ≤ length rows.now }
     ensures { result ≡ place_at dial_low_hz count rows.now }
 {
-    let mut k = count;
-    while 0 < k {
-        let i = k - 1;
+    for i in (0..count).rev() {
         if !figures::total_less(dial_low_hz, low_at(rows, i * ROW_SIZE)) {
-            return k;
+            return i + 1;
         }
-        k = i;
     }
-    k
+    0
 }
 
-// Moves the bytes between two places up by a row, the last first.
-fn shift(rows: &mut [u8], from: usize, to: usize)
-    requires { (from ≤ to) × (to + 36 ≤ length rows.old) }
-    ensures { rows.new ≡ sets rows.old (from + 36) (take (to - from) (drop from rows.old)) }
-{
-    let mut k = to;
-    while from < k {
-        k -= 1;
-        rows[k + ROW_SIZE] = rows[k];
-    }
-}
-
-// Puts a row in its place among the first count rows.
+// Puts a row in its place among the first count rows: the bytes from there to their end move up by a row.
+#[tactic(auto, using(crate::specs::Turns::place_le, crate::specs::Turns::moved_up), unfolding(crate::specs::Held::insert_at, crate::specs::Held::insert_from))]
 fn insert(rows: &mut [u8], count: usize, row: SafeDial)
     requires { count * 36 + 36 ≤ length rows.old }
     ensures { rows.new ≡ insert_at row count rows.old }
 {
     let end = count * ROW_SIZE;
     let at = place(rows, count, row.dial_low_hz) * ROW_SIZE;
-    shift(rows, at, end);
+    rows.copy_within(at..end, at + ROW_SIZE);
     put_row(rows, at, row);
 }
 
 // Whether a lower dial comes behind the first count rows: the last of them lies below it, or there is none.
+#[tactic(auto, using(crate::specs::Turns::follows_none, crate::specs::Turns::follows_last))]
 fn follows(rows: &[u8], count: usize, dial_low_hz: f64) -> bool
     requires { count * 36 ≤ length rows.now }
     ensures { result ≡ follows_at dial_low_hz count rows.now }
 {
-    if 0 < count {
-        return low_at(rows, (count - 1) * ROW_SIZE) < dial_low_hz;
-    }
-    true
+    count == 0 || low_at(rows, (count - 1) * ROW_SIZE) < dial_low_hz
 }
 
-// The same where there is room for one row more than count; else nothing. The row comes in its parts, which pass in registers.
+// Puts a row in its place where there is room for one row more than count; else nothing. The row comes in its parts, which pass in
+// registers.
+#[tactic(auto, using(crate::specs::Turns::insert_behind), unfolding(crate::specs::Held::offer_at))]
 pub fn offer(
     rows: &mut [u8],
     count: usize,
@@ -129,18 +118,17 @@ pub fn offer(
     ensures { rows.new ≡ offer_at (row_of band rule low_hz high_hz dial_low_hz dial_high_hz) count rows.old }
 {
     if count < rows.len() / ROW_SIZE {
-        let segment = Range { low_hz, high_hz };
         let row = SafeDial {
             band,
-            segment,
+            segment: Range { low_hz, high_hz },
             rule,
             dial_low_hz,
             dial_high_hz,
         };
         if follows(rows, count, dial_low_hz) {
             put_row(rows, count * ROW_SIZE, row);
-            return;
+        } else {
+            insert(rows, count, row);
         }
-        insert(rows, count, row);
     }
 }

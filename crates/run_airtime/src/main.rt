@@ -1,302 +1,175 @@
 // A program of the gate: it asks for the totals of the runs that its input lists or makes, and writes what each call answers and every
 // total that was lent. Input and output come from tools/reference/airtime.py, which says what the bytes mean. It stops at input that is
-// malformed. It uses layout, airtime and lines.
+// malformed. It uses codes, airtime and lines.
 #![tactic(auto)]
 
-ghost use Rattle.std.specs.Prelude.{◌+◌, ◌*◌, ◌<◌, ◌≤◌, length};
-
-use airtime::Airtime;
+use lines::Cursor;
+use std::alloc::{AllocError, Global};
 use std::io;
 use std::io::Write;
-
-// The bytes that every case begins with, and those of a rule.
-const HEAD_SIZE: usize = 17;
-
-const RULE_SIZE: usize = 24;
-
-// One record more than a run may have.
-const ROOM: usize = 65537;
+use std::num::{NonZeroU64, NonZeroUsize};
 
 // What a total holds before the call.
 const FILL: u64 = 0xa0a0_a0a0_a0a0_a0a0;
 
 const FOLD: u64 = 4294967291;
 
-fn number(out: &mut impl Write, name: &[u8], n: u64) -> io::Result<()> {
-    out.write_all(name)?;
-    lines::decimal(out, n)
+// The runs of a case.
+#[derive(Clone, Copy)]
+enum Runs<'a> {
+    // The bytes of each.
+    Listed {
+        starts: &'a [u8],
+        bands: &'a [u8],
+        seconds: &'a [u8],
+    },
+    // So many of each, by a rule.
+    Made {
+        starts: usize,
+        bands: usize,
+        seconds: usize,
+        rule: Rule,
+    },
 }
 
-// ---- runs that the input lists
+// Starts that go a step on behind so many records, modulo 2^64; so many bands, one after the other; and seconds that grow by a factor, modulo
+// 65,536.
+#[derive(Clone, Copy)]
+struct Rule {
+    first: u64,
+    step: u64,
+    alike: NonZeroU64,
+    bands: NonZeroUsize,
+    factor: u16,
+}
 
-fn read_starts(s: &[u8], at: usize, out: &mut [u64])
-    requires { at + 8 * length out.old ≤ length s.now }
-{
-    let mut i: usize = 0;
-    while i < out.len() {
-        out[i] = layout::u64_at(s, at + 8 * i);
-        i += 1;
+impl Rule {
+    fn read(input: &mut Cursor<'_>) -> Option<Self> {
+        Some(Rule {
+            first: input.u64()?,
+            step: input.u64()?,
+            alike: NonZeroU64::new(u64::from(input.u32()?))?,
+            bands: NonZeroUsize::new(input.small()?)?,
+            factor: input.u16()?,
+        })
     }
-}
 
-fn read_bands(s: &[u8], at: usize, out: &mut [u8])
-    requires { at + length out.old ≤ length s.now }
-{
-    let mut i: usize = 0;
-    while i < out.len() {
-        out[i] = s[at + i];
-        i += 1;
+    fn starts(self, alloc: Global, count: usize) -> Result<Vec<u64>, AllocError> {
+        (0..count as u64)
+            .map(|i| self
+                .first
+                .wrapping_add(self.step.wrapping_mul(i / self.alike)))
+            .collect(alloc)
     }
-}
 
-fn read_seconds(s: &[u8], at: usize, out: &mut [u16])
-    requires { at + 2 * length out.old ≤ length s.now }
-{
-    let mut i: usize = 0;
-    while i < out.len() {
-        out[i] = layout::u16_at(s, at + 2 * i);
-        i += 1;
+    fn bands(self, alloc: Global, count: usize) -> Result<Vec<u8>, AllocError> {
+        (0..count)
+            .map(|i| (i % self.bands & 0xff) as u8)
+            .collect(alloc)
     }
-}
 
-// ---- runs that are made by a rule
-
-// The start of record i, from that of the one before: a step on where as many records as go to a start are passed, modulo 2^64.
-fn next_start(start: u64, step: u64, alike: usize, i: usize) -> u64
-    requires { 0 < alike }
-{
-    if i % alike == 0 {
-        return std::num::wrapping_add_u64(start, step);
-    }
-    start
-}
-
-fn make_starts(first: u64, step: u64, alike: usize, out: &mut [u64])
-    requires { 0 < alike }
-{
-    let mut start = first;
-    let mut i: usize = 0;
-    while i < out.len() {
-        out[i] = start;
-        i += 1;
-        start = next_start(start, step, alike, i);
-    }
-}
-
-fn make_bands(bands: usize, out: &mut [u8])
-    requires { (0 < bands) × (bands ≤ 256) }
-{
-    let mut i: usize = 0;
-    while i < out.len() {
-        out[i] = (i % bands) as u8;
-        i += 1;
+    fn seconds(self, alloc: Global, count: usize) -> Result<Vec<u16>, AllocError> {
+        (0..count as u64)
+            .map(|i| (i.wrapping_mul(u64::from(self.factor)) & 0xffff) as u16)
+            .collect(alloc)
     }
 }
 
-fn make_seconds(factor: u64, out: &mut [u16])
-    requires { factor < 65536 }
-{
-    let mut seconds: u64 = 0;
-    let mut i: usize = 0;
-    while i < out.len() {
-        out[i] = seconds as u16;
-        seconds = (seconds + factor) % 65536;
-        i += 1;
+#[derive(Clone, Copy)]
+struct Case<'a> {
+    runs: Runs<'a>,
+    lent: usize,
+}
+
+impl<'a> Case<'a> {
+    fn read(input: &mut Cursor<'a>) -> Option<Self> {
+        let form = input.u8()?;
+        let starts = input.size()?;
+        let bands = input.size()?;
+        let seconds = input.size()?;
+        let lent = input.size()?;
+        let runs = match form {
+            0 => Runs::Listed {
+                starts: input.bytes(8 * starts)?,
+                bands: input.bytes(bands)?,
+                seconds: input.bytes(2 * seconds)?,
+            },
+            _ => Runs::Made {
+                starts,
+                bands,
+                seconds,
+                rule: Rule::read(input)?,
+            },
+        };
+        Some(Case { runs, lent })
     }
 }
 
-// ---- what was answered
-
-fn answered(out: &mut impl Write, answer: Airtime) -> io::Result<()> {
-    match answer {
-        Airtime::Totals(n) => {
-            number(out, b" refusal ", 0)?;
-            number(out, b" totals ", n as u64)?;
-        }
-        Airtime::Refused(n) => {
-            number(out, b" refusal ", n as u64)?;
-            number(out, b" totals ", 0)?;
-        }
-    }
-    Ok(())
-}
-
-fn each_total(out: &mut impl Write, totals: &[u64]) -> io::Result<()> {
-    let mut i: usize = 0;
-    while i < totals.len() {
-        number(out, b" ", totals[i])?;
-        i += 1;
-    }
-    Ok(())
-}
-
-fn folded(out: &mut impl Write, totals: &[u64]) -> io::Result<()> {
-    let mut h: u64 = 0;
-    let mut i: usize = 0;
-    while i < totals.len() {
-        h = (h * 31 + totals[i] % FOLD) % FOLD;
-        i += 1;
-    }
-    number(out, b" folded ", h)
-}
-
-// ---- a case
-
-// The runs of a case, from the lists or from the rule that begins at a place. The place behind it, or 0 where it is malformed.
-fn listed(s: &[u8], at: usize, starts: &mut [u64], bands: &mut [u8], seconds: &mut [u16]) -> usize
-    requires { (at ≤ length s.now) × ((length starts.old ≤ 65537) × ((length bands.old ≤ 65537) × (length seconds.old ≤ 65537))) }
-{
-    let bands_at = at + 8 * starts.len();
-    let seconds_at = bands_at + bands.len();
-    let end = seconds_at + 2 * seconds.len();
-    if s.len() < end {
-        return 0;
-    }
-    read_starts(s, at, starts);
-    read_bands(s, bands_at, bands);
-    read_seconds(s, seconds_at, seconds);
-    end
-}
-
-fn made(s: &[u8], at: usize, starts: &mut [u64], bands: &mut [u8], seconds: &mut [u16]) -> usize
-    requires { at ≤ length s.now }
-{
-    if s.len() - at < RULE_SIZE {
-        return 0;
-    }
-    let alike = layout::u32_at(s, at + 16) as usize;
-    if alike == 0 {
-        return 0;
-    }
-    let of = layout::u16_at(s, at + 20) as usize;
-    if of == 0 {
-        return 0;
-    }
-    if 256 < of {
-        return 0;
-    }
-    make_starts(
-        layout::u64_at(s, at),
-        layout::u64_at(s, at + 8),
-        alike,
-        starts,
-    );
-    make_bands(of, bands);
-    make_seconds(layout::u16_at(s, at + 22) as u64, seconds);
-    at + RULE_SIZE
-}
-
-fn runs(
-    s: &[u8],
-    at: usize,
-    form: u8,
-    starts: &mut [u64],
-    bands: &mut [u8],
-    seconds: &mut [u16],
-) -> usize
-    requires { (at ≤ length s.now) × ((length starts.old ≤ 65537) × ((length bands.old ≤ 65537) × (length seconds.old ≤ 65537))) }
-{
-    if form == 0 {
-        return listed(s, at, starts, bands, seconds);
-    }
-    made(s, at, starts, bands, seconds)
-}
-
-// The line of a case of given runs, which are still to be read or made.
-fn line(
+// The call, on runs and totals that are there.
+fn called(
     out: &mut impl Write,
-    s: &[u8],
-    at: usize,
-    form: u8,
     k: u16,
-    starts: &mut [u64],
-    bands: &mut [u8],
-    seconds: &mut [u16],
+    starts: &[u64],
+    bands: &[u8],
+    seconds: &[u16],
     totals: &mut [u64],
-) -> io::Result<usize>
-    requires { (at ≤ length s.now) × ((length starts.old ≤ 65537) × ((length bands.old ≤ 65537) × (length seconds.old ≤ 65537))) }
-{
-    let next = runs(s, at, form, starts, bands, seconds);
-    if next == 0 {
-        return Ok(0);
+) -> io::Result<()> {
+    match airtime::totals(starts, bands, seconds, totals) {
+        Ok(n) => write!(out, "{k} refusal 0 totals {n}"),
+        Err(r) => write!(out, "{k} refusal {} totals 0", u8::from(r)),
     }
-    lines::decimal(out, k as u64)?;
-    answered(out, airtime::totals(starts, bands, seconds, totals))?;
-    if form == 0 {
-        each_total(out, totals)?;
-    } else {
-        folded(out, totals)?;
-    }
-    out.write_all(b"\n")?;
-    Ok(next)
 }
 
-// The line of the case at a place; the next case's place, or 0 where it is malformed.
-fn case(out: &mut impl Write, s: &[u8], at: usize, k: u16) -> io::Result<usize>
-    requires { at ≤ length s.now }
-{
-    if s.len() - at < HEAD_SIZE {
-        return Ok(0);
+// All totals in one number.
+fn folded(totals: &[u64]) -> u64 {
+    let mut h = 0;
+    for t in totals {
+        h = (h * 31 + *t % FOLD) % FOLD;
     }
-    let form = layout::byte_at(s, at);
-    let starts = layout::u32_at(s, at + 1) as usize;
-    let bands = layout::u32_at(s, at + 5) as usize;
-    let seconds = layout::u32_at(s, at + 9) as usize;
-    let lent = layout::u32_at(s, at + 13) as usize;
-    if ROOM < starts {
-        return Ok(0);
-    }
-    if ROOM < bands {
-        return Ok(0);
-    }
-    if ROOM < seconds {
-        return Ok(0);
-    }
-    if ROOM < lent {
-        return Ok(0);
-    }
-    let mut a = [0u64; ROOM];
-    let mut b = [0u8; ROOM];
-    let mut c = [0u16; ROOM];
-    let mut d = [FILL; ROOM];
-    line(
-        out,
-        s,
-        at + HEAD_SIZE,
-        form,
-        k,
-        &mut a[0..starts],
-        &mut b[0..bands],
-        &mut c[0..seconds],
-        &mut d[0..lent],
-    )
+    h
 }
 
-// The cases of the input, in their order.
-fn cases(out: &mut impl Write, s: &[u8]) -> io::Result<()> {
-    if s.len() < 2 {
-        return Ok(());
-    }
-    let count = layout::u16_at(s, 0);
-    let mut at: usize = 2;
-    let mut k: u16 = 0;
-    while k < count {
-        if s.len() < at {
-            return Ok(());
+// The line of a case: of listed runs each total, of those that are made all of them folded.
+fn answer(alloc: Global, out: &mut impl Write, k: u16, case: Case<'_>) -> io::Result<()> {
+    let mut totals = vec![in alloc; FILL; case.lent]?;
+    match case.runs {
+        Runs::Listed {
+            starts,
+            bands,
+            seconds,
+        } => {
+            let starts = lines::longs(alloc, starts)?;
+            let seconds = lines::words(alloc, seconds)?;
+            called(out, k, &starts, bands, &seconds, &mut totals)?;
+            for t in totals.iter() {
+                write!(out, " {t}")?;
+            }
         }
-        let next = case(out, s, at, k)?;
-        if next == 0 {
-            return Ok(());
+        Runs::Made {
+            starts,
+            bands,
+            seconds,
+            rule,
+        } => {
+            let starts = rule.starts(alloc, starts)?;
+            let bands = rule.bands(alloc, bands)?;
+            let seconds = rule.seconds(alloc, seconds)?;
+            called(out, k, &starts, &bands, &seconds, &mut totals)?;
+            write!(out, " folded {}", folded(&totals))?;
         }
-        at = next;
-        k += 1;
     }
-    Ok(())
+    writeln!(out)
 }
 
 fn main(rt: HostRuntime) -> io::Result<()> {
+    let alloc = rt.alloc();
     let input = lines::input(&rt, 16384)?;
     let mut out = lines::output(&rt)?;
-    cases(&mut out, &input)?;
+    lines::cases(
+        &mut out,
+        &input,
+        Case::read,
+        |out, k, case| answer(alloc, out, k, case),
+    )?;
     out.flush()
 }

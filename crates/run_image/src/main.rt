@@ -1,202 +1,117 @@
 // A program of the gate: it builds the images that its input describes and writes what the check and the tidy question
 // answer of each, and where the table is wrong. Input and output come from tools/reference/borders.py, which says what
-// the bytes mean. It stops at input that is malformed. It uses codes, layout, image, tidy, fault and lines.
+// the bytes mean. It stops at input that is malformed, and says where an image has no room for a patch. It uses codes, image, tidy, fault,
+// numbers and lines.
 #![tactic(auto)]
 
-use codes::Checked;
 use fault::Fault;
+use lines::Cursor;
+use std::alloc::Global;
 use std::io;
 use std::io::Write;
-use tidy::Tidiness;
 
-// The largest image of the input.
-const LARGEST: usize = 65600;
-
-// Where the input goes on, or that it is malformed.
+// A body that is written at a place of an image, so many times, a stride apart.
 #[derive(Clone, Copy)]
-enum Next {
-    At(usize),
-    Malformed,
+struct Patch<'a> {
+    place: usize,
+    times: u16,
+    stride: usize,
+    body: &'a [u8],
 }
 
-// Writes a body at a place of an image, and answers whether there is room for it.
-fn put(image: &mut [u8], at: usize, body: &[u8]) -> bool {
-    if image.len() < body.len() {
-        return false;
+impl<'a> Patch<'a> {
+    fn read(input: &mut Cursor<'a>) -> Option<Self> {
+        let place = input.size()?;
+        let size = input.small()?;
+        let times = input.u16()?;
+        let stride = input.size()?;
+        let body = input.bytes(size)?;
+        Some(Patch {
+            place,
+            times,
+            stride,
+            body,
+        })
     }
-    if image.len() - body.len() < at {
-        return false;
-    }
-    let mut i: usize = 0;
-    while i < body.len() {
-        image[at + i] = body[i];
-        i += 1;
-    }
-    true
-}
 
-// Writes a body so many times, a stride apart.
-fn repeat(image: &mut [u8], offset: u32, times: u16, stride: u32, body: &[u8]) -> bool {
-    let mut at = offset as usize;
-    let mut k: u16 = 0;
-    while k < times {
-        if !put(image, at, body) {
-            return false;
+    // None where the image has no room for it.
+    fn put(self, image: &mut [u8]) -> Option<()> {
+        let mut place = self.place;
+        for _ in 0..self.times {
+            let (_, rest) = image.split_at_mut_checked(place)?;
+            let (written, _) = rest.split_at_mut_checked(self.body.len())?;
+            written.copy_from_slice(self.body);
+            place = place.checked_add(self.stride)?;
         }
-        if LARGEST < at {
-            return false;
+        Some(())
+    }
+}
+
+// An image of so many noughts with so many patches, which stand where they are read.
+#[derive(Clone, Copy)]
+struct Case<'a> {
+    length: usize,
+    count: u16,
+    patches: Cursor<'a>,
+}
+
+impl<'a> Case<'a> {
+    fn read(input: &mut Cursor<'a>) -> Option<Self> {
+        let length = input.size()?;
+        let count = input.u16()?;
+        let patches = *input;
+        for _ in 0..count {
+            Patch::read(input)?;
         }
-        at += stride as usize;
-        k += 1;
+        Some(Case {
+            length,
+            count,
+            patches,
+        })
     }
-    true
-}
 
-// One patch of the input.
-fn patch(image: &mut [u8], s: &[u8], at: usize) -> Next {
-    if s.len() < 12 {
-        return Next::Malformed;
-    }
-    if s.len() - 12 < at {
-        return Next::Malformed;
-    }
-    let offset = layout::u32_at(s, at);
-    let n = layout::u16_at(s, at + 4) as usize;
-    let times = layout::u16_at(s, at + 6);
-    let stride = layout::u32_at(s, at + 8);
-    if n < 1 {
-        return Next::Malformed;
-    }
-    if 64 < n {
-        return Next::Malformed;
-    }
-    let start = at + 12;
-    if s.len() - start < n {
-        return Next::Malformed;
-    }
-    let end = start + n;
-    if repeat(image, offset, times, stride, &s[start..end]) {
-        Next::At(end)
-    } else {
-        Next::Malformed
-    }
-}
-
-// The patches of a case, in their order.
-fn patches(image: &mut [u8], s: &[u8], start: usize, count: u16) -> Next {
-    let mut at = start;
-    let mut k: u16 = 0;
-    while k < count {
-        match patch(image, s, at) {
-            Next::At(next) => {
-                at = next;
-            }
-            Next::Malformed => {
-                return Next::Malformed;
-            }
+    fn put(self, image: &mut [u8]) -> Option<()> {
+        let mut patches = self.patches;
+        for _ in 0..self.count {
+            Patch::read(&mut patches)?.put(image)?;
         }
-        k += 1;
-    }
-    Next::At(at)
-}
-
-fn checked_number(c: Checked) -> u64 {
-    match c {
-        Checked::Accepted => 0,
-        Checked::Refused(n) => n as u64,
+        Some(())
     }
 }
 
-fn tidy_number(t: Tidiness) -> u64 {
-    match t {
-        Tidiness::Untidy => 0,
-        Tidiness::Tidy => 1,
-        Tidiness::NotJudged(n) => 100 + n as u64,
+// The line of a case: what the check answers; 0 or 1 of the tidy question, or 100 and the refusal; and the place of the refusal, with a record's
+// table and index.
+fn answer(alloc: Global, out: &mut impl Write, k: u16, case: Case<'_>) -> io::Result<()> {
+    let mut image = vec![in alloc; 0; case.length]?;
+    if case.put(&mut image).is_none() {
+        return writeln!(out, "{k} has no room for a patch");
     }
-}
-
-// The place of a refusal: its number, and a record's table and index.
-fn print_fault(out: &mut impl Write, f: Fault) -> io::Result<()> {
-    lines::decimal(out, fault::fault_number(f) as u64)?;
-    if let Fault::InRecord(t, i) = f {
-        out.write_all(b" ")?;
-        lines::decimal(out, t as u64)?;
-        out.write_all(b" ")?;
-        lines::decimal(out, i as u64)?;
+    let check = numbers::refusal_number(image::check(&image));
+    let tidy = match tidy::is_tidy(&image) {
+        Ok(tidy) => tidy as u16,
+        Err(r) => 100 + u8::from(r) as u16,
+    };
+    let fault = fault::fault_of(&image).fault;
+    write!(
+        out,
+        "{k} check {check} tidy {tidy} fault {}",
+        fault::fault_number(fault)
+    )?;
+    if let Some(Fault::InRecord(table, index)) = fault {
+        write!(out, " {table} {index}")?;
     }
-    Ok(())
-}
-
-// The line of a case.
-fn report(out: &mut impl Write, number: u16, image: &[u8]) -> io::Result<()> {
-    lines::decimal(out, number as u64)?;
-    out.write_all(b" check ")?;
-    lines::decimal(out, checked_number(image::check(image)))?;
-    out.write_all(b" tidy ")?;
-    lines::decimal(out, tidy_number(tidy::is_tidy(image)))?;
-    out.write_all(b" fault ")?;
-    let answer = fault::fault_of(image);
-    let f = answer.fault;
-    print_fault(out, f)?;
-    out.write_all(b"\n")
-}
-
-// One case of the input, on an image of zeros.
-fn case_on(
-    out: &mut impl Write,
-    image: &mut [u8],
-    s: &[u8],
-    at: usize,
-    number: u16,
-) -> io::Result<Next> {
-    if s.len() < 6 {
-        return Ok(Next::Malformed);
-    }
-    if s.len() - 6 < at {
-        return Ok(Next::Malformed);
-    }
-    let length = layout::u32_at(s, at) as usize;
-    let count = layout::u16_at(s, at + 4);
-    if image.len() < length {
-        return Ok(Next::Malformed);
-    }
-    let next = patches(&mut image[..length], s, at + 6, count);
-    if let Next::At(_) = next {
-        report(out, number, &image[..length])?;
-    }
-    Ok(next)
-}
-
-fn case(out: &mut impl Write, s: &[u8], at: usize, number: u16) -> io::Result<Next> {
-    let mut image = [0u8; LARGEST];
-    case_on(out, &mut image, s, at, number)
-}
-
-// The cases of the input, in their order.
-fn cases(out: &mut impl Write, s: &[u8]) -> io::Result<()> {
-    if s.len() < 2 {
-        return Ok(());
-    }
-    let count = layout::u16_at(s, 0);
-    let mut at: usize = 2;
-    let mut k: u16 = 0;
-    while k < count {
-        match case(out, s, at, k)? {
-            Next::At(next) => {
-                at = next;
-            }
-            Next::Malformed => {
-                return Ok(());
-            }
-        }
-        k += 1;
-    }
-    Ok(())
+    writeln!(out)
 }
 
 fn main(rt: HostRuntime) -> io::Result<()> {
+    let alloc = rt.alloc();
     let input = lines::input(&rt, 524288)?;
     let mut out = lines::output(&rt)?;
-    cases(&mut out, &input)?;
+    lines::cases(
+        &mut out,
+        &input,
+        Case::read,
+        |out, k, case| answer(alloc, out, k, case),
+    )?;
     out.flush()
 }

@@ -1,10 +1,9 @@
 -- What a call that is not refused is lent.
-use Rattle.std.specs.Prelude.{ℕ, ◌/◌, ◌%◌, Bool, true, false, not, ◌||◌, List, ◌≡◌, refl, eqb, ltb, length, Float}
+use Rattle.std.specs.Prelude.{ℕ, ◌/◌, ◌%◌, Bool, true, false, not, ◌||◌, List, ◌≡◌, refl, eqb, ltb, length, Float, Ok}
 use Rattle.std.proofs.Common.{true≢false, eqb-true}
 use Rattle.codes.specs.Read.{direction_valid}
 use Rattle.codes.specs.Refusal.{refusal_of}
 use Rattle.codes.specs.Laws.{refusal_both, none_fails}
-use Rattle.codes.specs.declared.Checked.TheVariants.{Accepted}
 use Rattle.station.specs.declared.StationRecord.{StationRecord}
 use Rattle.entry.specs.Entry.{entry_tests}
 use Rattle.occupancy.specs.declared.Edges.{Edges}
@@ -24,7 +23,7 @@ one_each rungs floors e =
 
 pub rungs_marked :
     (r : StationRecord) (direction : ℕ) (ordinary floor : Edges) (l : List ℕ) (rungs : List Float) (floors : List ℕ)
-    → refusal_of (ceiling_tests r direction ordinary floor l rungs floors) ≡ Accepted → length floors ≡ length rungs / 4
+    → refusal_of (ceiling_tests r direction ordinary floor l rungs floors) ≡ Ok tt → length floors ≡ length rungs / 4
 rungs_marked r direction ordinary floor l rungs floors e =
     let n = none_fails (rung_tests ordinary floor rungs floors)
     (refusal_both (entry_tests r (direction_valid direction) l) (rung_tests ordinary floor rungs floors) e).1 in

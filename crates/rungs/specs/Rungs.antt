@@ -2,6 +2,7 @@
 use Rattle.std.specs.Prelude.{ℕ, ◌+◌, ◌*◌, ◌/◌, ◌%◌, Bool, not, cond, ◌||◌, List, [], ◌∷◌, ◌++◌, eqb, ltb, length, get_or, Float}
 use Rattle.std.specs.Float.{nan}
 use Rattle.figures.specs.Figure.{limit40, in_size}
+use Rattle.codes.specs.declared.Refusal.TheVariants as refusal
 use Rattle.codes.specs.Read.{direction_valid}
 use Rattle.codes.specs.Refusal.{Test, test}
 use Rattle.profile.specs.Range.{range}
@@ -56,7 +57,7 @@ bad_rungs rungs floors =
 
 -- "Order: 20, 21, 22, 1 to 14, 15, 16 …"
 abbrev pub rung_tests : Edges → Edges → List Float → List ℕ → List Test
-rung_tests ordinary floor rungs floors = test 15 (bad_edges ordinary floor rungs) ∷ test 16 (bad_rungs rungs floors) ∷ []
+rung_tests ordinary floor rungs floors = test refusal.SignalEdge (bad_edges ordinary floor rungs) ∷ test refusal.Rungs (bad_rungs rungs floors) ∷ []
 
 abbrev pub ceiling_tests : StationRecord → ℕ → Edges → Edges → List ℕ → List Float → List ℕ → List Test
 ceiling_tests r direction ordinary floor l rungs floors = entry_tests r (direction_valid direction) l ++ rung_tests ordinary floor rungs floors

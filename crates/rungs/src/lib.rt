@@ -1,12 +1,12 @@
 // The rungs that a ceiling is asked for, as they are lent: a run of figures, four a rung, with a floor byte each; the edges of a rung with its
-// control frame, and what refuses a call. It uses figures, codes, profile, occupancy, station, layout and entry; its definitions use scan too.
+// control frame, and what refuses a call. It uses figures, codes, profile, occupancy, scan, station, layout and entry.
 #![tactic(auto)]
 
 ghost use Rattle.std.specs.Prelude.{◌+◌, ◌*◌, ◌<◌, ◌≡◌, length};
 ghost use Rattle.codes.specs.Refusal.{refusal_of};
 ghost use Rattle.rungs.specs.Rungs.{figure_at, rung_of, control_edges, burst_of, any_unsized, any_unmarked, bad_edges, bad_rungs, ceiling_tests};
 
-use codes::Checked;
+use codes::{Checked, Refusal};
 use occupancy::Edges;
 use profile::Range;
 use station::StationRecord;
@@ -22,60 +22,38 @@ fn figure_at(s: &[f64], at: usize) -> f64
 fn any_unsized(rungs: &[f64]) -> bool
     ensures { result ≡ any_unsized rungs.now }
 {
-    let mut i: usize = 0;
-    while i < rungs.len() {
-        if !figures::in_size(figures::LIMIT, figure_at(rungs, i)) {
-            return true;
-        }
-        i += 1;
-    }
-    false
+    scan::some(
+        rungs.len(),
+        |i| !figures::in_size(figures::LIMIT, figure_at(rungs, i)),
+    )
 }
 
 // Whether some floor byte is neither 0 nor 1.
 fn any_unmarked(floors: &[u8]) -> bool
     ensures { result ≡ any_unmarked floors.now }
 {
-    let mut i: usize = 0;
-    while i < floors.len() {
-        if layout::byte_at(floors, i) > 1 {
-            return true;
-        }
-        i += 1;
-    }
-    false
+    scan::some(floors.len(), |i| layout::byte_at(floors, i) > 1)
 }
 
 // Refusal 15: an edge.
+#[tactic(auto, unfolding(crate::specs::Rungs::bad_edges))]
 fn bad_edges(ordinary: Edges, floor: Edges, rungs: &[f64]) -> bool
     ensures { result ≡ bad_edges ordinary floor rungs.now }
 {
-    if any_unsized(rungs) {
-        return true;
-    }
-    if !entry::edges_valid(ordinary) {
-        return true;
-    }
-    !entry::edges_valid(floor)
+    any_unsized(rungs) || (!entry::edges_valid(ordinary) || !entry::edges_valid(floor))
 }
 
 // Refusal 16: the rungs and their floor bytes.
+#[tactic(auto, unfolding(crate::specs::Rungs::bad_rungs))]
 fn bad_rungs(rungs: &[f64], floors: &[u8]) -> bool
     ensures { result ≡ bad_rungs rungs.now floors.now }
 {
-    if rungs.len() % 4 != 0 {
-        return true;
-    }
-    if rungs.len() / 4 > 256 {
-        return true;
-    }
-    if floors.len() != rungs.len() / 4 {
-        return true;
-    }
-    any_unmarked(floors)
+    rungs.len() % 4 != 0
+        || (rungs.len() / 4 > 256 || (floors.len() != rungs.len() / 4 || any_unmarked(floors)))
 }
 
 // The refusals in order: 20 to 22, 1 to 14, 15, 16.
+#[tactic(auto, using(codes::specs::Laws::refusal_next), unfolding(entry::specs::Entry::entry_of))]
 pub fn ceiling_refusals(
     r: StationRecord,
     direction: u8,
@@ -87,35 +65,33 @@ pub fn ceiling_refusals(
 ) -> Checked
     ensures { result ≡ refusal_of (ceiling_tests r direction ordinary floor image.now rungs.now floors.now) }
 {
-    match entry::admit(r, codes::direction_valid(direction), image) {
-        Checked::Refused(n) => Checked::Refused(n),
-        Checked::Accepted => {
-            if bad_edges(ordinary, floor, rungs) {
-                return Checked::Refused(15);
-            }
-            if bad_rungs(rungs, floors) {
-                return Checked::Refused(16);
-            }
-            Checked::Accepted
-        }
+    entry::admit(r, codes::direction_valid(direction), image)?;
+    if bad_edges(ordinary, floor, rungs) {
+        return Err(Refusal::SignalEdge);
     }
+    if bad_rungs(rungs, floors) {
+        return Err(Refusal::Rungs);
+    }
+    Ok(())
 }
 
 // The edges of rung k.
+#[tactic(auto, unfolding(crate::specs::Rungs::rung_of))]
 fn rung_edges(rungs: &[f64], k: usize) -> Edges
     requires { 4 * k + 3 < length rungs.now }
     ensures { result ≡ rung_of rungs.now k }
 {
     let at = 4 * k;
-    let power = Range {
-        low_hz: figure_at(rungs, at),
-        high_hz: figure_at(rungs, at + 1),
-    };
-    let spectral = Range {
-        low_hz: figure_at(rungs, at + 2),
-        high_hz: figure_at(rungs, at + 3),
-    };
-    entry::edges_read(Edges { power, spectral })
+    entry::edges_read(Edges {
+        power: Range {
+            low_hz: figure_at(rungs, at),
+            high_hz: figure_at(rungs, at + 1),
+        },
+        spectral: Range {
+            low_hz: figure_at(rungs, at + 2),
+            high_hz: figure_at(rungs, at + 3),
+        },
+    })
 }
 
 // The control frame that goes with a rung, by its floor byte.
@@ -126,11 +102,10 @@ fn control_edges(ordinary: Edges, floor: Edges, mark: u8) -> Edges
 }
 
 // Rung k with its control frame.
+#[tactic(auto, unfolding(crate::specs::Rungs::burst_of))]
 pub fn burst(ordinary: Edges, floor: Edges, rungs: &[f64], floors: &[u8], k: usize) -> Edges
     requires { (4 * k + 3 < length rungs.now) × (k < length floors.now) }
     ensures { result ≡ burst_of ordinary floor rungs.now floors.now k }
 {
-    let rung = rung_edges(rungs, k);
-    let control = control_edges(ordinary, floor, layout::byte_at(floors, k));
-    rung.union(control)
+    rung_edges(rungs, k).union(control_edges(ordinary, floor, layout::byte_at(floors, k)))
 }

@@ -1,16 +1,16 @@
 -- What an image's bytes are beside their table, no answer can tell: images in form (1 to 4 refuse neither) that hold the same table get the
 -- same answer from every call.
-use Rattle.std.specs.Prelude.{ℕ, suc, ◌/◌, ◌<◌, ◌≤◌, Bool, false, not, ◌&&◌, ◌||◌, ◌≡◌, refl, eqb, ltb, length, Float}
+use Rattle.std.specs.Prelude.{ℕ, suc, ◌/◌, ◌<◌, ◌≤◌, Bool, false, not, ◌&&◌, ◌||◌, ◌≡◌, refl, eqb, ltb, length, Float, Result, Ok, Err}
+use Rattle.codes.specs.declared.Refusal.TheVariants as refusal
+use Rattle.codes.specs.Refusal.{Checked, Test, test, refusal_of}
+use Rattle.codes.specs.declared.Refusal.{Refusal}
 use Rattle.std.proofs.Math.Bool.{true, cond}
 use mathlib.Core.List.{List, [], ◌∷◌, ◌++◌, append_assoc, append-nil}
 use Rattle.std.proofs.Math.Path.{sym, ap, ap₂, fun_ext}
 use Rattle.std.proofs.Common.{◌∙◌, arith, ne_eqb, le-ltb}
 use Rattle.std.proofs.Math.Decide.{dec_le}
 use Rattle.codes.specs.Read.{direction_valid, kind_of, direction_of}
-use Rattle.codes.specs.Refusal.{Test, test, refusal_of}
 use Rattle.codes.specs.Laws.{refusal_next}
-use Rattle.codes.specs.declared.Checked.{Checked}
-use Rattle.codes.specs.declared.Checked.TheVariants.{Accepted, Refused}
 use Rattle.occupancy.specs.declared.Edges.{Edges}
 use Rattle.station.specs.Station.{under_rules, codes_valid, figures_valid, station_tests, situation_of}
 use Rattle.station.specs.declared.StationRecord.{StationRecord}
@@ -35,15 +35,13 @@ use Rattle.ceiling.specs.Ceiling.{judge_by, climbed, ceiling_unless_refused, cei
 use Rattle.rungs.specs.Rungs.{burst_of, rung_tests}
 use Rattle.rows.specs.declared.SafeDial.{SafeDial}
 use Rattle.dials.specs.List.{situation_rows, list_rows, lent_tests, list_tests, answer_of, bytes_of, SafeDials}
-use Rattle.dials.specs.declared.DialList.{DialList}
 use Rattle.report_rows.specs.declared.ReportRow.{ReportRow}
 use Rattle.report.specs.Report.{report_rows, report_tests, lent_tests as report_lent, answer_of as report_answer, bytes_of as report_bytes, Reported}
-use Rattle.report.specs.declared.TableReport.{TableReport}
 use Rattle.fault.specs.Fault.{fault_by, fault_of}
 
 -- in form: none of 1 to 4 refuses it
 abbrev pub InForm : List ℕ → Type 0
-InForm l = refusal_of (form_tests l) ≡ Accepted
+InForm l = refusal_of (form_tests l) ≡ Ok tt
 
 -- ---- the same table: the same general block, counts and records
 
@@ -86,7 +84,7 @@ same_table l m g n r =
 -- what the first tests leave, by what the others say
 tail_same : (a b c : List Test) → refusal_of b ≡ refusal_of c → refusal_of (a ++ b) ≡ refusal_of (a ++ c)
 tail_same [] b c e = e
-tail_same (t ∷ ts) b c e = ap (λ (x : Checked). cond t.fails (Refused t.number) x) (tail_same ts b c e)
+tail_same (t ∷ ts) b c e = ap (λ (x : Checked). cond t.fails (Err t.refusal) x) (tail_same ts b c e)
 
 module _ (l m : List ℕ) (L : InForm l) (M : InForm m) (same : table_of l ≡ table_of m) where
   -- the image check
@@ -111,7 +109,7 @@ module _ (l m : List ℕ) (L : InForm l) (M : InForm m) (same : table_of l ≡ t
 
   report_tests_same : (class : ℕ) (lent : List ℕ) → refusal_of (report_tests l class lent) ≡ refusal_of (report_tests m class lent)
   report_tests_same class lent =
-      ap (λ (c : Checked). cond (ltb 4 class) (Refused 20) c)
+      ap (λ (c : Checked). cond (ltb 4 class) (Err refusal.StationCode) c)
       (past l L ∙ ap (λ (x : Table). refusal_of (content_tests x ++ report_lent (report_rows x class) lent)) same ∙ sym (past m M))
     where
       past :
@@ -123,7 +121,7 @@ module _ (l m : List ℕ) (L : InForm l) (M : InForm m) (same : table_of l ≡ t
           ∙ refusal_next (form_tests k) (content_tests (table_of k) ++ report_lent (report_rows (table_of k) class) lent) f
 
   pub report_same :
-      (class : ℕ) (lent left : List ℕ) (answer : TableReport) → Reported l class lent left answer → Reported m class lent left answer
+      (class : ℕ) (lent left : List ℕ) (answer : Result ℕ Refusal) → Reported l class lent left answer → Reported m class lent left answer
   report_same class lent left answer d =
       record {
         answered = d.answered ∙ ap₂ report_answer (report_tests_same class lent) (report_rows_same class);
@@ -139,7 +137,7 @@ module _ (l m : List ℕ) (L : InForm l) (M : InForm m) (same : table_of l ≡ t
   station_same : (r : StationRecord) (beside : Bool) → station_tests r beside l ≡ station_tests r beside m
   station_same r beside =
       ap
-      (λ (b : Bool). test 20 (not (codes_valid r) || not beside) ∷ test 21 (not (figures_valid r)) ∷ test 22 (under_rules r && b) ∷ [])
+      (λ (b : Bool). test refusal.StationCode (not (codes_valid r) || not beside) ∷ test refusal.StationFigure (not (figures_valid r)) ∷ test refusal.NoImage (under_rules r && b) ∷ [])
       (filled l L ∙ sym (filled m M))
 
   checks_same : (more : List Test) → refusal_of (check_tests l ++ more) ≡ refusal_of (check_tests m ++ more)
@@ -209,13 +207,13 @@ module _ (l m : List ℕ) (L : InForm l) (M : InForm m) (same : table_of l ≡ t
       (r : StationRecord) (direction : ℕ) (e : Edges) (lent : List ℕ)
       → refusal_of (list_tests r direction e l lent) ≡ refusal_of (list_tests r direction e m lent)
   tests_same r direction e lent =
-      entry_same r (direction_valid direction) (test 15 (not (edges_valid e)) ∷ lent_tests (list_rows r direction e l) lent)
+      entry_same r (direction_valid direction) (test refusal.SignalEdge (not (edges_valid e)) ∷ lent_tests (list_rows r direction e l) lent)
       ∙ ap
-      (λ (xs : List SafeDial). refusal_of (entry_tests r (direction_valid direction) m ++ (test 15 (not (edges_valid e)) ∷ lent_tests xs lent)))
+      (λ (xs : List SafeDial). refusal_of (entry_tests r (direction_valid direction) m ++ (test refusal.SignalEdge (not (edges_valid e)) ∷ lent_tests xs lent)))
       (rows_same r direction e)
 
   pub list_same :
-      (r : StationRecord) (direction : ℕ) (e : Edges) (lent left : List ℕ) (answer : DialList)
+      (r : StationRecord) (direction : ℕ) (e : Edges) (lent left : List ℕ) (answer : Result ℕ Refusal)
       → SafeDials r direction e l lent left answer → SafeDials r direction e m lent left answer
   list_same r direction e lent left answer d =
       record {

@@ -1,13 +1,11 @@
 -- Laws of scans: what a loop knows at an index, and what an answer says of each index.
 use Prim.Native.Nat.{ℕ, zero, suc, ◌+◌, ◌-◌, ◌<◌, ◌≤◌}
-use Rattle.std.specs.Prelude.{◌≡◌, refl, Bool, true, false, cond, ◌&&◌}
+use Rattle.std.specs.Prelude.{Option, Some, None, ◌≡◌, refl, Bool, true, false, cond, ◌&&◌}
 use Rattle.std.proofs.Math.Path.{sym, ap}
 use Rattle.std.proofs.Common.{subst, ◌∙◌, true≢false}
 use Rattle.std.proofs.lemmas.Bool.{false≢true}
 use native.Mathlib.Omega.{arith}
 use Rattle.std.proofs.Math.Decide.{dec_le}
-use Rattle.scan.specs.declared.Found.{Found}
-use Rattle.scan.specs.declared.Found.TheVariants.{At, Nothing}
 use Rattle.scan.specs.First.{first_from, first, is_at, some}
 
 -- What a loop from 0 knows at index i: nothing before i passed.
@@ -20,24 +18,24 @@ module _ (test : ℕ → Bool) (n : ℕ) where
   passed_none = record { within = omega arith; rest = ap (λ (k : ℕ). first_from test k 0) (omega arith) }
 
   -- one turn of the scan
-  turn : (i : ℕ) → i < n → first_from test (n - i) i ≡ cond (test i) (At i) (first_from test (n - (i + 1)) (i + 1))
+  turn : (i : ℕ) → i < n → first_from test (n - i) i ≡ cond (test i) (Some i) (first_from test (n - (i + 1)) (i + 1))
   unfolding first_from
   turn i h =
       let e : n - i ≡ suc (n - (i + 1)) = omega arith in
       let f : suc i ≡ i + 1 = omega arith in
       rw e (rw f)
 
-  pub found_here : (i : ℕ) → i < n → Passed test n i → test i ≡ true → At i ≡ first test n
-  found_here i h p e = sym (p.rest ∙ turn i h ∙ ap (λ (b : Bool). cond b (At i) (first_from test (n - (i + 1)) (i + 1))) e)
+  pub found_here : (i : ℕ) → i < n → Passed test n i → test i ≡ true → Some i ≡ first test n
+  found_here i h p e = sym (p.rest ∙ turn i h ∙ ap (λ (b : Bool). cond b (Some i) (first_from test (n - (i + 1)) (i + 1))) e)
 
   pub some_here : (i : ℕ) → i < n → Passed test n i → test i ≡ true → true ≡ some test n
   some_here i h p e = ap is_at (found_here i h p e)
 
   pub passed_step : (i : ℕ) → i < n → Passed test n i → test i ≡ false → Passed test n (i + 1)
   passed_step i h p e =
-      record { within = omega arith; rest = p.rest ∙ turn i h ∙ ap (λ (b : Bool). cond b (At i) (first_from test (n - (i + 1)) (i + 1))) e }
+      record { within = omega arith; rest = p.rest ∙ turn i h ∙ ap (λ (b : Bool). cond b (Some i) (first_from test (n - (i + 1)) (i + 1))) e }
 
-  pub found_none : (i : ℕ) → n ≤ i → Passed test n i → Nothing ≡ first test n
+  pub found_none : (i : ℕ) → n ≤ i → Passed test n i → None ≡ first test n
   unfolding first_from
   found_none i h p =
       let e : n - i ≡ 0 = omega arith in
@@ -54,10 +52,10 @@ pub record Hit (test : ℕ → Bool) (n i : ℕ) : Type 0 where
   pub passes : test i ≡ true
   pub earlier : (k : ℕ) → k < i → test k ≡ false
 
-at_inj : {i j : ℕ} → At i ≡ At j → i ≡ j
+at_inj : {i j : ℕ} → Some i ≡ Some j → i ≡ j
 at_inj e = cc
 
-at_not : {i : ℕ} → At i ≡ Nothing → ⊥
+at_not : {i : ℕ} → Some i ≡ None → ⊥
 at_not e = let z : ◌≡◌ {A = ℕ} 0 1 = cc in omega arith
 
 -- the first of the indices from i on, or a later one
@@ -69,19 +67,19 @@ module _ (i k : ℕ) (a : i ≤ k) (P : ℕ → Type 0) (here : P i) (later : su
   pub from_here : P k
   from_here = ahead (dec_le (suc i) k)
 
-from_nothing : (test : ℕ → Bool) (n i : ℕ) → first_from test n i ≡ Nothing → (k : ℕ) → i ≤ k → k < i + n → test k ≡ false
+from_nothing : (test : ℕ → Bool) (n i : ℕ) → first_from test n i ≡ None → (k : ℕ) → i ≤ k → k < i + n → test k ≡ false
 unfolding first_from
 from_nothing test zero i e k a b = absurd (omega arith)
 from_nothing test (suc n) i e k a b = go (test i) refl (from_nothing test n (suc i)) e
   where
     go :
-        (t : Bool) → test i ≡ t → (first_from test n (suc i) ≡ Nothing → (k : ℕ) → suc i ≤ k → k < suc i + n → test k ≡ false)
-        → cond t (At i) (first_from test n (suc i)) ≡ Nothing → test k ≡ false
+        (t : Bool) → test i ≡ t → (first_from test n (suc i) ≡ None → (k : ℕ) → suc i ≤ k → k < suc i + n → test k ≡ false)
+        → cond t (Some i) (first_from test n (suc i)) ≡ None → test k ≡ false
     go true p next q = absurd (at_not q)
     go false p next q = from_here i k a (λ (j : ℕ). test j ≡ false) p (λ h. next q k h (omega arith))
 
 -- Nothing found: no index passes.
-pub first_nothing : (test : ℕ → Bool) (n : ℕ) → first test n ≡ Nothing → (k : ℕ) → k < n → test k ≡ false
+pub first_nothing : (test : ℕ → Bool) (n : ℕ) → first test n ≡ None → (k : ℕ) → k < n → test k ≡ false
 first_nothing test n e k h = from_nothing test n 0 e k (omega arith) (omega arith)
 
 pub record HitFrom (test : ℕ → Bool) (n i j : ℕ) : Type 0 where
@@ -90,14 +88,14 @@ pub record HitFrom (test : ℕ → Bool) (n i j : ℕ) : Type 0 where
   pub passes : test j ≡ true
   pub earlier : (k : ℕ) → i ≤ k → k < j → test k ≡ false
 
-from_hit : (test : ℕ → Bool) (n i j : ℕ) → first_from test n i ≡ At j → HitFrom test n i j
+from_hit : (test : ℕ → Bool) (n i j : ℕ) → first_from test n i ≡ Some j → HitFrom test n i j
 unfolding first_from
 from_hit test zero i j e = absurd (at_not (sym e))
 from_hit test (suc n) i j e = go (test i) refl (from_hit test n (suc i) j) e
   where
     go :
-        (t : Bool) → test i ≡ t → (first_from test n (suc i) ≡ At j → HitFrom test n (suc i) j)
-        → cond t (At i) (first_from test n (suc i)) ≡ At j → HitFrom test (suc n) i j
+        (t : Bool) → test i ≡ t → (first_from test n (suc i) ≡ Some j → HitFrom test n (suc i) j)
+        → cond t (Some i) (first_from test n (suc i)) ≡ Some j → HitFrom test (suc n) i j
     go true p next q =
         let e : i ≡ j = at_inj q in
         record {
@@ -116,7 +114,7 @@ from_hit test (suc n) i j e = go (test i) refl (from_hit test n (suc i) j) e
         }
 
 -- Found at i.
-pub first_at : (test : ℕ → Bool) (n i : ℕ) → first test n ≡ At i → Hit test n i
+pub first_at : (test : ℕ → Bool) (n i : ℕ) → first test n ≡ Some i → Hit test n i
 first_at test n i e =
     let r = from_hit test n 0 i e in
     record { below = omega (arith, r.below); passes = r.passes; earlier = λ k h. r.earlier k (omega arith) h }
@@ -125,9 +123,9 @@ first_at test n i e =
 pub some_false : (test : ℕ → Bool) (n : ℕ) → some test n ≡ false → (k : ℕ) → k < n → test k ≡ false
 some_false test n e = go (first test n) refl e
   where
-    go : (f : Found) → first test n ≡ f → is_at f ≡ false → (k : ℕ) → k < n → test k ≡ false
-    go (At i) p q = absurd (true≢false q)
-    go Nothing p q = first_nothing test n p
+    go : (f : Option ℕ) → first test n ≡ f → is_at f ≡ false → (k : ℕ) → k < n → test k ≡ false
+    go (Some i) p q = absurd (true≢false q)
+    go None p q = first_nothing test n p
 
 pub some_true : (test : ℕ → Bool) (n k : ℕ) → k < n → test k ≡ true → some test n ≡ true
 some_true test n k h e = go (some test n) refl
@@ -139,9 +137,9 @@ some_true test n k h e = go (some test n) refl
 pub some_all : (test : ℕ → Bool) (n : ℕ) → ((k : ℕ) → k < n → test k ≡ false) → some test n ≡ false
 some_all test n h = go (first test n) refl
   where
-    go : (f : Found) → first test n ≡ f → is_at f ≡ false
-    go (At i) p = let r = first_at test n i p in absurd (true≢false (sym r.passes ∙ h i r.below))
-    go Nothing p = refl
+    go : (f : Option ℕ) → first test n ≡ f → is_at f ≡ false
+    go (Some i) p = let r = first_at test n i p in absurd (true≢false (sym r.passes ∙ h i r.below))
+    go None p = refl
 
 -- two tests that say the same of every index
 from_same :
@@ -150,7 +148,7 @@ unfolding first_from
 from_same f g zero i h = refl
 from_same f g (suc n) i h =
     rw (h i (omega arith) (omega arith))
-    (ap (λ (x : Found). cond (g i) (At i) x) (from_same f g n (suc i) (λ k a b. h k (omega arith) (omega arith))))
+    (ap (λ (x : Option ℕ). cond (g i) (Some i) x) (from_same f g n (suc i) (λ k a b. h k (omega arith) (omega arith))))
 
 pub first_same : (f g : ℕ → Bool) (n : ℕ) → ((k : ℕ) → k < n → f k ≡ g k) → first f n ≡ first g n
 first_same f g n h = from_same f g n 0 (λ k a b. h k (omega arith))

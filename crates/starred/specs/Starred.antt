@@ -1,11 +1,10 @@
 -- The starred cases of document 01's practice table, proved together from the image's bytes, over the definitions that the calls'
 -- promises cite. Each answer is as whole as document 01 states it: verdict, code and overshoot.
-use Rattle.std.specs.Prelude.{ℕ, List, [], ◌∷◌, ◌++◌, ◌≡◌, refl, true, Float, replicate, drop}
+use Rattle.std.specs.Prelude.{ℕ, List, [], ◌∷◌, ◌++◌, ◌≡◌, refl, true, Float, replicate, drop, Option, Some, None, Result, Ok}
+use Rattle.codes.specs.Refusal.{Checked, refusal_of}
+use Rattle.codes.specs.declared.Refusal.{Refusal}
 use Rattle.std.proofs.Common.{sym, ap, ap₂, ◌∙◌}
 use Rattle.codes.specs.Read.{kind_of, direction_of}
-use Rattle.codes.specs.Refusal.{refusal_of}
-use Rattle.codes.specs.declared.Checked.{Checked}
-use Rattle.codes.specs.declared.Checked.TheVariants.{Accepted}
 use Rattle.std.specs.Float.Ieee.{of_bits, to_bits, of_int, lt, le, eq, ne, neg, add, sub, mul, div}
 use Rattle.scan.specs.First.{first_from}
 use Rattle.layout.specs.Bytes.{u16_at, u32_at, u64_at}
@@ -26,7 +25,7 @@ use Rattle.decision.specs.declared.Code.TheVariants.{Permitted, Privilege, Outsi
 use Rattle.decision.specs.declared.Code.TheVariants.{AutomaticSegment, AutomaticOriginate, AutomaticResponse, SixtyChannel}
 use Rattle.decision.specs.declared.Edge.TheVariants.{Upper}
 use Rattle.decision.specs.declared.Overshoot.{Overshoot}
-use Rattle.decision.specs.declared.Overshoot.TheVariants.{Beyond, TooClose, NoOvershoot}
+use Rattle.decision.specs.declared.Overshoot.TheVariants.{Beyond, TooClose}
 use Rattle.decision.specs.declared.Decision.{Decision}
 use Rattle.part97.specs.Part97.{draft_of, draft_inside, draft_automatic, privileged_of, noted, notes_up_to, any_note, plan_says, wants_plan}
 use Rattle.part97.specs.Part97.{guidance_of, advice_of, advice_warns, advised, automatic_elsewhere, automatic_data, considered}
@@ -34,15 +33,10 @@ use Rattle.part97.specs.Part97.{nearest_up_to, overshoot_of, outside_segments, i
 use Rattle.part97.specs.Part97.{sixty_segment, sixty_overlap, sixty_place, sixty_emission, sixty_kind, sixty, judge_on_band, judge_in_band, touching, judge}
 use Rattle.verdict.specs.Verdict.{air_of, signal_of, case_of, ready_of, under_rules_of, unruled_of, decide_of, beside_valid, evaluate_of}
 use Rattle.verdict.specs.Laws.{evaluate_accepted}
-use Rattle.ceiling.specs.Ceiling.{climb_start, ended_of, went_on, climb_after, judge_by}
-use Rattle.rungs.specs.Rungs.{rung_of, burst_of}
-use Rattle.ceiling.specs.Ceiling.{rung_judged, climb_step, climbed, ceiling_of}
-use Rattle.rungs.specs.Rungs.{bad_edges, bad_rungs}
+use Rattle.ceiling.specs.Ceiling.{climb_start, ended_of, went_on, climb_after, judge_by, rung_judged, climb_step, climbed, limited, limit_of, ceiling_of}
+use Rattle.rungs.specs.Rungs.{rung_of, burst_of, bad_edges, bad_rungs}
 use Rattle.ceiling.specs.declared.CeilingAnswer.{CeilingAnswer}
-use Rattle.ceiling.specs.declared.Rung.TheVariants.{Fastest}
 use Rattle.dials.specs.List.{situation_rows, list_rows, list_tests, answer_of, bytes_of}
-use Rattle.dials.specs.declared.DialList.{DialList}
-use Rattle.dials.specs.declared.DialList.TheVariants.{Rows}
 use Rattle.dial_rows.specs.Dials.{request_of, piece_rows, automatic_rows, cut_rows, privilege_rows, privileges_rows}
 use Rattle.dial_rows.specs.Dials.{segment_rows, data_rows, channel_found, channel_row, channel_rows, open_rows, rows_of}
 use Rattle.byte_writes.specs.Bytes.{little}
@@ -54,14 +48,14 @@ use Rattle.starred.specs.Practice.{hz, practice, station, edges, usual}
 -- what document 01 states of a verdict
 pub record Stated : Type 0 where
   pub verdict : Verdict
-  pub code : Code
-  pub overshoot : Overshoot
+  pub code : Option Code
+  pub overshoot : Option Overshoot
 
 abbrev pub stated : Decision → Stated
 stated d = record { verdict = d.verdict; code = d.code; overshoot = d.overshoot }
 
-abbrev pub says : Verdict → Code → Overshoot → Stated
-says v c o = record { verdict = v; code = c; overshoot = o }
+abbrev pub says : Verdict → Code → Option Overshoot → Stated
+says v c o = record { verdict = v; code = Some c; overshoot = o }
 
 -- data at a dial, by control (0 local, 2 automatic) and direction (0 originating, 1 responding)
 abbrev pub data_at : ℕ → ℕ → Edges → Float → Stated
@@ -95,19 +89,19 @@ answers =
 -- "60 m: 5,330,550 legal 24; 5,330,550.125 blocked 24"
 abbrev pub expected : List Stated
 expected =
-    says Legal Permitted NoOvershoot
-    ∷ says Blocked Privilege NoOvershoot
-    ∷ says Legal Permitted NoOvershoot
-    ∷ says Blocked OutsideDataSegment (TooClose Upper)
-    ∷ says Blocked OutsideDataSegment (Beyond (hz 250_000) Upper)
-    ∷ says Blocked NoDataHere NoOvershoot
-    ∷ says Legal Permitted NoOvershoot
-    ∷ says Blocked TooWide NoOvershoot
-    ∷ says Legal AutomaticSegment NoOvershoot
-    ∷ says Blocked AutomaticOriginate NoOvershoot
-    ∷ says Legal AutomaticResponse NoOvershoot
-    ∷ says Legal SixtyChannel NoOvershoot
-    ∷ says Blocked SixtyChannel NoOvershoot
+    says Legal Permitted None
+    ∷ says Blocked Privilege None
+    ∷ says Legal Permitted None
+    ∷ says Blocked OutsideDataSegment (Some (TooClose Upper))
+    ∷ says Blocked OutsideDataSegment (Some (Beyond (hz 250_000) Upper))
+    ∷ says Blocked NoDataHere None
+    ∷ says Legal Permitted None
+    ∷ says Blocked TooWide None
+    ∷ says Legal AutomaticSegment None
+    ∷ says Blocked AutomaticOriginate None
+    ∷ says Legal AutomaticResponse None
+    ∷ says Legal SixtyChannel None
+    ∷ says Blocked SixtyChannel None
     ∷ []
 
 -- "Ceiling at 14,100,000, rungs 1,250–1,750, 1,000–2,000, 0–2,900, control 1,250–1,750: rung 1, limit too_wide."
@@ -132,7 +126,7 @@ abbrev pub listed : List SafeDial
 listed = list_rows (station 2 (hz 14_100_000_000)) 0 usual practice
 
 -- what the call answers, and the bytes that it leaves
-abbrev pub list_answer : DialList
+abbrev pub list_answer : Result ℕ Refusal
 list_answer = answer_of refusal listed
 
 abbrev pub left : List ℕ
@@ -152,10 +146,10 @@ row_bytes =
 -- The starred cases, in one list: the verdicts, the ceiling, and the dial list: two rows, then the lent bytes past them.
 pub record Starred : Type 0 where
   pub verdicts : answers ≡ expected
-  pub rung : climb.rung ≡ Fastest 1
-  pub limited : climb.limited ≡ true
-  pub limit : stated climb.limit ≡ says Blocked TooWide NoOvershoot
-  pub rows : list_answer ≡ Rows 2
+  pub rung : climb.rung ≡ Some 1
+  pub limited : limited climb.limit ≡ true
+  pub limit : stated (limit_of climb) ≡ says Blocked TooWide None
+  pub rows : list_answer ≡ Ok 2
   pub bytes : left ≡ row_bytes ++ drop 72 lent
 
 -- ---- computed
@@ -174,7 +168,7 @@ unfolding
 opened = tt
 
 -- The practice image is accepted: computed once.
-accepted : check_of practice ≡ Accepted
+accepted : check_of practice ≡ Ok tt
 unfolding opened
 accepted = refl
 
@@ -187,7 +181,7 @@ judged control direction e dial =
 
 goes_on_holds :
     (control direction : ℕ) (e : Edges) (dial : Float)
-    → refusal_of (station_tests (station control dial) (beside_valid 0 direction) practice) ≡ Accepted → edges_valid e ≡ true
+    → refusal_of (station_tests (station control dial) (beside_valid 0 direction) practice) ≡ Ok tt → edges_valid e ≡ true
     → data_at control direction e dial ≡ judged control direction e dial
 goes_on_holds control direction e dial s v =
     ap stated

@@ -1,18 +1,17 @@
 -- The station record as it arrives, in coded numbers and any figures, and as it is read. Refusals 20 to 22.
-use Rattle.std.specs.Prelude.{ℕ, Bool, not, cond, ◌&&◌, ◌||◌, List, [], ◌∷◌, leb, eqb, length, Float}
+use Rattle.std.specs.Prelude.{ℕ, Bool, not, cond, ◌&&◌, ◌||◌, List, [], ◌∷◌, leb, eqb, length, Float, Option, Some, None}
 use Rattle.std.specs.Float.{binary64}
 use Rattle.std.specs.Float.Ieee.{of_bits}
 use Rattle.figures.specs.Figure.{zero_hz, limit40, in_size, read_hz}
 use Rattle.air.specs.Air.{margins}
 use Rattle.air.specs.declared.Margins.{Margins}
+use Rattle.codes.specs.declared.Refusal.TheVariants as refusal
 use Rattle.codes.specs.Code.{policy_code}
 use Rattle.codes.specs.Read.{policy_valid, control_valid, license_valid, sideband_valid, policy_of, control_of, license_of, sideband_of}
 use Rattle.codes.specs.Refusal.{Test, test}
 use Rattle.codes.specs.declared.Policy.TheVariants.{Rules}
 use Rattle.station.specs.declared.StationRecord.{StationRecord}
 use Rattle.station.specs.declared.Situation.{Situation}
-use Rattle.station.specs.declared.Figure.{Figure}
-use Rattle.station.specs.declared.Figure.TheVariants.{Known, Absent}
 
 -- "The plan mark is 0 or 1. Dial and power have a presence byte 0 or 1"
 abbrev pub mark_valid : ℕ → Bool
@@ -36,8 +35,8 @@ figures_valid r =
     margins_valid r.margin && (figure_valid r.dial_known r.dial_hz && figure_valid r.power_known r.power_w)
 
 -- a figure as it is read: "Negative zero in edges or station reads as zero."
-abbrev pub figure_read : ℕ → Float → Figure
-figure_read known x = cond (eqb known 0) Absent (Known (read_hz x))
+abbrev pub figure_read : ℕ → Float → Option Float
+figure_read known x = cond (eqb known 0) None (Some (read_hz x))
 
 abbrev pub margins_read : Margins → Margins
 margins_read m = margins (read_hz m.lower_hz) (read_hz m.upper_hz)
@@ -64,7 +63,7 @@ under_rules r = eqb r.policy (policy_code Rules)
 -- length 0". The codes beside the record, direction and kind, count with 20: beside says whether they are among their values.
 abbrev pub station_tests : StationRecord → Bool → List ℕ → List Test
 station_tests r beside l =
-    test 20 (not (codes_valid r) || not beside) ∷ test 21 (not (figures_valid r)) ∷ test 22 (under_rules r && eqb (length l) 0) ∷ []
+    test refusal.StationCode (not (codes_valid r) || not beside) ∷ test refusal.StationFigure (not (figures_valid r)) ∷ test refusal.NoImage (under_rules r && eqb (length l) 0) ∷ []
 
 -- 50
 abbrev pub fresh_margin : Float

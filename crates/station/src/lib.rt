@@ -2,14 +2,13 @@
 // It uses figures, codes and air.
 #![tactic(auto)]
 
-ghost use Rattle.std.specs.Prelude.{◌≡◌};
+ghost use Rattle.std.specs.Prelude.{◌≡◌, ◌||◌, leb, eqb};
 ghost use Rattle.codes.specs.Refusal.{refusal_of};
-ghost use Rattle.codes.specs.Read.{control_valid, license_valid, sideband_valid};
 ghost use Rattle.station.specs.Station.{codes_valid, margins_valid, figure_valid, figures_valid, margins_read, figure_read};
 ghost use Rattle.station.specs.Station.{situation_of, station_tests, fresh_of};
 
 use air::Margins;
-use codes::{Checked, Control, License, Policy, SidebandSet};
+use codes::{Checked, ControlMode, LicenseClass, Policy, Refusal, Sideband};
 
 // The record as it arrives: document 01's numbers, and figures whatever they are.
 #[derive(Clone, Copy)]
@@ -27,52 +26,35 @@ pub struct StationRecord {
     pub power_w: f64,
 }
 
-// A figure that may be absent.
-#[derive(Clone, Copy)]
-pub enum Figure {
-    Known(f64),
-    Absent,
-}
-
 // The record as it is read.
 #[derive(Clone, Copy)]
 pub struct Situation {
     pub policy: Policy,
-    pub control: Control,
-    pub license: License,
-    pub sideband: SidebandSet,
+    pub control: Option<ControlMode>,
+    pub license: Option<LicenseClass>,
+    pub sideband: Option<Sideband>,
     pub itu_region: u8,
     pub margin: Margins,
     pub band_plan: bool,
-    pub dial: Figure,
-    pub power: Figure,
+    pub dial: Option<f64>,
+    pub power: Option<f64>,
 }
 
-fn control_valid(code: u8) -> bool
-    ensures { result ≡ control_valid code }
+// Whether a code is among a term's values, or 255 for one that is absent.
+fn present_or_absent(code: u8, last: u8) -> bool
+    ensures { result ≡ (leb code last || eqb code 255) }
 {
-    code <= 2 || code == 255
+    code <= last || code == 255
 }
 
-fn license_valid(code: u8) -> bool
-    ensures { result ≡ license_valid code }
-{
-    code <= 4 || code == 255
-}
-
-fn sideband_valid(code: u8) -> bool
-    ensures { result ≡ sideband_valid code }
-{
-    code <= 1 || code == 255
-}
-
+#[tactic(auto, unfolding(crate::specs::Station::codes_valid))]
 fn codes_valid(r: StationRecord) -> bool
     ensures { result ≡ codes_valid r }
 {
     r.policy <= 3
-        && (control_valid(r.control)
-            && (license_valid(r.license)
-                && (sideband_valid(r.sideband)
+        && (present_or_absent(r.control, 2)
+            && (present_or_absent(r.license, 4)
+                && (present_or_absent(r.sideband, 1)
                     && (r.band_plan <= 1 && (r.dial_known <= 1 && r.power_known <= 1)))))
 }
 
@@ -88,6 +70,7 @@ fn figure_valid(known: u8, x: f64) -> bool
     known == 0 || figures::in_size(figures::LIMIT, x)
 }
 
+#[tactic(auto, unfolding(crate::specs::Station::figures_valid))]
 fn figures_valid(r: StationRecord) -> bool
     ensures { result ≡ figures_valid r }
 {
@@ -104,22 +87,23 @@ fn margins_read(m: Margins) -> Margins
     }
 }
 
-fn figure_read(known: u8, x: f64) -> Figure
+fn figure_read(known: u8, x: f64) -> Option<f64>
     ensures { result ≡ figure_read known x }
 {
     if known == 0 {
-        Figure::Absent
+        None
     } else {
-        Figure::Known(figures::read_hz(x))
+        Some(figures::read_hz(x))
     }
 }
 
 // The record as it is read.
+#[tactic(auto, unfolding(crate::specs::Station::situation_of))]
 pub fn situation_of(r: StationRecord) -> Situation
     ensures { result ≡ situation_of r }
 {
     Situation {
-        policy: codes::policy_of(r.policy),
+        policy: Policy::from(r.policy),
         control: codes::control_of(r.control),
         license: codes::license_of(r.license),
         sideband: codes::sideband_of(r.sideband),
@@ -136,21 +120,21 @@ pub fn refusals(r: StationRecord, beside: bool, image: &[u8]) -> Checked
     ensures { result ≡ refusal_of (station_tests r beside image.now) }
 {
     if !codes_valid(r) {
-        return Checked::Refused(20);
+        return Err(Refusal::StationCode);
     }
     if !beside {
-        return Checked::Refused(20);
+        return Err(Refusal::StationCode);
     }
     if !figures_valid(r) {
-        return Checked::Refused(21);
+        return Err(Refusal::StationFigure);
     }
     if r.policy == 2 {
         if image.len() == 0 {
-            return Checked::Refused(22);
+            return Err(Refusal::NoImage);
         }
-        return Checked::Accepted;
+        return Ok(());
     }
-    Checked::Accepted
+    Ok(())
 }
 
 // A fresh record: region 2, margins 50 and 50, and nothing else known. Its policy is unset, so it permits nothing.

@@ -3,13 +3,14 @@
 // table; its laws use apart and lists.
 #![tactic(auto)]
 
-ghost use Rattle.std.specs.Prelude.{◌≡◌, ◌<◌};
+ghost use Rattle.std.specs.Prelude.{◌≡◌, ◌≤◌, ◌<◌};
+ghost use Rattle.std.specs.Option.{IfSome};
 ghost use Rattle.layout.specs.Form.{Whole};
 ghost use Rattle.table.specs.Table.{table_of};
 ghost use Rattle.sweep.specs.Sweep.{is_member, shared_with, sweep, ranges_of};
 
 use layout::Record;
-use profile::{Range, Shared};
+use profile::Range;
 
 // One table of an image: its number, where its records begin, and how many it has.
 #[derive(Clone, Copy)]
@@ -19,76 +20,66 @@ pub struct Ranges {
     pub count: usize,
 }
 
-// The records of a table that count: all, or those of a licence class.
-#[derive(Clone, Copy)]
-pub enum Members {
-    All,
-    OfClass(u8),
-}
-
-// The record that shares a stretch with the window, and the stretch; or none.
-#[derive(Clone, Copy)]
-pub enum Swept {
-    Shares(usize, Range),
-    NoMore,
-}
-
 // Table t of an image.
 pub fn ranges_of(image: &[u8], t: usize) -> Ranges
     requires { (Whole image.now) × (t < 9) }
     ensures { result ≡ ranges_of image.now t }
 {
-    let start = layout::start_of(image, t);
-    let count = layout::count_of(image, t) as usize;
     Ranges {
         table: t,
-        start,
-        count,
+        start: layout::start_of(image, t),
+        count: layout::count_of(image, t) as usize,
     }
 }
 
-fn is_member(m: Members, r: Record) -> bool
+// Record i of it.
+#[tactic(auto, using(crate::specs::Laws::ranges_read, crate::specs::Laws::ranges_within))]
+pub fn record_of(image: &[u8], g: Ranges, i: usize) -> Record
+    requires { (Whole image.now) × (g.table < 9) × (g ≡ ranges_of image.now g.table) × (i < g.count) }
+    ensures { result ≡ (table_of image.now).at g.table i }
+{
+    layout::record_at(image, g.start + layout::RECORD_SIZE * i)
+}
+
+fn is_member(m: Option<u8>, r: Record) -> bool
     ensures { result ≡ is_member m r }
 {
-    match m {
-        Members::All => true,
-        Members::OfClass(n) => r.class == n,
-    }
+    m.is_none_or(|n| r.class == n)
 }
 
 // What a record shares with a window, if it counts.
-fn shared_with(m: Members, window: Range, r: Record) -> Shared
+#[tactic(auto, using(apart::specs::Apart::below_nothing, apart::specs::Apart::above_nothing), unfolding(crate::specs::Sweep::shared_with))]
+fn shared_with(m: Option<u8>, window: Range, r: Record) -> Option<Range>
     ensures { result ≡ shared_with m window r }
 {
-    if is_member(m, r) {
-        let span = table::span_of(r);
-        // Most lie apart, which two tests tell.
-        if span.high_hz <= window.low_hz {
-            return Shared::Nothing;
-        }
-        if window.high_hz <= span.low_hz {
-            return Shared::Nothing;
-        }
-        return profile::intersect(span, window);
+    if !is_member(m, r) {
+        return None;
     }
-    Shared::Nothing
+    let span = table::span_of(r);
+    // Most lie apart, which two tests tell.
+    if span.high_hz <= window.low_hz || window.high_hz <= span.low_hz {
+        return None;
+    }
+    profile::intersect(span, window)
 }
 
 // The first record of a table, from an index on, that counts and shares a stretch of positive length with a window.
-pub fn next(image: &[u8], g: Ranges, m: Members, window: Range, from: usize) -> Swept
+#[tactic(auto, using(crate::specs::Laws::sweep_step, crate::specs::Laws::sweep_end))]
+pub fn next(
+    image: &[u8],
+    g: Ranges,
+    m: Option<u8>,
+    window: Range,
+    from: usize,
+) -> Option<(usize, Range)>
     requires { (Whole image.now) × (g.table < 9) × (g ≡ ranges_of image.now g.table) }
-    ensures { result ≡ sweep ((table_of image.now).at g.table) m window g.count from }
+    ensures value { result ≡ sweep ((table_of image.now).at g.table) m window g.count from }
+    ensures within { IfSome result (λ p. (from ≤ p.0) × (p.0 < g.count)) }
 {
-    let mut i = from;
-    while i < g.count {
-        let r = layout::record_at(image, g.start + layout::RECORD_SIZE * i);
-        match shared_with(m, window, r) {
-            Shared::Stretch(x) => {
-                return Swept::Shares(i, x);
-            }
-            Shared::Nothing => {}
+    for i in from..g.count {
+        if let Some(x) = shared_with(m, window, record_of(image, g, i)) {
+            return Some((i, x));
         }
-        i += 1;
     }
-    Swept::NoMore
+    None
 }

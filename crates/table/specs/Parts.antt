@@ -1,17 +1,13 @@
 -- What an accepted image says: each record and each field of the general block as what it stands for. No offset is named here.
-use Rattle.std.specs.Prelude.{ℕ, Bool, cond, eqb, Float}
+use Rattle.std.specs.Prelude.{ℕ, Bool, cond, eqb, Float, Option, Some, None}
+use Rattle.table.specs.declared.Elsewhere.{Elsewhere}
+use Rattle.table.specs.declared.Channels.{Channels}
 use Rattle.figures.specs.Figure.{figure_of}
 use Rattle.codes.specs.Code.{bit_of}
 use Rattle.codes.specs.declared.Sideband.{Sideband}
 use Rattle.codes.specs.declared.Sideband.TheVariants.{Usb, Lsb}
 use Rattle.profile.specs.Range.{range}
 use Rattle.profile.specs.declared.Range.{Range}
-use Rattle.profile.specs.declared.OwnLimit.{OwnLimit}
-use Rattle.profile.specs.declared.OwnLimit.TheVariants.{Own, General}
-use Rattle.profile.specs.declared.RuleName.{RuleName}
-use Rattle.profile.specs.declared.RuleName.TheVariants.{Named, Unnamed}
-use Rattle.profile.specs.declared.Listed.{Listed}
-use Rattle.profile.specs.declared.Listed.TheVariants.{Only, Every}
 use Rattle.profile.specs.declared.DataLimit.{DataLimit}
 use Rattle.occupancy.specs.declared.Reading.{Reading}
 use Rattle.occupancy.specs.declared.Reading.TheVariants.{Power, Spectral, Wider}
@@ -23,12 +19,6 @@ use Rattle.table.specs.declared.Privilege.{Privilege}
 use Rattle.table.specs.declared.Excluded.{Excluded}
 use Rattle.table.specs.declared.PowerLimit.{PowerLimit}
 use Rattle.table.specs.declared.PlanArea.{PlanArea}
-use Rattle.table.specs.declared.ElsewhereRule.{ElsewhereRule}
-use Rattle.table.specs.declared.ElsewhereRule.TheVariants.{Under, Nowhere}
-use Rattle.table.specs.declared.ChannelBand.{ChannelBand}
-use Rattle.table.specs.declared.ChannelBand.TheVariants.{On, NoChannels}
-use Rattle.table.specs.declared.SixtyEmissions.{SixtyEmissions}
-use Rattle.table.specs.declared.SixtyEmissions.TheVariants.{Allowed, AnyEmission}
 
 -- ---- records
 
@@ -37,19 +27,19 @@ abbrev pub span_of : Record → Range
 span_of r = range (figure_of r.low) (figure_of r.high)
 
 -- a list under bit 0 of a record's flags, and a rule under bit 1
-abbrev pub listed_of : ℕ → ℕ → Listed
-listed_of flags bits = cond (bit_of flags 0) (Only bits) Every
+abbrev pub listed_of : ℕ → ℕ → Option ℕ
+listed_of flags bits = cond (bit_of flags 0) (Some bits) None
 
-abbrev pub named_of : ℕ → ℕ → RuleName
-named_of flags rule = cond (bit_of flags 1) (Named rule) Unnamed
+abbrev pub named_of : ℕ → ℕ → Option ℕ
+named_of flags rule = cond (bit_of flags 1) (Some rule) None
 
 -- "bands (low, high, band)"
 abbrev pub band_of : Record → Band
 band_of r = record { range = span_of r; band = r.band }
 
 -- "data segments (plus figure under flag bit 0, rule, second rule under bit 1)"
-abbrev pub own_limit_of : Record → OwnLimit
-own_limit_of r = cond (bit_of r.flags 0) (Own (figure_of r.figure)) General
+abbrev pub own_limit_of : Record → Option Float
+own_limit_of r = cond (bit_of r.flags 0) (Some (figure_of r.figure)) None
 
 abbrev pub segment_of : Record → Segment
 segment_of r =
@@ -103,25 +93,25 @@ abbrev pub reading_of : GeneralBlock → Reading
 reading_of g = cond (eqb g.reading 0) Power (cond (eqb g.reading 1) Spectral Wider)
 
 -- "flags (bit 0 elsewhere, 1 response required, a field of elsewhere …)": automatic control outside its segments (97.221(c))
-abbrev pub elsewhere_of : GeneralBlock → ElsewhereRule
+abbrev pub elsewhere_of : GeneralBlock → Option Elsewhere
 elsewhere_of g =
     cond (bit_of g.flags 0)
-    (Under
+    (Some
     (record {
       max_bandwidth_hz = figure_of g.elsewhere_limit;
       requires_response = bit_of g.flags 1;
       rule = g.elsewhere_rule;
     }))
-    Nowhere
+    None
 
 abbrev pub channel_sideband_of : GeneralBlock → Sideband
 channel_sideband_of g = cond (eqb g.sideband 0) Usb Lsb
 
 -- "flags (… 2 channels …)": the 60 m channels (97.303(h)(3))
-abbrev pub channels_of : GeneralBlock → ChannelBand
+abbrev pub channels_of : GeneralBlock → Option Channels
 channels_of g =
     cond (bit_of g.flags 2)
-    (On
+    (Some
     (record {
       band = g.channel_band;
       rule = g.channels_rule;
@@ -130,11 +120,11 @@ channels_of g =
       carrier_tolerance_hz = figure_of g.carrier_tolerance;
       sideband = channel_sideband_of g;
     }))
-    NoChannels
+    None
 
 -- "flags (… 3 60 m emissions …)": the emissions allowed on 60 m (97.307(f)(14))
-abbrev pub sixty_of : GeneralBlock → SixtyEmissions
-sixty_of g = cond (bit_of g.flags 3) (Allowed g.emissions g.emissions_rule) AnyEmission
+abbrev pub sixty_of : GeneralBlock → Option (ℕ × ℕ)
+sixty_of g = cond (bit_of g.flags 3) (Some (g.emissions, g.emissions_rule)) None
 
 -- "flags (… 4 plan)"
 abbrev pub has_plan : GeneralBlock → Bool

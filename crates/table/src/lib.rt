@@ -2,10 +2,11 @@
 // profile, occupancy and layout.
 #![tactic(auto)]
 
-ghost use Rattle.std.specs.Prelude.{◌≡◌, ◌+◌, ◌*◌, ◌≤◌, ◌<◌, length};
+ghost use Rattle.std.specs.Prelude.{◌≡◌, ◌+◌, ◌*◌, ◌≤◌, ◌<◌, ℕ, Bool, length};
+ghost use Rattle.scan.specs.First.{first, some, on_found};
 ghost use Rattle.layout.specs.Layout.{count_of};
 ghost use Rattle.layout.specs.Form.{Whole};
-ghost use Rattle.table.specs.Table.{record_in};
+ghost use Rattle.table.specs.Table.{count_in, record_in};
 ghost use Rattle.table.specs.Parts.{span_of, band_of, own_limit_of, named_of, listed_of, channel_sideband_of};
 ghost use Rattle.table.specs.Parts.{segment_of, centre_of, privilege_of, excluded_of, power_of, plan_of};
 ghost use Rattle.table.specs.Parts.{data_of, reading_of, elsewhere_of, channels_of, sixty_of, has_plan};
@@ -13,7 +14,7 @@ ghost use Rattle.table.specs.Parts.{data_of, reading_of, elsewhere_of, channels_
 use codes::Sideband;
 use layout::{General, Record};
 use occupancy::Reading;
-use profile::{DataLimit, Listed, OwnLimit, Range, RuleName};
+use profile::{DataLimit, Range};
 
 // A band, for naming a frequency.
 #[derive(Clone, Copy)]
@@ -28,8 +29,8 @@ pub struct Segment {
     pub range: Range,
     pub band: u8,
     pub rule: u16,
-    pub own: OwnLimit,
-    pub second: RuleName,
+    pub own: Option<f64>,
+    pub second: Option<u16>,
 }
 
 // A privilege of a licence class (97.301), with the emissions it allows when they are fewer than the segments'.
@@ -37,8 +38,8 @@ pub struct Segment {
 pub struct Privilege {
     pub range: Range,
     pub class: u8,
-    pub emissions: Listed,
-    pub rule: RuleName,
+    pub emissions: Option<u8>,
+    pub rule: Option<u16>,
 }
 
 // A band where automatic control is not allowed.
@@ -53,7 +54,7 @@ pub struct Excluded {
 pub struct PowerLimit {
     pub range: Range,
     pub max_w: f64,
-    pub classes: Listed,
+    pub classes: Option<u8>,
     pub rule: u16,
 }
 
@@ -72,12 +73,6 @@ pub struct Elsewhere {
     pub rule: u16,
 }
 
-#[derive(Clone, Copy)]
-pub enum ElsewhereRule {
-    Under(Elsewhere),
-    Nowhere,
-}
-
 // The 60 m discrete channels (97.303(h)(3)).
 #[derive(Clone, Copy)]
 pub struct Channels {
@@ -89,19 +84,6 @@ pub struct Channels {
     pub sideband: Sideband,
 }
 
-#[derive(Clone, Copy)]
-pub enum ChannelBand {
-    On(Channels),
-    NoChannels,
-}
-
-// The emissions allowed on 60 m, by their bits, with the rule.
-#[derive(Clone, Copy)]
-pub enum SixtyEmissions {
-    Allowed(u8, u16),
-    AnyEmission,
-}
-
 // Record i of table t.
 pub fn record_of(s: &[u8], t: usize, i: usize) -> Record
     requires { (Whole s.now) × (t < 9) × (i < count_of s.now t) }
@@ -109,6 +91,44 @@ pub fn record_of(s: &[u8], t: usize, i: usize) -> Record
 {
     let at = layout::start_of(s, t) + layout::RECORD_SIZE * i;
     layout::record_at(s, at)
+}
+
+// The first record of table t that passes a test, with its index. A test that answers as p does, record by record, picks what p picks.
+pub fn pick_of<F: Fn(Record) -> bool>(s: &[u8], t: usize, test: F) -> Option<(usize, Record)>
+    requires lies { (Whole s.now) × (t < 9) }
+    requires can { (i : ℕ) → i < count_in s.now t → F.pre test (record_in s.now t i) }
+    ensures { (p : ℕ → Bool) → ((i : ℕ) (b : Bool) → i < count_in s.now t → F.post test (record_in s.now t i) b → b ≡ p i)
+        → result ≡ on_found (first p (count_in s.now t)) (λ i. Some (i, record_in s.now t i)) None }
+{
+    let start = layout::start_of(s, t);
+    let count = layout::count_of(s, t) as usize;
+    for i in 0..count {
+        let r = layout::record_at(s, start + layout::RECORD_SIZE * i);
+        if test(r) {
+            return Some((i, r));
+        }
+    }
+    None
+}
+
+// Its index alone.
+pub fn first_of<F: Fn(Record) -> bool>(s: &[u8], t: usize, test: F) -> Option<usize>
+    requires lies { (Whole s.now) × (t < 9) }
+    requires can { (i : ℕ) → i < count_in s.now t → F.pre test (record_in s.now t i) }
+    ensures { (p : ℕ → Bool) → ((i : ℕ) (b : Bool) → i < count_in s.now t → F.post test (record_in s.now t i) b → b ≡ p i)
+        → result ≡ first p (count_in s.now t) }
+{
+    pick_of(s, t, test).map(|(i, _)| i)
+}
+
+// Whether a record of table t passes a test.
+pub fn some_of<F: Fn(Record) -> bool>(s: &[u8], t: usize, test: F) -> bool
+    requires lies { (Whole s.now) × (t < 9) }
+    requires can { (i : ℕ) → i < count_in s.now t → F.pre test (record_in s.now t i) }
+    ensures { (p : ℕ → Bool) → ((i : ℕ) (b : Bool) → i < count_in s.now t → F.post test (record_in s.now t i) b → b ≡ p i)
+        → result ≡ some p (count_in s.now t) }
+{
+    first_of(s, t, test).is_some()
 }
 
 // A record's range.
@@ -131,35 +151,35 @@ pub fn band_of(r: Record) -> Band
 }
 
 // A segment's own limit.
-pub fn own_limit(r: Record) -> OwnLimit
+pub fn own_limit(r: Record) -> Option<f64>
     ensures { result ≡ own_limit_of r }
 {
-    if codes::bit0(r.flags) {
-        OwnLimit::Own(figures::figure(r.figure))
+    if codes::bit(r.flags, 0) {
+        Some(figures::figure(r.figure))
     } else {
-        OwnLimit::General
+        None
     }
 }
 
 // A rule that a record names under bit 1 of its flags.
-fn named(flags: u8, rule: u16) -> RuleName
+fn named(flags: u8, rule: u16) -> Option<u16>
     ensures { result ≡ named_of flags rule }
 {
-    if codes::bit1(flags) {
-        RuleName::Named(rule)
+    if codes::bit(flags, 1) {
+        Some(rule)
     } else {
-        RuleName::Unnamed
+        None
     }
 }
 
 // A list that a record has under bit 0 of its flags.
-fn listed(flags: u8, bits: u8) -> Listed
+fn listed(flags: u8, bits: u8) -> Option<u8>
     ensures { result ≡ listed_of flags bits }
 {
-    if codes::bit0(flags) {
-        Listed::Only(bits)
+    if codes::bit(flags, 0) {
+        Some(bits)
     } else {
-        Listed::Every
+        None
     }
 }
 
@@ -244,17 +264,17 @@ pub fn reading_of(g: General) -> Reading
     Reading::Wider
 }
 
-pub fn elsewhere_of(g: General) -> ElsewhereRule
+pub fn elsewhere_of(g: General) -> Option<Elsewhere>
     ensures { result ≡ elsewhere_of g }
 {
-    if codes::bit0(g.flags) {
-        ElsewhereRule::Under(Elsewhere {
+    if codes::bit(g.flags, 0) {
+        Some(Elsewhere {
             max_bandwidth_hz: figures::figure(g.elsewhere_limit),
-            requires_response: codes::bit1(g.flags),
+            requires_response: codes::bit(g.flags, 1),
             rule: g.elsewhere_rule,
         })
     } else {
-        ElsewhereRule::Nowhere
+        None
     }
 }
 
@@ -269,11 +289,11 @@ fn channel_sideband(g: General) -> Sideband
     }
 }
 
-pub fn channels_of(g: General) -> ChannelBand
+pub fn channels_of(g: General) -> Option<Channels>
     ensures { result ≡ channels_of g }
 {
-    if codes::bit2(g.flags) {
-        ChannelBand::On(Channels {
+    if codes::bit(g.flags, 2) {
+        Some(Channels {
             band: g.channel_band,
             rule: g.channels_rule,
             width_hz: figures::figure(g.channel_width),
@@ -282,17 +302,17 @@ pub fn channels_of(g: General) -> ChannelBand
             sideband: channel_sideband(g),
         })
     } else {
-        ChannelBand::NoChannels
+        None
     }
 }
 
-pub fn sixty_emissions_of(g: General) -> SixtyEmissions
+pub fn sixty_emissions_of(g: General) -> Option<(u8, u16)>
     ensures { result ≡ sixty_of g }
 {
-    if codes::bit3(g.flags) {
-        SixtyEmissions::Allowed(g.emissions, g.emissions_rule)
+    if codes::bit(g.flags, 3) {
+        Some((g.emissions, g.emissions_rule))
     } else {
-        SixtyEmissions::AnyEmission
+        None
     }
 }
 
@@ -300,5 +320,5 @@ pub fn sixty_emissions_of(g: General) -> SixtyEmissions
 pub fn has_plan(g: General) -> bool
     ensures { result ≡ has_plan g }
 {
-    codes::bit4(g.flags)
+    codes::bit(g.flags, 4)
 }

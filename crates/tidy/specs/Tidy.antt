@@ -1,8 +1,8 @@
 -- "A table is tidy if each data segment lies in a band of its number, and no two bands, no two segments, and no two privileges of one
 -- class share a stretch of positive length."
-use Rattle.std.specs.Prelude.{ℕ, Bool, true, false, not, cond, ◌&&◌, List}
-use Rattle.codes.specs.declared.Checked.{Checked}
-use Rattle.codes.specs.declared.Checked.TheVariants.{Accepted, Refused}
+use Rattle.std.specs.Prelude.{ℕ, Bool, true, false, not, cond, ◌&&◌, List, Result, Ok, Err}
+use Rattle.codes.specs.Refusal.{Checked}
+use Rattle.codes.specs.declared.Refusal.{Refusal}
 use Rattle.scan.specs.First.{some}
 use Rattle.layout.specs.Layout.{bands, segments, privileges}
 use Rattle.layout.specs.declared.Record.{Record}
@@ -12,8 +12,6 @@ use Rattle.find.specs.Question.{asks, homeless_of}
 use Rattle.find.specs.declared.Question.{Question}
 use Rattle.find.specs.declared.Question.TheVariants.{Shares, ClassShares}
 use Rattle.image.specs.Check.{check_of}
-use Rattle.tidy.specs.declared.Tidiness.{Tidiness}
-use Rattle.tidy.specs.declared.Tidiness.TheVariants.{Tidy, Untidy, NotJudged}
 
 -- what a record is asked of another: that they share a stretch, and, where classes count, that they are of one class
 abbrev pub pair_question : Bool → Record → Question
@@ -33,9 +31,9 @@ tidy_table table =
     && (not (two_share table bands false) && (not (two_share table segments false) && not (two_share table privileges true)))
 
 -- the tidy question's answer on an image, after refusals 1 to 14
-abbrev pub tidiness_of : Checked → Bool → Tidiness
-tidiness_of (Refused n) tidy = NotJudged n
-tidiness_of Accepted tidy = cond tidy Tidy Untidy
+abbrev pub tidiness_of : Checked → Bool → Result Bool Refusal
+tidiness_of (Err n) tidy = Err n
+tidiness_of (Ok tt) tidy = Ok tidy
 
-abbrev pub tidy_of : List ℕ → Tidiness
+abbrev pub tidy_of : List ℕ → Result Bool Refusal
 tidy_of l = tidiness_of (check_of l) (tidy_table (table_of l))

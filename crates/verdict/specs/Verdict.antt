@@ -1,20 +1,13 @@
 -- The verdict: refusals in order, the policy, the prerequisites in order, and then Part 97 (Rattle.part97).
-use Rattle.std.specs.Prelude.{ℕ, Bool, true, not, cond, ◌&&◌, List, [], ◌∷◌, ◌++◌, eqb, Float}
+use Rattle.std.specs.Prelude.{ℕ, Bool, true, not, cond, ◌&&◌, List, [], ◌∷◌, ◌++◌, eqb, Float, Option, Some, None, Result, Ok, Err}
+use Rattle.codes.specs.declared.Refusal.TheVariants as refusal
+use Rattle.codes.specs.Refusal.{Checked, Test, test, refusal_of}
 use Rattle.figures.specs.Figure.{zero_hz}
 use Rattle.codes.specs.Read.{kind_valid, direction_valid, kind_of, direction_of}
-use Rattle.codes.specs.Refusal.{Test, test, refusal_of}
-use Rattle.codes.specs.declared.Checked.{Checked}
-use Rattle.codes.specs.declared.Checked.TheVariants.{Accepted, Refused}
 use Rattle.codes.specs.declared.Policy.{Policy}
 use Rattle.codes.specs.declared.Policy.TheVariants.{Unset, NoProfile as NoneApply, Rules, Broken}
-use Rattle.codes.specs.declared.Control.{Control}
-use Rattle.codes.specs.declared.Control.TheVariants.{ControlIs, NoControl as ControlAbsent}
 use Rattle.codes.specs.declared.ControlMode.{ControlMode}
-use Rattle.codes.specs.declared.License.{License}
-use Rattle.codes.specs.declared.License.TheVariants.{LicenseIs, NoLicense as LicenseAbsent}
 use Rattle.codes.specs.declared.LicenseClass.{LicenseClass}
-use Rattle.codes.specs.declared.SidebandSet.{SidebandSet}
-use Rattle.codes.specs.declared.SidebandSet.TheVariants.{SidebandIs, NoSideband as SidebandAbsent}
 use Rattle.codes.specs.declared.Sideband.{Sideband}
 use Rattle.codes.specs.declared.EmissionKind.{EmissionKind}
 use Rattle.codes.specs.declared.Direction.{Direction}
@@ -27,8 +20,6 @@ use Rattle.air.specs.Air.{rf_range_of, guarded_of, unguarded_of, width_of}
 use Rattle.station.specs.Station.{situation_of}
 use Rattle.station.specs.declared.StationRecord.{StationRecord}
 use Rattle.station.specs.declared.Situation.{Situation}
-use Rattle.station.specs.declared.Figure.{Figure}
-use Rattle.station.specs.declared.Figure.TheVariants.{Known, Absent}
 use Rattle.layout.specs.declared.General.{General}
 use Rattle.table.specs.Parts.{reading_of}
 use Rattle.table.specs.Table.{Table, table_of}
@@ -40,33 +31,28 @@ use Rattle.decision.specs.declared.Verdict.{Verdict}
 use Rattle.decision.specs.declared.Verdict.TheVariants.{Legal, Blocked}
 use Rattle.decision.specs.declared.Code.{Code}
 use Rattle.decision.specs.declared.Code.TheVariants.{NoProfile, ProfileBroken, NoRules, Unmeasured, Region, NoControl, NoLicense, NoSideband, NoDial}
-use Rattle.decision.specs.declared.BandNumber.TheVariants.{NoBand}
-use Rattle.decision.specs.declared.JudgedSegment.TheVariants.{NoSegment}
-use Rattle.decision.specs.declared.MaybeRange.{MaybeRange}
-use Rattle.decision.specs.declared.MaybeRange.TheVariants.{Is, NoRange}
 use Rattle.decision.specs.declared.Draft.{Draft}
 use Rattle.decision.specs.declared.Decision.{Decision}
 use Rattle.part97.specs.Part97.{judge}
 use Rattle.part97.specs.declared.Case.{Case}
-use Rattle.verdict.specs.declared.Ready.{Ready}
-use Rattle.verdict.specs.declared.Ready.TheVariants.{Met, Missing}
+use Rattle.verdict.specs.declared.Missing.{Missing}
 
 -- the range on the air, where dial and sideband are known
-unfoldable pub air_of : Figure → SidebandSet → Range → MaybeRange
-air_of (Known dial) (SidebandIs sideband) audio = Is (rf_range_of dial sideband audio)
-air_of (Known dial) SidebandAbsent audio = NoRange
-air_of Absent _ audio = NoRange
+unfoldable pub air_of : Option Float → Option Sideband → Range → Option Range
+air_of (Some dial) (Some sideband) audio = Some (rf_range_of dial sideband audio)
+air_of (Some dial) None audio = None
+air_of None _ audio = None
 
 -- the signal, before any test: its audio edges and width always, its edges on the air where dial and sideband are known
-unfoldable pub signal_of : Figure → SidebandSet → Range → Draft
+unfoldable pub signal_of : Option Float → Option Sideband → Range → Draft
 signal_of dial sideband audio =
     record {
       audio = audio;
       width = width_of audio;
       air = air_of dial sideband audio;
-      band = NoBand;
-      segment = NoSegment;
-      automatic_segment = NoRange;
+      band = None;
+      segment = None;
+      automatic_segment = None;
     }
 
 -- the facts that judging works from
@@ -89,52 +75,43 @@ case_of s control class sideband dial kind direction audio =
     }
 
 -- "Prerequisites in order: region, control, licence, sideband, dial." The walk stops at the first one missing, with its code and rule.
-abbrev pub with_control : Control → Ready → (ControlMode → Ready) → Ready
-with_control (ControlIs control) missing next = next control
-with_control ControlAbsent missing next = missing
+abbrev pub missing : Code → ℕ → Missing
+missing code rule = record { code = code; rule = rule }
 
-abbrev pub with_license : License → Ready → (LicenseClass → Ready) → Ready
-with_license (LicenseIs class) missing next = next class
-with_license LicenseAbsent missing next = missing
-
-abbrev pub with_sideband : SidebandSet → Ready → (Sideband → Ready) → Ready
-with_sideband (SidebandIs sideband) missing next = next sideband
-with_sideband SidebandAbsent missing next = missing
-
-abbrev pub with_dial : Figure → Ready → (Float → Ready) → Ready
-with_dial (Known dial) missing next = next dial
-with_dial Absent missing next = missing
+abbrev pub required : {A : Type 0} → Option A → Missing → (A → Result Case Missing) → Result Case Missing
+required (Some x) m next = next x
+required None m next = Err m
 
 -- the case to judge at a dial, or what is missing
-unfoldable pub ready_of : General → Situation → Figure → EmissionKind → Direction → Range → Ready
+unfoldable pub ready_of : General → Situation → Option Float → EmissionKind → Direction → Range → Result Case Missing
 ready_of g s dial kind direction audio =
     cond (eqb s.itu_region g.region)
-    (with_control s.control (Missing NoControl §97-109)
+    (required s.control (missing NoControl §97-109)
     (λ control.
-    with_license s.license (Missing NoLicense §97-301)
+    required s.license (missing NoLicense §97-301)
     (λ class.
-    with_sideband s.sideband (Missing NoSideband no_rule)
+    required s.sideband (missing NoSideband no_rule)
     (λ sideband.
-    with_dial dial (Missing NoDial no_rule)
-    (λ hz. Met (case_of s control class sideband hz kind direction audio))))))
-    (Missing Region §97-301)
+    required dial (missing NoDial no_rule)
+    (λ hz. Ok (case_of s control class sideband hz kind direction audio))))))
+    (Err (missing Region §97-301))
 
 -- Part 97 judges a case; what is missing blocks
-abbrev pub judged_of : Table → Draft → Ready → Decision
-judged_of table signal (Met c) = judge table c
-judged_of table signal (Missing code rule) = simple_of signal Blocked code rule
+abbrev pub judged_of : Table → Draft → Result Case Missing → Decision
+judged_of table signal (Ok c) = judge table c
+judged_of table signal (Err m) = simple_of signal Blocked m.code m.rule
 
 -- the verdict under an accepted table, at a dial
-unfoldable pub under_rules_of : Table → Situation → Figure → EmissionKind → Direction → Range → Decision
+unfoldable pub under_rules_of : Table → Situation → Option Float → EmissionKind → Direction → Range → Decision
 under_rules_of table s dial kind direction audio =
     judged_of table (signal_of dial s.sideband audio) (ready_of table.general s dial kind direction audio)
 
 -- without a table the policy alone decides, and the reading is Wider
-unfoldable pub unruled_of : Situation → Figure → Edges → Verdict → Code → Decision
+unfoldable pub unruled_of : Situation → Option Float → Edges → Verdict → Code → Decision
 unruled_of s dial e verdict code = simple_of (signal_of dial s.sideband (range_of e Wider)) verdict code no_rule
 
 -- by the policy, at a dial
-unfoldable pub decide_of : Table → Situation → Policy → Figure → EmissionKind → Direction → Edges → Decision
+unfoldable pub decide_of : Table → Situation → Policy → Option Float → EmissionKind → Direction → Edges → Decision
 decide_of table s Unset dial kind direction e = unruled_of s dial e Blocked NoProfile
 decide_of table s NoneApply dial kind direction e = unruled_of s dial e Legal NoRules
 decide_of table s Rules dial kind direction e = under_rules_of table s dial kind direction (range_of e (reading_of table.general))
@@ -146,7 +123,7 @@ beside_valid kind direction = kind_valid kind && direction_valid direction
 
 -- "15 an edge not finite or above 2^40 in size"
 abbrev pub edge_tests : Edges → List Test
-edge_tests e = test 15 (not (edges_valid e)) ∷ []
+edge_tests e = test refusal.SignalEdge (not (edges_valid e)) ∷ []
 
 -- "Order: 20, 21, 22, 1 to 14, 15 …"
 abbrev pub evaluate_tests : StationRecord → ℕ → ℕ → Edges → List ℕ → List Test
@@ -155,8 +132,8 @@ evaluate_tests r kind direction e l =
 
 -- the decision, or the refusal
 abbrev pub unless_refused : Checked → Decision → Decision
-unless_refused Accepted d = d
-unless_refused (Refused n) d = refused_of n
+unless_refused (Ok tt) d = d
+unless_refused (Err n) d = refused_of n
 
 -- `evaluate`
 unfoldable pub evaluate_of : StationRecord → ℕ → ℕ → Edges → List ℕ → Decision

@@ -7,55 +7,62 @@ ghost use Rattle.codes.specs.Refusal.{refusal_of};
 ghost use Rattle.layout.specs.Form.{Whole};
 ghost use Rattle.layout.specs.Layout.{general_of};
 ghost use Rattle.table.specs.Table.{table_of};
-ghost use Rattle.verdict.specs.Verdict.{air_of, signal_of, case_of, ready_of, under_rules_of, unruled_of};
+ghost use Rattle.verdict.specs.Verdict.{missing, air_of, signal_of, case_of, ready_of, under_rules_of, unruled_of};
 ghost use Rattle.verdict.specs.Verdict.{decide_of, beside_valid, evaluate_tests, evaluate_of, unmeasured_of};
 
 use codes::{
-    Checked, Control, ControlMode, Direction, EmissionKind, License, LicenseClass, Policy,
-    Sideband, SidebandSet,
+    Checked, ControlMode, Direction, EmissionKind, LicenseClass, Policy, Refusal, Sideband,
 };
-use decision::{BandNumber, Code, Decision, Draft, JudgedSegment, MaybeRange, Verdict};
+use decision::{Code, Decision, Draft, Verdict};
 use layout::General;
 use occupancy::{Edges, Reading};
 use part97::Case;
 use profile::Range;
-use station::{Figure, Situation, StationRecord};
+use station::{Situation, StationRecord};
 
-// What the prerequisites leave: a case to judge, or what is missing, as a reason and its rule.
+// A prerequisite that is missing: the code that blocks, and its rule.
 #[derive(Clone, Copy)]
-pub enum Ready {
-    Met(Case),
-    Missing(Code, u16),
+pub struct Missing {
+    pub code: Code,
+    pub rule: u16,
+}
+
+impl Missing {
+    fn new(code: Code, rule: u16) -> Self
+        ensures { result ≡ missing code rule }
+    {
+        Missing { code, rule }
+    }
 }
 
 // The range on the air, where dial and sideband are known.
-fn air_of(dial: Figure, sideband: SidebandSet, audio: Range) -> MaybeRange
+#[tactic(auto, unfolding(crate::specs::Verdict::air_of))]
+fn air_of(dial: Option<f64>, sideband: Option<Sideband>, audio: Range) -> Option<Range>
     ensures { result ≡ air_of dial sideband audio }
 {
-    match dial {
-        Figure::Known(hz) => match sideband {
-            SidebandSet::SidebandIs(side) => MaybeRange::Is(air::rf_range(hz, side, audio)),
-            SidebandSet::NoSideband => MaybeRange::NoRange,
-        },
-        Figure::Absent => MaybeRange::NoRange,
+    match (dial, sideband) {
+        (Some(hz), Some(side)) => Some(air::rf_range(hz, side, audio)),
+        _ => None,
     }
 }
 
 // The signal, before any test.
-pub fn signal_of(dial: Figure, sideband: SidebandSet, audio: Range) -> Draft
+#[tactic(auto, unfolding(crate::specs::Verdict::signal_of))]
+pub fn signal_of(dial: Option<f64>, sideband: Option<Sideband>, audio: Range) -> Draft
     ensures { result ≡ signal_of dial sideband audio }
 {
     Draft {
         audio,
         width: air::width(audio),
         air: air_of(dial, sideband, audio),
-        band: BandNumber::NoBand,
-        segment: JudgedSegment::NoSegment,
-        automatic_segment: MaybeRange::NoRange,
+        band: None,
+        segment: None,
+        automatic_segment: None,
     }
 }
 
 // The facts that judging works from.
+#[tactic(auto, unfolding(crate::specs::Verdict::case_of))]
 pub fn case_of(
     s: Situation,
     control: ControlMode,
@@ -68,10 +75,8 @@ pub fn case_of(
 ) -> Case
     ensures { result ≡ case_of s control class sideband dial kind direction audio }
 {
-    let power = s.power;
     let on_air = air::rf_range(dial, sideband, audio);
     let guarded = air::guarded(s.margin, on_air);
-    let advised = air::unguarded(s.margin, guarded);
     Case {
         class,
         sideband,
@@ -83,50 +88,49 @@ pub fn case_of(
         width: air::width(audio),
         air: on_air,
         guarded,
-        advised,
-        power,
+        advised: air::unguarded(s.margin, guarded),
+        power: s.power,
         band_plan: s.band_plan,
     }
 }
 
 // The prerequisites in order: the case to judge at a dial, or the first that is missing, with its rule.
+#[tactic(auto, unfolding(crate::specs::Verdict::ready_of))]
 pub fn prepare(
     g: General,
     s: Situation,
-    dial: Figure,
+    dial: Option<f64>,
     kind: EmissionKind,
     direction: Direction,
     audio: Range,
-) -> Ready
+) -> Result<Case, Missing>
     ensures { result ≡ ready_of g s dial kind direction audio }
 {
     if s.itu_region != g.region {
-        return Ready::Missing(Code::Region, decision::RULE_97_301);
+        return Err(Missing::new(Code::Region, decision::RULE_97_301));
     }
-    let control_set = s.control;
-    let license_set = s.license;
-    let sideband_set = s.sideband;
-    let Control::ControlIs(control) = control_set else {
-        return Ready::Missing(Code::NoControl, decision::RULE_97_109);
+    let Some(control) = s.control else {
+        return Err(Missing::new(Code::NoControl, decision::RULE_97_109));
     };
-    let License::LicenseIs(class) = license_set else {
-        return Ready::Missing(Code::NoLicense, decision::RULE_97_301);
+    let Some(class) = s.license else {
+        return Err(Missing::new(Code::NoLicense, decision::RULE_97_301));
     };
-    let SidebandSet::SidebandIs(sideband) = sideband_set else {
-        return Ready::Missing(Code::NoSideband, decision::NO_RULE);
+    let Some(sideband) = s.sideband else {
+        return Err(Missing::new(Code::NoSideband, decision::NO_RULE));
     };
-    let Figure::Known(hz) = dial else {
-        return Ready::Missing(Code::NoDial, decision::NO_RULE);
+    let Some(hz) = dial else {
+        return Err(Missing::new(Code::NoDial, decision::NO_RULE));
     };
-    Ready::Met(case_of(s, control, class, sideband, hz, kind, direction, audio))
+    Ok(case_of(s, control, class, sideband, hz, kind, direction, audio))
 }
 
 // Under Rules: Part 97 judges the case, and what is missing blocks.
+#[tactic(auto, unfolding(crate::specs::Verdict::under_rules_of))]
 fn under_rules(
     image: &[u8],
     g: General,
     s: Situation,
-    dial: Figure,
+    dial: Option<f64>,
     kind: EmissionKind,
     direction: Direction,
     audio: Range,
@@ -135,34 +139,30 @@ fn under_rules(
     ensures { result ≡ under_rules_of (table_of image.now) s dial kind direction audio }
 {
     match prepare(g, s, dial, kind, direction, audio) {
-        Ready::Met(c) => {
-            let f = judge::judge_case(image, g, c);
-            judge::conclude(image, g, c, f)
-        }
-        Ready::Missing(code, rule) => {
-            let sideband = s.sideband;
-            let signal = signal_of(dial, sideband, audio);
-            decision::simple(signal, Verdict::Blocked, code, rule)
+        Ok(c) => judge::conclude(image, g, c, judge::judge_case(image, g, c)),
+        Err(m) => {
+            let signal = signal_of(dial, s.sideband, audio);
+            decision::simple(signal, Verdict::Blocked, m.code, m.rule)
         }
     }
 }
 
 // Without a table, by the wider reading: the policy alone decides.
-pub fn unruled(s: Situation, dial: Figure, e: Edges, verdict: Verdict, code: Code) -> Decision
+#[tactic(auto, unfolding(crate::specs::Verdict::unruled_of))]
+pub fn unruled(s: Situation, dial: Option<f64>, e: Edges, verdict: Verdict, code: Code) -> Decision
     ensures { result ≡ unruled_of s dial e verdict code }
 {
-    let sideband = s.sideband;
-    let audio = e.range(Reading::Wider);
-    let signal = signal_of(dial, sideband, audio);
+    let signal = signal_of(dial, s.sideband, e.range(Reading::Wider));
     decision::simple(signal, verdict, code, decision::NO_RULE)
 }
 
 // By the policy, at a dial. Under Rules the image is an accepted one.
+#[tactic(auto, unfolding(crate::specs::Verdict::decide_of))]
 pub fn decide(
     image: &[u8],
     s: Situation,
     policy: Policy,
-    dial: Figure,
+    dial: Option<f64>,
     kind: EmissionKind,
     direction: Direction,
     e: Edges,
@@ -190,6 +190,7 @@ fn beside_valid(kind: u8, direction: u8) -> bool
 }
 
 // Refusals 20 to 22, 1 to 14 and 15.
+#[tactic(auto, using(codes::specs::Laws::refusal_next, codes::specs::Laws::refusal_stays), unfolding(entry::specs::Entry::entry_of))]
 pub fn evaluate_refusals(
     r: StationRecord,
     kind: u8,
@@ -199,35 +200,29 @@ pub fn evaluate_refusals(
 ) -> Checked
     ensures { result ≡ refusal_of (evaluate_tests r kind direction e image.now) }
 {
-    match entry::admit(r, beside_valid(kind, direction), image) {
-        Checked::Refused(n) => Checked::Refused(n),
-        Checked::Accepted => {
-            if entry::edges_valid(e) {
-                Checked::Accepted
-            } else {
-                Checked::Refused(15)
-            }
-        }
+    entry::admit(r, beside_valid(kind, direction), image)?;
+    if !entry::edges_valid(e) {
+        return Err(Refusal::SignalEdge);
     }
+    Ok(())
 }
 
 // Judge a transmission.
+#[tactic(auto, unfolding(crate::specs::Verdict::evaluate_of))]
 pub fn evaluate(r: StationRecord, kind: u8, direction: u8, e: Edges, image: &[u8]) -> Decision
     ensures { result ≡ evaluate_of r kind direction e image.now }
 {
     match evaluate_refusals(r, kind, direction, e, image) {
-        Checked::Refused(n) => decision::refused(n),
-        Checked::Accepted => {
+        Err(n) => decision::refused(n),
+        Ok(()) => {
             let s = station::situation_of(r);
-            let policy = s.policy;
-            let dial = s.dial;
             decide(
                 image,
                 s,
-                policy,
-                dial,
-                codes::kind_of(kind),
-                codes::direction_of(direction),
+                s.policy,
+                s.dial,
+                kind.into(),
+                direction.into(),
                 entry::edges_read(e),
             )
         }
@@ -235,26 +230,22 @@ pub fn evaluate(r: StationRecord, kind: u8, direction: u8, e: Edges, image: &[u8
 }
 
 // The refusal of a transmission whose spectrum is not known.
+#[tactic(auto, unfolding(crate::specs::Verdict::unmeasured_of, entry::specs::Entry::entry_of))]
 pub fn unmeasured(r: StationRecord, image: &[u8]) -> Decision
     ensures { result ≡ unmeasured_of r image.now }
 {
-    match entry::admit(r, true, image) {
-        Checked::Refused(n) => decision::refused(n),
-        Checked::Accepted => {
-            let s = station::situation_of(r);
-            let dial = s.dial;
-            let sideband = s.sideband;
-            let audio = Range {
-                low_hz: 0.0,
-                high_hz: 0.0,
-            };
-            let signal = signal_of(dial, sideband, audio);
-            decision::simple(
-                signal,
-                Verdict::Blocked,
-                Code::Unmeasured,
-                decision::NO_RULE,
-            )
-        }
+    if let Err(n) = entry::admit(r, true, image) {
+        return decision::refused(n);
     }
+    let s = station::situation_of(r);
+    let audio = Range {
+        low_hz: 0.0,
+        high_hz: 0.0,
+    };
+    decision::simple(
+        signal_of(s.dial, s.sideband, audio),
+        Verdict::Blocked,
+        Code::Unmeasured,
+        decision::NO_RULE,
+    )
 }

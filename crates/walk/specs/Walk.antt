@@ -1,9 +1,9 @@
 -- A walk of rungs, a rung a step, under the one of two images that was in force as it was opened (document 02, 10).
-use Rattle.std.specs.Prelude.{ℕ, Bool, not, cond, ◌&&◌, ◌||◌, List, [], ◌∷◌, eqb, ltb}
+use Rattle.codes.specs.declared.Refusal.{Refusal}
+use Rattle.codes.specs.declared.Refusal.TheVariants as refusal
+use Rattle.std.specs.Prelude.{ℕ, Bool, not, cond, ◌&&◌, ◌||◌, List, [], ◌∷◌, eqb, ltb, Ok, Err}
+use Rattle.codes.specs.Refusal.{Checked, Test, test, refusal_of}
 use Rattle.figures.specs.Figure.{zero_hz}
-use Rattle.codes.specs.Refusal.{Test, test, refusal_of}
-use Rattle.codes.specs.declared.Checked.{Checked}
-use Rattle.codes.specs.declared.Checked.TheVariants.{Accepted, Refused}
 use Rattle.profile.specs.Range.{range}
 use Rattle.occupancy.specs.declared.Edges.{Edges}
 use Rattle.entry.specs.Entry.{edges_valid, edges_read}
@@ -42,12 +42,16 @@ occupied_read w = cond (eqb w.place 0) no_edges (edges_read w.occupied)
 
 -- "A refusal by any number leaves the state unchanged."
 abbrev pub state_unless_refused : Checked → WalkState → WalkState → WalkAnswer
-state_unless_refused Accepted w next = record { refusal = Accepted; state = next }
-state_unless_refused (Refused n) w next = record { refusal = Refused n; state = w }
+state_unless_refused (Ok tt) w next = record { refusal = Ok tt; state = next }
+state_unless_refused (Err n) w next = record { refusal = Err n; state = w }
 
--- "It refuses (29) a second swap while one waits"; then a state that no call gives
+-- what a call refuses of a state: what the call itself rules out, then a state that no call gives
+abbrev pub state_tests : WalkState → Bool → Refusal → List Test
+state_tests w ruled_out n = test n ruled_out ∷ test refusal.StationCode (not (state_valid w)) ∷ []
+
+-- "It refuses (29) a second swap while one waits"
 abbrev pub swap_tests : WalkState → List Test
-swap_tests w = test 29 (eqb w.waiting 1) ∷ test 20 (not (state_valid w)) ∷ []
+swap_tests w = state_tests w (eqb w.waiting 1) refusal.SecondSwap
 
 -- "A table with nobody walking takes force immediately"; else it waits
 unfoldable pub swapped : WalkState → WalkState
@@ -60,7 +64,7 @@ swap_of w = state_unless_refused (refusal_of (swap_tests w)) w (swapped w)
 
 -- "and (30, next) … an opening while one is open"
 abbrev pub open_tests : WalkState → List Test
-open_tests w = test 30 (eqb w.walking 1) ∷ test 20 (not (state_valid w)) ∷ []
+open_tests w = state_tests w (eqb w.walking 1) refusal.Walk
 
 -- a walk that begins under image n
 abbrev pub opened_at : ℕ → WalkState

@@ -3,9 +3,10 @@
 #![tactic(auto)]
 
 ghost use Rattle.std.specs.Prelude.{◌≡◌};
-ghost use Rattle.walk.specs.Walk.{no_edges, resting, first_state, other_image, state_valid, swap_of, open_of, occupied_read};
+ghost use Rattle.codes.specs.Refusal.{refusal_of};
+ghost use Rattle.walk.specs.Walk.{no_edges, resting, first_state, other_image, state_valid, state_tests, swap_of, open_of, occupied_read};
 
-use codes::Checked;
+use codes::{Checked, Refusal};
 use occupancy::Edges;
 use profile::Range;
 
@@ -33,15 +34,14 @@ pub struct WalkAnswer {
 fn no_edges() -> Edges
     ensures { result ≡ no_edges }
 {
-    let power = Range {
+    let nowhere = Range {
         low_hz: 0.0,
         high_hz: 0.0,
     };
-    let spectral = Range {
-        low_hz: 0.0,
-        high_hz: 0.0,
-    };
-    Edges { power, spectral }
+    Edges {
+        power: nowhere,
+        spectral: nowhere,
+    }
 }
 
 // Nobody is walking, and an image is in force.
@@ -72,19 +72,11 @@ pub fn other_image(image: u8) -> u8
 }
 
 // Whether a state is one that a call gives.
+#[tactic(auto, unfolding(crate::specs::Walk::state_valid))]
 pub fn state_valid(w: WalkState) -> bool
     ensures { result ≡ state_valid w }
 {
-    if 1 < w.image {
-        return false;
-    }
-    if 1 < w.waiting {
-        return false;
-    }
-    if 1 < w.walking {
-        return false;
-    }
-    if 255 < w.place {
+    if w.image > 1 || (w.waiting > 1 || (w.walking > 1 || w.place > 255)) {
         return false;
     }
     if w.walking == 0 {
@@ -93,75 +85,72 @@ pub fn state_valid(w: WalkState) -> bool
     w.place == 0 || entry::edges_valid(w.occupied)
 }
 
+// What a call refuses of a state: what the call itself rules out, then a state that no call gives.
+pub fn state_refusal(w: WalkState, ruled_out: bool, n: Refusal) -> Checked
+    ensures { result ≡ refusal_of (state_tests w ruled_out n) }
+{
+    if ruled_out {
+        return Err(n);
+    }
+    if !state_valid(w) {
+        return Err(Refusal::StationCode);
+    }
+    Ok(())
+}
+
 // What the rungs judged so far occupy, as it is read.
 fn occupied_read(w: WalkState) -> Edges
     ensures { result ≡ occupied_read w }
 {
     if w.place == 0 {
-        return no_edges();
+        no_edges()
+    } else {
+        entry::edges_read(w.occupied)
     }
-    entry::edges_read(w.occupied)
 }
 
 // Changes to the other image: at once where nobody is walking, else at the walk's end.
+#[tactic(auto, unfolding(crate::specs::Walk::swapped, crate::specs::Walk::swap_of))]
 pub fn swap(w: WalkState) -> WalkAnswer
     ensures { result ≡ swap_of w }
 {
-    if w.waiting == 1 {
+    if let Err(n) = state_refusal(w, w.waiting == 1, Refusal::SecondSwap) {
         return WalkAnswer {
-            refusal: Checked::Refused(29),
+            refusal: Err(n),
             state: w,
         };
     }
-    if !state_valid(w) {
-        return WalkAnswer {
-            refusal: Checked::Refused(20),
-            state: w,
-        };
-    }
-    if w.walking == 1 {
-        let occupied = occupied_read(w);
-        return WalkAnswer {
-            refusal: Checked::Accepted,
-            state: WalkState {
-                occupied,
-                place: w.place,
-                image: w.image,
-                waiting: 1,
-                walking: 1,
-            },
-        };
-    }
+    let state = if w.walking == 1 {
+        WalkState {
+            occupied: occupied_read(w),
+            waiting: 1,
+            ..w
+        }
+    } else {
+        resting(other_image(w.image))
+    };
     WalkAnswer {
-        refusal: Checked::Accepted,
-        state: resting(other_image(w.image)),
+        refusal: Ok(()),
+        state,
     }
 }
 
 // Opens a walk, under the image in force.
+#[tactic(auto, unfolding(crate::specs::Walk::open_of))]
 pub fn open_walk(w: WalkState) -> WalkAnswer
     ensures { result ≡ open_of w }
 {
-    if w.walking == 1 {
+    if let Err(n) = state_refusal(w, w.walking == 1, Refusal::Walk) {
         return WalkAnswer {
-            refusal: Checked::Refused(30),
-            state: w,
-        };
-    }
-    if !state_valid(w) {
-        return WalkAnswer {
-            refusal: Checked::Refused(20),
+            refusal: Err(n),
             state: w,
         };
     }
     WalkAnswer {
-        refusal: Checked::Accepted,
+        refusal: Ok(()),
         state: WalkState {
-            occupied: no_edges(),
-            place: 0,
-            image: w.image,
-            waiting: 0,
             walking: 1,
+            ..resting(w.image)
         },
     }
 }

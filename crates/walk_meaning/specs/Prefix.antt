@@ -1,5 +1,5 @@
 -- "the ceiling that the rungs judged so far give": the climb over the first j rungs is what the ceiling answers where it is lent only those.
-use Rattle.std.specs.Prelude.{ℕ, zero, suc, ◌+◌, ◌*◌, ◌/◌, ◌%◌, ◌<◌, ◌≤◌, Bool, ◌||◌, List, ◌≡◌, get_or, take, drop, Float}
+use Rattle.std.specs.Prelude.{ℕ, zero, suc, ◌+◌, ◌*◌, ◌/◌, ◌%◌, ◌<◌, ◌≤◌, Bool, ◌||◌, List, ◌≡◌, get_or, take, drop, Float, Ok}
 use Rattle.std.proofs.Math.Bool.{true, false, not}
 use Rattle.std.proofs.Common.{true≢false, ap, ◌∙◌, arith, le-ltb, eq-eqb, eqb-true, ltb-false, take-append-drop, length-take-le}
 use Rattle.std.proofs.Math.Path.{refl, sym}
@@ -9,17 +9,14 @@ use Rattle.std.specs.Float.{nan}
 use Rattle.codes.specs.Read.{direction_valid}
 use Rattle.codes.specs.Refusal.{refusal_of}
 use Rattle.codes.specs.Laws.{refusal_both, refusal_next, none_fails}
-use Rattle.codes.specs.declared.Checked.TheVariants.{Accepted}
 use Rattle.occupancy.specs.declared.Edges.{Edges}
 use Rattle.scan.specs.Laws.{some_false, some_all}
 use Rattle.station.specs.declared.StationRecord.{StationRecord}
 use Rattle.entry.specs.Entry.{entry_tests, edges_valid}
 use Rattle.layout.specs.Bytes.{byte_at}
 use Rattle.decision.specs.declared.Decision.{Decision}
-use Rattle.ceiling.specs.Ceiling.{climbed, climb_step}
-use Rattle.rungs.specs.Rungs.{figure_at, rung_of, burst_of, unsized_at, any_unsized, bad_edges, unmarked_at, any_unmarked}
-use Rattle.ceiling.specs.Ceiling.{ceiling_unless_refused, ceiling_of}
-use Rattle.rungs.specs.Rungs.{bad_rungs, rung_tests, ceiling_tests}
+use Rattle.ceiling.specs.Ceiling.{climbed, climb_step, ceiling_unless_refused, ceiling_of}
+use Rattle.rungs.specs.Rungs.{figure_at, rung_of, burst_of, unsized_at, any_unsized, bad_edges, unmarked_at, any_unmarked, bad_rungs, rung_tests, ceiling_tests}
 use Rattle.ceiling.specs.Run.{judging, bursts}
 use Rattle.ceiling.specs.declared.Climb.{Climb}
 
@@ -46,8 +43,8 @@ module _ (r : StationRecord) (direction : ℕ) (ordinary floor : Edges) (l : Lis
   first_floors = take j floors
 
   module _
-      (accepted : refusal_of (ceiling_tests r direction ordinary floor l rungs floors) ≡ Accepted) (within : j ≤ length rungs / 4) where
-    tests : (refusal_of (entry_tests r (direction_valid direction) l) ≡ Accepted) × (refusal_of (rung_tests ordinary floor rungs floors) ≡ Accepted)
+      (accepted : refusal_of (ceiling_tests r direction ordinary floor l rungs floors) ≡ Ok tt) (within : j ≤ length rungs / 4) where
+    tests : (refusal_of (entry_tests r (direction_valid direction) l) ≡ Ok tt) × (refusal_of (rung_tests ordinary floor rungs floors) ≡ Ok tt)
     tests = refusal_both (entry_tests r (direction_valid direction) l) (rung_tests ordinary floor rungs floors) accepted
 
     edges_fine : (any_unsized rungs ≡ false) × ((not (edges_valid ordinary) || not (edges_valid floor)) ≡ false)
@@ -105,7 +102,7 @@ module _ (r : StationRecord) (direction : ℕ) (ordinary floor : Edges) (l : Lis
         go i h =
             rw (floor_byte i h) (some_false (unmarked_at floors) (length floors) rungs_fine.1.1 i (omega (arith, h, within, rungs_fine.1.0)))
 
-    lent_well : refusal_of (rung_tests ordinary floor first_rungs first_floors) ≡ Accepted
+    lent_well : refusal_of (rung_tests ordinary floor first_rungs first_floors) ≡ Ok tt
     unfolding bad_edges bad_rungs
     lent_well =
         let fours : length first_rungs % 4 ≡ 0 = omega (arith, rungs_length) in
@@ -128,11 +125,11 @@ module _ (r : StationRecord) (direction : ℕ) (ordinary floor : Edges) (l : Lis
     -- The ceiling of the first j rungs is that of the climb over them.
     pub ceiling_of_first :
         ceiling_of r direction ordinary floor l first_rungs first_floors
-        ≡ ceiling_unless_refused Accepted (climbed (judging r direction ordinary floor l rungs floors) (bursts r direction ordinary floor l rungs floors) j)
+        ≡ ceiling_unless_refused (Ok tt) (climbed (judging r direction ordinary floor l rungs floors) (bursts r direction ordinary floor l rungs floors) j)
     unfolding ceiling_of
     ceiling_of_first =
         rw (refusal_next (entry_tests r (direction_valid direction) l) (rung_tests ordinary floor first_rungs first_floors) tests.0 ∙ lent_well)
         (rw quarter
-        (ap (ceiling_unless_refused Accepted)
+        (ap (ceiling_unless_refused (Ok tt))
         (climb_same (judging r direction ordinary floor l rungs floors) (bursts r direction ordinary floor l first_rungs first_floors)
         (bursts r direction ordinary floor l rungs floors) j burst_same)))

@@ -2,38 +2,30 @@
 -- on the table at its start", whatever swaps come between; each step before gives the ceiling of the rungs judged so far; and where the image
 -- in force stands after it.
 use Prim.Native.Nat.{ℕ, zero, suc, ◌+◌, ◌*◌, ◌-◌, ◌/◌, ◌%◌, ◌<◌, ◌≤◌}
-use Rattle.std.specs.Prelude.{Bool, cond, ◌||◌, List, ◌≡◌, eqb, length, take, Float}
+use Rattle.std.specs.Prelude.{Option, Some, None, Ok, Err, Bool, cond, ◌||◌, List, ◌≡◌, eqb, length, take, Float}
+use Rattle.codes.specs.Refusal.{Checked, refusal_of}
+use Rattle.codes.specs.declared.Refusal.{Refusal}
 use Rattle.std.proofs.Math.Bool.{true, false, not}
 use Rattle.std.proofs.Common.{true≢false, sym, ◌∙◌, arith}
 use Rattle.std.proofs.Math.Path.{refl, ap}
 use borrow.Author.Tests.{lt-ltb, le-ltb, ltb-true, ltb-false, ne_eqb, not-true, not-false}
 use Rattle.std.proofs.Math.Dec.{ltb}
 use Rattle.codes.specs.Read.{direction_valid}
-use Rattle.codes.specs.Refusal.{refusal_of}
 use Rattle.codes.specs.Laws.{refusal_both, none_fails}
-use Rattle.codes.specs.declared.Checked.{Checked}
-use Rattle.codes.specs.declared.Checked.TheVariants.{Accepted, Refused}
 use Rattle.occupancy.specs.declared.Edges.{Edges}
 use Rattle.scan.specs.First.{first, on_found}
 use Rattle.scan.specs.Laws.{and_true}
-use Rattle.scan.specs.declared.Found.{Found}
-use Rattle.scan.specs.declared.Found.TheVariants.{At, Nothing}
 use Rattle.station.specs.declared.StationRecord.{StationRecord}
 use Rattle.entry.specs.Entry.{entry_tests, edges_valid, edges_read}
 use Rattle.decision.specs.declared.Decision.{Decision}
-use Rattle.ceiling.specs.Ceiling.{no_decision, ended_of as climb_ended, climb_start, climbed, rung_judged}
-use Rattle.rungs.specs.Rungs.{bad_edges, bad_rungs, rung_tests, ceiling_tests}
-use Rattle.ceiling.specs.Ceiling.{ceiling_unless_refused, ceiling_of}
-use Rattle.rungs.specs.Rungs.{any_unmarked}
+use Rattle.ceiling.specs.Ceiling.{limited, ended_of as climb_ended, climb_start, climbed, rung_judged, ceiling_unless_refused, ceiling_of}
+use Rattle.rungs.specs.Rungs.{bad_edges, bad_rungs, rung_tests, ceiling_tests, any_unmarked}
 use Rattle.ceiling.specs.Laws.{one_more, step_free, stays}
 use Rattle.ceiling.specs.Run.{rung_below, envelope_of, blocked_at, stopped_at, free_at, climb_first, judging, bursts}
-use Rattle.ceiling.specs.declared.Envelope.TheVariants.{Reached}
 use Rattle.ceiling.specs.declared.Climb.{Climb}
 use Rattle.ceiling.specs.declared.CeilingAnswer.{CeilingAnswer}
-use Rattle.walk.specs.Walk.{no_edges, resting, other_image, state_valid, occupied_read, swapped, swap_of, open_tests, opened_at, open_of}
-use Rattle.walk_step.specs.Step.{climb_so_far, ended_of, goes_on, step_gives, step_none, step_judged, step_by, step_under}
-use Rattle.walk.specs.Walk.{state_unless_refused}
-use Rattle.walk_step.specs.Step.{refused_step, walk_image, step_of}
+use Rattle.walk.specs.Walk.{no_edges, resting, other_image, state_valid, occupied_read, swapped, swap_of, open_tests, opened_at, open_of, state_unless_refused}
+use Rattle.walk_step.specs.Step.{climb_so_far, ended_of, goes_on, step_gives, step_none, step_judged, step_by, step_under, refused_step, walk_image, step_of}
 use Rattle.walk.specs.declared.WalkState.{WalkState}
 use Rattle.walk_step.specs.declared.StepAnswer.{StepAnswer}
 use Rattle.walk_meaning.specs.Prefix.{ceiling_of_first}
@@ -55,7 +47,7 @@ waits_after zero waiting = waiting
 waits_after (suc m) waiting = 1
 
 -- "A table with nobody walking takes force immediately."
-pub swap_at_rest : (n : ℕ) → n ≤ 1 → swap_of (resting n) ≡ state_unless_refused Accepted (resting n) (resting (other_image n))
+pub swap_at_rest : (n : ℕ) → n ≤ 1 → swap_of (resting n) ≡ state_unless_refused (Ok tt) (resting n) (resting (other_image n))
 unfolding swap_of swapped state_valid
 swap_at_rest n h = rw (le-ltb 1 n h)
 
@@ -131,20 +123,20 @@ module _ (burst : ℕ → Edges) where
             rw (not_nought j) (rw p (ap (λ (e : Edges). climb j e) (sound_same (envelope_of burst j) (s j (omega arith)))))
           where
             climb : ℕ → Edges → Climb
-            climb i e = record { envelope = Reached e; rung = rung_below (suc i); limited = false; limit = no_decision }
+            climb i e = record { envelope = Some e; rung = rung_below (suc i); limit = None }
 
 -- a climb that no rung ended
-free_of : (judge : Edges → Decision) (burst : ℕ → Edges) (n : ℕ) → (climbed judge burst n).limited ≡ false → climbed judge burst n ≡ free_at judge burst n
+free_of : (judge : Edges → Decision) (burst : ℕ → Edges) (n : ℕ) → limited (climbed judge burst n).limit ≡ false → climbed judge burst n ≡ free_at judge burst n
 unfolding climb_ended
 free_of judge burst n q = go (first (blocked_at judge burst) n) (climb_first judge burst n)
   where
     go :
-        (f : Found) → climbed judge burst n ≡ on_found f (stopped_at judge burst) (free_at judge burst n) → climbed judge burst n ≡ free_at judge burst n
-    go (At j) p = absurd (true≢false (sym (ap (λ (c : Climb). c.limited) p) ∙ q))
-    go Nothing p = p
+        (f : Option ℕ) → climbed judge burst n ≡ on_found f (stopped_at judge burst) (free_at judge burst n) → climbed judge burst n ≡ free_at judge burst n
+    go (Some j) p = absurd (true≢false (sym (ap (λ (c : Climb). limited c.limit) p) ∙ q))
+    go None p = p
 
 -- an opening that is not refused
-pub opens : (w : WalkState) → (open_of w).refusal ≡ Accepted → (w.image ≤ 1) × ((open_of w).state ≡ opened_at w.image)
+pub opens : (w : WalkState) → (open_of w).refusal ≡ Ok tt → (w.image ≤ 1) × ((open_of w).state ≡ opened_at w.image)
 unfolding open_of state_valid
 opens w e = go (refusal_of (open_tests w)) refl e
   where
@@ -152,17 +144,13 @@ opens w e = go (refusal_of (open_tests w)) refl e
     valid v = ltb-false 1 w.image (not-true _ (and_true (not (ltb 1 w.image)) _ v).0)
 
     go :
-        (x : Checked) → refusal_of (open_tests w) ≡ x → (state_unless_refused x w (opened_at w.image)).refusal ≡ Accepted
+        (x : Checked) → refusal_of (open_tests w) ≡ x → (state_unless_refused x w (opened_at w.image)).refusal ≡ Ok tt
         → (w.image ≤ 1) × ((state_unless_refused x w (opened_at w.image)).state ≡ opened_at w.image)
-    go Accepted p q = (valid (not-false _ (none_fails (open_tests w) p).1.0), refl)
-    go (Refused n) p q = absurd (accepted_not n q)
+    go (Ok tt) p q = (valid (not-false _ (none_fails (open_tests w) p).1.0), refl)
+    go (Err n) p q = absurd (accepted_not n q)
       where
-        accepted_not : (i : ℕ) → Refused i ≡ Accepted → ⊥
-        accepted_not i d = true≢false (ap taken d)
-          where
-            taken : Checked → Bool
-            taken Accepted = false
-            taken (Refused j) = true
+        accepted_not : (i : Refusal) → ◌≡◌ {A = Checked} (Err i) (Ok tt) → ⊥
+        accepted_not i d = let z : ◌≡◌ {A = ℕ} 0 1 = cc in omega arith
 
 -- ---- a walk in which every step is lent the same
 
@@ -197,8 +185,8 @@ module _ (r : StationRecord) (direction : ℕ) (ordinary floor : Edges) (l₀ l�
   one_call w = ceiling_of r direction ordinary floor (walk_image w l₀ l₁) rungs floors
 
   module _
-      (w : WalkState) (swaps : ℕ → ℕ) (opened : (open_of w).refusal ≡ Accepted)
-      (accepted : refusal_of (ceiling_tests r direction ordinary floor (walk_image w l₀ l₁) rungs floors) ≡ Accepted) where
+      (w : WalkState) (swaps : ℕ → ℕ) (opened : (open_of w).refusal ≡ Ok tt)
+      (accepted : refusal_of (ceiling_tests r direction ordinary floor (walk_image w l₀ l₁) rungs floors) ≡ Ok tt) where
     abbrev n : ℕ
     n = w.image
 
@@ -273,7 +261,7 @@ module _ (r : StationRecord) (direction : ℕ) (ordinary floor : Edges) (l₀ l�
           let e : k + 1 ≡ suc k = omega arith in
           ap (λ (c : Climb). rung_judged judge c k (burst k))
           (climb_so_far_holds burst n k (opens w opened).0 low (sound_below k s.within) judge (waits_at swaps k) ∙ sym s.free)
-          ∙ sym (step_free judge burst (climb k) k (burst k) (ap (λ (c : Climb). c.limited) s.free))
+          ∙ sym (step_free judge burst (climb k) k (burst k) (ap (λ (c : Climb). limited c.limit) s.free))
           ∙ sym (one_more judge burst k) ∙ ap climb e
 
       step_there : k < count → answer_at w swaps k ≡ step_judged here count (climb (suc k))
@@ -287,11 +275,11 @@ module _ (r : StationRecord) (direction : ℕ) (ordinary floor : Edges) (l₀ l�
       abbrev gives_climb : Bool → StepAnswer
       gives_climb over = step_gives here (climb (suc k)) over
 
-      over_of : k < count → (answer_at w swaps k).over ≡ (climb (suc k)).limited || not (ltb (k + 1) count)
+      over_of : k < count → (answer_at w swaps k).over ≡ limited (climb (suc k)).limit || not (ltb (k + 1) count)
       unfolding step_judged
       over_of h = ap (λ (a : StepAnswer). a.over) (step_there h)
 
-      gives : k < count → (answer_at w swaps k).ceiling ≡ ceiling_unless_refused Accepted (climb (suc k))
+      gives : k < count → (answer_at w swaps k).ceiling ≡ ceiling_unless_refused (Ok tt) (climb (suc k))
       unfolding step_judged
       gives h = ap (λ (a : StepAnswer). a.ceiling) (step_there h)
 
@@ -301,14 +289,14 @@ module _ (r : StationRecord) (direction : ℕ) (ordinary floor : Edges) (l₀ l�
       neither false false q = absurd (true≢false q)
       neither false true q = (refl, refl)
 
-      goes_on_holds : (answer_at w swaps k).over ≡ false → (k < count) × (((climb (suc k)).limited ≡ false) × (k + 1 < count))
+      goes_on_holds : (answer_at w swaps k).over ≡ false → (k < count) × ((limited (climb (suc k)).limit ≡ false) × (k + 1 < count))
       unfolding step_none
       goes_on_holds q = go (ltb k count) refl
         where
-          go : (b : Bool) → ltb k count ≡ b → (k < count) × (((climb (suc k)).limited ≡ false) × (k + 1 < count))
+          go : (b : Bool) → ltb k count ≡ b → (k < count) × ((limited (climb (suc k)).limit ≡ false) × (k + 1 < count))
           go true p =
               let h = ltb-true k count p in
-              let d = neither (climb (suc k)).limited (ltb (k + 1) count) (sym (over_of h) ∙ q) in
+              let d = neither (limited (climb (suc k)).limit) (ltb (k + 1) count) (sym (over_of h) ∙ q) in
               (h, (d.0, ltb-true (k + 1) count d.1))
           go false p =
               absurd (true≢false (sym (ap (λ (a : StepAnswer). a.over) (step_nowhere (ltb-false k count p))) ∙ q))
@@ -332,7 +320,7 @@ module _ (r : StationRecord) (direction : ℕ) (ordinary floor : Edges) (l₀ l�
           state p = record { occupied = envelope_of burst k; place = p; image = n; waiting = waits_at swaps k; walking = 1 }
 
           moved :
-              (k < count) × (((climb (suc k)).limited ≡ false) × (k + 1 < count)) → climb (suc k) ≡ free_at judge burst (suc k)
+              (k < count) × ((limited (climb (suc k)).limit ≡ false) × (k + 1 < count)) → climb (suc k) ≡ free_at judge burst (suc k)
               → (answer_at w swaps k).state ≡ walking_at burst n (suc k) (waits_at swaps k)
           moved g free =
               let e : k + 1 ≡ suc k = omega arith in
@@ -367,28 +355,28 @@ module _ (r : StationRecord) (direction : ℕ) (ordinary floor : Edges) (l₀ l�
         either false false p q = refl
 
         -- the rungs that are left add nothing
-        whole : k < count → (b : Bool) → (climb (suc k)).limited ≡ b → climb (suc k) ≡ climb count
+        whole : k < count → (b : Bool) → limited (climb (suc k)).limit ≡ b → climb (suc k) ≡ climb count
         whole h true p =
             let q : count - suc k + suc k ≡ count = omega (arith, h) in
             sym (stays judge burst (count - suc k) (suc k) p) ∙ ap climb q
         whole h false p =
-            let last = ltb-false (k + 1) count (either (climb (suc k)).limited (ltb (k + 1) count) (sym (over_of k s h) ∙ over) p) in
+            let last = ltb-false (k + 1) count (either (limited (climb (suc k)).limit) (ltb (k + 1) count) (sym (over_of k s h) ∙ over) p) in
             let q : suc k ≡ count = omega (arith, h, last) in
             ap climb q
 
-        go : (b : Bool) → ltb k count ≡ b → (answer_at w swaps k).ceiling ≡ ceiling_unless_refused Accepted (climb count)
+        go : (b : Bool) → ltb k count ≡ b → (answer_at w swaps k).ceiling ≡ ceiling_unless_refused (Ok tt) (climb count)
         go true p =
             let h = ltb-true k count p in
-            gives k s h ∙ ap (ceiling_unless_refused Accepted) (whole h (climb (suc k)).limited refl)
+            gives k s h ∙ ap (ceiling_unless_refused (Ok tt)) (whole h (limited (climb (suc k)).limit) refl)
         go false p =
             let h = ltb-false k count p in
             let none : k ≡ count = omega (arith, h, s.within) in
             ap (λ (a : StepAnswer). a.ceiling) (step_nowhere k s h)
-            ∙ ap (ceiling_unless_refused Accepted)
+            ∙ ap (ceiling_unless_refused (Ok tt))
             (climb_so_far_holds burst n k (opens w opened).0 (low k s) (sound_below k s.within) judge (waits_at swaps k) ∙ sym s.free ∙ ap climb none)
 
     -- It is over with its first blocked rung or with its last, and where no rung is lent with its first step.
-    pub walk_over : (k : ℕ) → GoesTo k → k < count → (answer_at w swaps k).over ≡ (climb (suc k)).limited || not (ltb (k + 1) count)
+    pub walk_over : (k : ℕ) → GoesTo k → k < count → (answer_at w swaps k).over ≡ limited (climb (suc k)).limit || not (ltb (k + 1) count)
     walk_over k on h = over_of k (stands k on) h
 
     pub walk_empty : count ≡ 0 → (answer_at w swaps 0).over ≡ true
@@ -418,8 +406,8 @@ module _ (r : StationRecord) (direction : ℕ) (ordinary floor : Edges) (l₀ l�
 
   -- A walk whose ceiling is refused stands still: each step answers that refusal, and is not over.
   module _
-      (w : WalkState) (swaps : ℕ → ℕ) (opened : (open_of w).refusal ≡ Accepted) (x : ℕ)
-      (refused : refusal_of (ceiling_tests r direction ordinary floor (walk_image w l₀ l₁) rungs floors) ≡ Refused x) where
+      (w : WalkState) (swaps : ℕ → ℕ) (opened : (open_of w).refusal ≡ Ok tt) (x : Refusal)
+      (refused : refusal_of (ceiling_tests r direction ordinary floor (walk_image w l₀ l₁) rungs floors) ≡ Err x) where
     abbrev still : ℕ → WalkState
     still waiting = walking_at (λ k. no_edges) w.image 0 waiting
 

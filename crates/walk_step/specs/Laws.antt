@@ -1,27 +1,21 @@
 -- A step by its cases, for the function that makes it.
-use Rattle.std.specs.Prelude.{ℕ, ◌+◌, ◌<◌, ◌≤◌, Bool, cond, ◌||◌, ◌≡◌, ltb}
+use Rattle.std.specs.Prelude.{ℕ, ◌+◌, ◌<◌, ◌≤◌, Bool, cond, ◌||◌, ◌≡◌, ltb, Option, Some, None, Result, Ok, Err}
 use Rattle.std.proofs.Math.Bool.{true, false, not}
 use Rattle.std.proofs.Common.{true≢false, arith, sym, ◌∙◌, lt-ltb, le-ltb, ltb-false}
 use Rattle.std.proofs.Math.Path.{refl, ap}
-use Rattle.codes.specs.declared.Checked.TheVariants.{Accepted}
 use Rattle.occupancy.specs.declared.Edges.{Edges}
 use Rattle.scan.specs.Laws.{and_true}
 use Rattle.decision.specs.declared.Decision.{Decision}
 use Rattle.part97.specs.declared.Finding.{Finding}
-use Rattle.ceiling.specs.Ceiling.{no_decision, climb_after, went_on, Stepped, rung_judged, ended_of as climb_ended}
-use Rattle.ceiling.specs.declared.Rung.{Rung}
-use Rattle.ceiling.specs.declared.Rung.TheVariants.{Fastest}
-use Rattle.ceiling.specs.declared.Step.{Step}
-use Rattle.ceiling.specs.declared.Step.TheVariants.{Passed, Stopped}
+use Rattle.ceiling.specs.Ceiling.{climb_after, went_on, Stepped, rung_judged, ended_of as climb_ended}
 use Rattle.walk.specs.Walk.{state_valid}
 use Rattle.walk_step.specs.Step.{envelope_so_far, rung_so_far, climb_so_far, ended_of, goes_on, step_none, step_judged, step_by}
 use Rattle.walk.specs.declared.WalkState.{WalkState}
 use Rattle.walk_step.specs.declared.StepAnswer.{StepAnswer}
 
 -- an answer that is not refused
-abbrev pub gives : WalkState → Bool → Rung → Bool → Decision → StepAnswer
-gives w over rung limited limit =
-    record { state = w; over = over; ceiling = record { refusal = Accepted; rung = rung; limited = limited; limit = limit } }
+abbrev pub gives : WalkState → Bool → Option ℕ → Option Decision → StepAnswer
+gives w over rung limit = record { state = w; over = over; ceiling = record { refusal = Ok tt; rung = rung; limit = limit } }
 
 module _ (judge : Edges → Decision) (burst : ℕ → Edges) (n : ℕ) (w : WalkState) where
   pub step_none_holds : n ≤ w.place → step_by judge burst n w ≡ step_none w
@@ -32,52 +26,52 @@ module _ (judge : Edges → Decision) (burst : ℕ → Edges) (n : ℕ) (w : Wal
   unfolding step_by
   there h = rw (lt-ltb _ _ h)
 
-  abbrev pub StepHere : (Edges → Finding → Decision) → Step → Type 0
+  abbrev pub StepHere : (Edges → Finding → Decision) → Result Edges (Edges × Finding) → Type 0
   StepHere lead t = Stepped judge lead (envelope_so_far w) (burst w.place) t
 
   module _ (lead : Edges → Finding → Decision) (h : w.place < n) where
     -- the climb after the rung
     after_blocked :
-        (x : Edges) (f : Finding) → StepHere lead (Stopped x f)
+        (x : Edges) (f : Finding) → StepHere lead (Err (x, f))
         → rung_judged judge (climb_so_far w) w.place (burst w.place) ≡ climb_ended (rung_so_far w.place) x (lead x f)
     unfolding rung_judged climb_after
     after_blocked x f e =
         rw (← e.reached) (rw (← e.blocks) (ap (climb_ended (rung_so_far w.place) x) (sym (e.leads x f refl))))
 
-    after_free : (x : Edges) → StepHere lead (Passed x) → rung_judged judge (climb_so_far w) w.place (burst w.place) ≡ went_on w.place x
+    after_free : (x : Edges) → StepHere lead (Ok x) → rung_judged judge (climb_so_far w) w.place (burst w.place) ≡ went_on w.place x
     unfolding rung_judged climb_after
     after_free x e = rw (← e.reached) (rw (← e.blocks))
 
     -- "A walk ends with its first blocked rung …"
     pub step_blocked :
-        (x : Edges) (f : Finding) → StepHere lead (Stopped x f)
-        → step_by judge burst n w ≡ gives (ended_of w) true (rung_so_far w.place) true (lead x f)
+        (x : Edges) (f : Finding) → StepHere lead (Err (x, f))
+        → step_by judge burst n w ≡ gives (ended_of w) true (rung_so_far w.place) (Some (lead x f))
     unfolding step_judged climb_ended
     step_blocked x f e = there h ∙ ap (step_judged w n) (after_blocked x f e)
 
     -- "… or its last rung"
     pub step_last :
-        (x : Edges) → StepHere lead (Passed x) → n ≤ w.place + 1
-        → step_by judge burst n w ≡ gives (ended_of w) true (Fastest w.place) false no_decision
+        (x : Edges) → StepHere lead (Ok x) → n ≤ w.place + 1
+        → step_by judge burst n w ≡ gives (ended_of w) true (Some w.place) None
     unfolding step_judged went_on
     step_last x e last = there h ∙ ap (step_judged w n) (after_free x e) ∙ go (ltb (w.place + 1) n) (le-ltb _ _ last)
       where
         go :
             (b : Bool) → b ≡ false
-            → gives (cond (false || not b) (ended_of w) (goes_on w x)) (false || not b) (Fastest w.place) false no_decision
-            ≡ gives (ended_of w) true (Fastest w.place) false no_decision
+            → gives (cond (false || not b) (ended_of w) (goes_on w x)) (false || not b) (Some w.place) None
+            ≡ gives (ended_of w) true (Some w.place) None
         go true p = absurd (true≢false p)
         go false p = refl
 
     pub step_on_holds :
-        (x : Edges) → StepHere lead (Passed x) → w.place + 1 < n → step_by judge burst n w ≡ gives (goes_on w x) false (Fastest w.place) false no_decision
+        (x : Edges) → StepHere lead (Ok x) → w.place + 1 < n → step_by judge burst n w ≡ gives (goes_on w x) false (Some w.place) None
     unfolding step_judged went_on
     step_on_holds x e more = there h ∙ ap (step_judged w n) (after_free x e) ∙ go (ltb (w.place + 1) n) (lt-ltb _ _ more)
       where
         go :
             (b : Bool) → b ≡ true
-            → gives (cond (false || not b) (ended_of w) (goes_on w x)) (false || not b) (Fastest w.place) false no_decision
-            ≡ gives (goes_on w x) false (Fastest w.place) false no_decision
+            → gives (cond (false || not b) (ended_of w) (goes_on w x)) (false || not b) (Some w.place) None
+            ≡ gives (goes_on w x) false (Some w.place) None
         go true p = refl
         go false p = absurd (true≢false (sym p))
 

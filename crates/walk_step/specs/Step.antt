@@ -1,36 +1,31 @@
 -- A step of a walk: one rung judged, by the ceiling's own step, under the image that was in force as the walk was opened (document 02, 10).
-use Rattle.std.specs.Prelude.{ℕ, ◌+◌, ◌-◌, ◌/◌, Bool, true, false, not, cond, ◌||◌, List, [], ◌∷◌, eqb, ltb, length, Float}
+use Rattle.codes.specs.declared.Refusal.{Refusal}
+use Rattle.codes.specs.declared.Refusal.TheVariants as refusal
+use Rattle.std.specs.Prelude.{ℕ, ◌+◌, ◌-◌, ◌/◌, Bool, true, false, not, cond, ◌||◌, List, eqb, ltb, length, Float, Option, Some, None, Ok, Err}
+use Rattle.codes.specs.Refusal.{Checked, Test, refusal_of}
 use Rattle.codes.specs.Read.{direction_of}
-use Rattle.codes.specs.Refusal.{Test, test, refusal_of}
-use Rattle.codes.specs.declared.Checked.{Checked}
-use Rattle.codes.specs.declared.Checked.TheVariants.{Accepted, Refused}
 use Rattle.occupancy.specs.declared.Edges.{Edges}
 use Rattle.station.specs.Station.{situation_of}
 use Rattle.station.specs.declared.StationRecord.{StationRecord}
 use Rattle.table.specs.Table.{table_of}
 use Rattle.entry.specs.Entry.{edges_read}
-use Rattle.decision.specs.Decision.{refused_of}
 use Rattle.decision.specs.declared.Decision.{Decision}
-use Rattle.ceiling.specs.Ceiling.{no_decision, judge_by, rung_judged, ceiling_unless_refused}
+use Rattle.ceiling.specs.Ceiling.{limited, judge_by, rung_judged, ceiling_unless_refused}
 use Rattle.rungs.specs.Rungs.{burst_of, ceiling_tests}
-use Rattle.ceiling.specs.declared.Rung.{Rung}
-use Rattle.ceiling.specs.declared.Rung.TheVariants.{Fastest, NoRung}
-use Rattle.ceiling.specs.declared.Envelope.{Envelope}
-use Rattle.ceiling.specs.declared.Envelope.TheVariants.{Reached, Unreached}
 use Rattle.ceiling.specs.declared.Climb.{Climb}
 use Rattle.walk.specs.declared.WalkState.{WalkState}
-use Rattle.walk.specs.Walk.{resting, other_image, state_valid}
+use Rattle.walk.specs.Walk.{resting, other_image, state_tests}
 use Rattle.walk_step.specs.declared.StepAnswer.{StepAnswer}
 
 -- the climb of the rungs judged so far, none of which was blocked
-abbrev pub envelope_so_far : WalkState → Envelope
-envelope_so_far w = cond (eqb w.place 0) Unreached (Reached (edges_read w.occupied))
+abbrev pub envelope_so_far : WalkState → Option Edges
+envelope_so_far w = cond (eqb w.place 0) None (Some (edges_read w.occupied))
 
-abbrev pub rung_so_far : ℕ → Rung
-rung_so_far place = cond (eqb place 0) NoRung (Fastest (place - 1))
+abbrev pub rung_so_far : ℕ → Option ℕ
+rung_so_far place = cond (eqb place 0) None (Some (place - 1))
 
 abbrev pub climb_so_far : WalkState → Climb
-climb_so_far w = record { envelope = envelope_so_far w; rung = rung_so_far w.place; limited = false; limit = no_decision }
+climb_so_far w = record { envelope = envelope_so_far w; rung = rung_so_far w.place; limit = None }
 
 -- "the walk finishes under the table it began with, the next begins under the new one"
 unfoldable pub ended_of : WalkState → WalkState
@@ -40,14 +35,14 @@ ended_of w = resting (cond (eqb w.waiting 1) (other_image w.image) w.image)
 unfoldable pub goes_on : WalkState → Edges → WalkState
 goes_on w e = record { occupied = e; place = w.place + 1; image = w.image; waiting = w.waiting; walking = 1 }
 
-abbrev pub going : WalkState → Envelope → WalkState
-going w (Reached e) = goes_on w e
-going w Unreached = w
+abbrev pub going : WalkState → Option Edges → WalkState
+going w (Some e) = goes_on w e
+going w None = w
 
 -- the ceiling of a climb, and where the walk stands after it
 abbrev pub step_gives : WalkState → Climb → Bool → StepAnswer
 step_gives w c over =
-    record { state = cond over (ended_of w) (going w c.envelope); over = over; ceiling = ceiling_unless_refused Accepted c }
+    record { state = cond over (ended_of w) (going w c.envelope); over = over; ceiling = ceiling_unless_refused (Ok tt) c }
 
 -- "a step lent no rung at its place ends it, judging nothing"
 unfoldable pub step_none : WalkState → StepAnswer
@@ -55,7 +50,7 @@ step_none w = step_gives w (climb_so_far w) true
 
 -- "A walk ends with its first blocked rung or its last rung": of n rungs, the one at the walk's place was judged, and this is the climb
 unfoldable pub step_judged : WalkState → ℕ → Climb → StepAnswer
-step_judged w n c = step_gives w c (c.limited || not (ltb (w.place + 1) n))
+step_judged w n c = step_gives w c (limited c.limit || not (ltb (w.place + 1) n))
 
 -- "a walk that judges one rung a step", by the ceiling's own step
 unfoldable pub step_by : (Edges → Decision) → (ℕ → Edges) → ℕ → WalkState → StepAnswer
@@ -63,13 +58,13 @@ step_by judge burst n w =
     cond (ltb w.place n) (step_judged w n (rung_judged judge (climb_so_far w) w.place (burst w.place))) (step_none w)
 
 -- a refusal has the ceiling's form; whether the walk is over is not said
-unfoldable pub refused_step : WalkState → ℕ → StepAnswer
+unfoldable pub refused_step : WalkState → Refusal → StepAnswer
 refused_step w n =
-    record { state = w; over = false; ceiling = record { refusal = Refused n; rung = NoRung; limited = false; limit = refused_of n } }
+    record { state = w; over = false; ceiling = record { refusal = Err n; rung = None; limit = None } }
 
 abbrev pub step_unless_refused : Checked → WalkState → StepAnswer → StepAnswer
-step_unless_refused Accepted w a = a
-step_unless_refused (Refused n) w a = refused_step w n
+step_unless_refused (Ok tt) w a = a
+step_unless_refused (Err n) w a = refused_step w n
 
 -- under its walk's image: refusals "of the ceiling in their order", over all that is lent
 unfoldable pub step_under : WalkState → StationRecord → ℕ → Edges → Edges → List ℕ → List Float → List ℕ → StepAnswer
@@ -84,7 +79,7 @@ walk_image w l₀ l₁ = cond (eqb w.image 0) l₀ l₁
 
 -- "(30, next) a step with no walk open …, before every other check"; then a state that no call gives
 abbrev pub step_tests : WalkState → List Test
-step_tests w = test 30 (eqb w.walking 0) ∷ test 20 (not (state_valid w)) ∷ []
+step_tests w = state_tests w (eqb w.walking 0) refusal.Walk
 
 unfoldable pub step_of : WalkState → StationRecord → ℕ → Edges → Edges → List ℕ → List ℕ → List Float → List ℕ → StepAnswer
 step_of w r direction ordinary floor l₀ l₁ rungs floors =

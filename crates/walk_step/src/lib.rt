@@ -1,5 +1,5 @@
 // A step of a rung walk: the ceiling's climb, a rung a step, under the one of two tables that was in force as the walk began. A public call.
-// It uses codes, occupancy, station, entry, decision, part97, ceiling and walk; its definitions use table.
+// It uses codes, occupancy, station, entry, rungs, ceiling and walk; its definitions use layout, table, decision, part97 and verdict, its laws scan.
 #![tactic(auto)]
 
 ghost use Rattle.std.specs.Prelude.{◌/◌, ◌<◌, ◌≡◌, length};
@@ -10,8 +10,8 @@ ghost use Rattle.ceiling.specs.Ceiling.{judge_by};
 ghost use Rattle.rungs.specs.Rungs.{burst_of};
 ghost use Rattle.walk_step.specs.Step.{envelope_so_far, rung_so_far, ended_of, goes_on, refused_step, step_none, step_by, step_under, step_of};
 
-use ceiling::{CeilingAnswer, Envelope, Rung, Step};
-use codes::{Checked, Direction};
+use ceiling::CeilingAnswer;
+use codes::{Direction, Refusal};
 use occupancy::Edges;
 use station::{Situation, StationRecord};
 use walk::WalkState;
@@ -25,35 +25,40 @@ pub struct StepAnswer {
 }
 
 // The envelope and the rung of those judged so far.
-fn envelope_so_far(w: WalkState) -> Envelope
+fn envelope_so_far(w: WalkState) -> Option<Edges>
     ensures { result ≡ envelope_so_far w }
 {
     if w.place == 0 {
-        return Envelope::Unreached;
+        None
+    } else {
+        Some(entry::edges_read(w.occupied))
     }
-    Envelope::Reached(entry::edges_read(w.occupied))
 }
 
-fn rung_so_far(place: u32) -> Rung
+fn rung_so_far(place: u32) -> Option<usize>
     ensures { result ≡ rung_so_far place }
 {
     if place == 0 {
-        return Rung::NoRung;
+        None
+    } else {
+        Some(place as usize - 1)
     }
-    Rung::Fastest((place - 1) as usize)
 }
 
 // A walk's end. A swap that waited takes force.
+#[tactic(auto, unfolding(crate::specs::Step::ended_of))]
 fn ended(w: WalkState) -> WalkState
     ensures { result ≡ ended_of w }
 {
     if w.waiting == 1 {
-        return walk::resting(walk::other_image(w.image));
+        walk::resting(walk::other_image(w.image))
+    } else {
+        walk::resting(w.image)
     }
-    walk::resting(w.image)
 }
 
 // A walk that goes on from its place, with what is occupied by then.
+#[tactic(auto, unfolding(crate::specs::Step::goes_on))]
 fn goes_on(w: WalkState, occupied: Edges) -> WalkState
     requires { w.place < 256 }
     ensures { result ≡ goes_on w occupied }
@@ -61,29 +66,29 @@ fn goes_on(w: WalkState, occupied: Edges) -> WalkState
     WalkState {
         occupied,
         place: w.place + 1,
-        image: w.image,
-        waiting: w.waiting,
         walking: 1,
+        ..w
     }
 }
 
 // A refused step: the state as it came, and the ceiling's refusal.
-fn refused_step(w: WalkState, n: u8) -> StepAnswer
+#[tactic(auto, unfolding(crate::specs::Step::refused_step))]
+fn refused_step(w: WalkState, n: Refusal) -> StepAnswer
     ensures { result ≡ refused_step w n }
 {
     StepAnswer {
         state: w,
         over: false,
         ceiling: CeilingAnswer {
-            refusal: Checked::Refused(n),
-            rung: Rung::NoRung,
-            limited: false,
-            limit: decision::refused(n),
+            refusal: Err(n),
+            rung: None,
+            limit: None,
         },
     }
 }
 
 // A step lent no rung at its place.
+#[tactic(auto, unfolding(crate::specs::Step::step_none))]
 fn step_none(w: WalkState) -> StepAnswer
     ensures { result ≡ step_none w }
 {
@@ -91,10 +96,9 @@ fn step_none(w: WalkState) -> StepAnswer
         state: ended(w),
         over: true,
         ceiling: CeilingAnswer {
-            refusal: Checked::Accepted,
+            refusal: Ok(()),
             rung: rung_so_far(w.place),
-            limited: false,
-            limit: decision::refused(0),
+            limit: None,
         },
     }
 }
@@ -121,40 +125,32 @@ fn step_by(
     }
     let more = rungs::burst(ordinary, floor, rungs, floors, place);
     match ceiling::rung_step(image, s, direction, envelope_so_far(w), more) {
-        Step::Stopped(reached, f) => StepAnswer {
+        Err((reached, f)) => StepAnswer {
             state: ended(w),
             over: true,
             ceiling: CeilingAnswer {
-                refusal: Checked::Accepted,
+                refusal: Ok(()),
                 rung: rung_so_far(w.place),
-                limited: true,
-                limit: ceiling::rung_decision(image, s, direction, reached, f),
+                limit: Some(ceiling::rung_decision(image, s, direction, reached, f)),
             },
         },
-        Step::Passed(reached) => {
-            let ceiling = CeilingAnswer {
-                refusal: Checked::Accepted,
-                rung: Rung::Fastest(place),
-                limited: false,
-                limit: decision::refused(0),
-            };
-            if count <= place + 1 {
-                return StepAnswer {
-                    state: ended(w),
-                    over: true,
-                    ceiling,
-                };
-            }
+        Ok(reached) => {
+            let over = count <= place + 1;
             StepAnswer {
-                state: goes_on(w, reached),
-                over: false,
-                ceiling,
+                state: if over { ended(w) } else { goes_on(w, reached) },
+                over,
+                ceiling: CeilingAnswer {
+                    refusal: Ok(()),
+                    rung: Some(place),
+                    limit: None,
+                },
             }
         }
     }
 }
 
 // A step under the walk's image.
+#[tactic(auto, unfolding(crate::specs::Step::step_under))]
 fn step_under(
     w: WalkState,
     r: StationRecord,
@@ -169,24 +165,22 @@ fn step_under(
     ensures { result ≡ step_under w r direction ordinary floor image.now rungs.now floors.now }
 {
     match rungs::ceiling_refusals(r, direction, ordinary, floor, image, rungs, floors) {
-        Checked::Refused(n) => refused_step(w, n),
-        Checked::Accepted => {
-            let s = station::situation_of(r);
-            step_by(
-                w,
-                image,
-                s,
-                codes::direction_of(direction),
-                entry::edges_read(ordinary),
-                entry::edges_read(floor),
-                rungs,
-                floors,
-            )
-        }
+        Err(n) => refused_step(w, n),
+        Ok(()) => step_by(
+            w,
+            image,
+            station::situation_of(r),
+            direction.into(),
+            entry::edges_read(ordinary),
+            entry::edges_read(floor),
+            rungs,
+            floors,
+        ),
     }
 }
 
 // Judges the rung at the walk's place.
+#[tactic(auto, using(crate::specs::Laws::valid_place), unfolding(crate::specs::Step::step_of))]
 pub fn step(
     w: WalkState,
     r: StationRecord,
@@ -200,14 +194,9 @@ pub fn step(
 ) -> StepAnswer
     ensures { result ≡ step_of w r direction ordinary floor image_0.now image_1.now rungs.now floors.now }
 {
-    if w.walking == 0 {
-        return refused_step(w, 30);
+    if let Err(n) = walk::state_refusal(w, w.walking == 0, Refusal::Walk) {
+        return refused_step(w, n);
     }
-    if !walk::state_valid(w) {
-        return refused_step(w, 20);
-    }
-    if w.image == 0 {
-        return step_under(w, r, direction, ordinary, floor, image_0, rungs, floors);
-    }
-    step_under(w, r, direction, ordinary, floor, image_1, rungs, floors)
+    let image = if w.image == 0 { image_0 } else { image_1 };
+    step_under(w, r, direction, ordinary, floor, image, rungs, floors)
 }

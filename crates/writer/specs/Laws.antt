@@ -1,18 +1,18 @@
 -- What the loops that put numbers know at each turn, how long the parts of an image are, and that they stand one behind the other.
 use Prim.Native.Nat.{ℕ, zero, suc, ◌+◌, ◌*◌, ◌≤◌, ◌<◌}
-use Rattle.std.specs.Prelude.{Bool, true, false, cond, ◌≡◌, eqb}
+use Rattle.std.specs.Prelude.{Result, Ok, Err, Bool, true, false, cond, ◌≡◌, eqb}
+use Rattle.codes.specs.declared.Refusal.TheVariants as refusal
+use Rattle.codes.specs.Refusal.{Checked, Test, refusal_of}
+use Rattle.codes.specs.declared.Refusal.{Refusal}
 use mathlib.Core.List.{List, [], ◌∷◌, ◌++◌}
 use Rattle.std.proofs.Math.Path.{refl, ap}
-use Rattle.std.proofs.Common.{sym, ◌∙◌, le-ltb, lt-ltb, drop_of_length-le, drop-cons}
+use Rattle.std.proofs.Common.{sym, ◌∙◌, le-ltb, lt-ltb, drop_of_length-le}
 use Rattle.std.proofs.Math.Nat.{mul-suc}
 use native.Mathlib.Omega.{arith}
-use Rattle.std.proofs.Math.ListN.{length, get_or, drop, length-append}
-use Rattle.std.proofs.Math.Seq.{sets, length-sets}
+use Rattle.std.proofs.Math.ListN.{length, drop, length-append}
+use Rattle.std.proofs.Math.Seq.{sets}
 use Rattle.std.proofs.lemmas.List.Edits.{sets-eq}
-use Rattle.codes.specs.Refusal.{Test, refusal_of}
 use Rattle.codes.specs.Laws.{refusal_next, refusal_stays}
-use Rattle.codes.specs.declared.Checked.{Checked}
-use Rattle.codes.specs.declared.Checked.TheVariants.{Accepted, Refused}
 use Rattle.layout.specs.Layout.{general_size, trailer_size, tables}
 use Rattle.layout.specs.declared.Record.{Record}
 use Rattle.layout.specs.declared.General.{General}
@@ -20,64 +20,39 @@ use Rattle.lists.specs.Each.{each}
 use Rattle.byte_writes.specs.Bytes.{little}
 use Rattle.byte_writes.specs.Laws.{length_little, sets_next}
 use Rattle.given.specs.Given.{Runs, count_from, before_from, record_from}
-use Rattle.writer.specs.declared.ImageAnswer.{ImageAnswer}
-use Rattle.writer.specs.declared.ImageAnswer.TheVariants.{Refused as NoImage}
-use Rattle.writer.specs.Image.{littles, record_bytes, block_bytes, watts_bytes, more_bytes, count_bytes, end_bytes, records_bytes}
-use Rattle.writer.specs.Image.{tables_at, trailer_at, image_of}
+use Rattle.writer.specs.Image.{littles, record_bytes, block_bytes, watts_bytes, more_bytes, count_bytes, end_bytes, records_bytes, tables_at, trailer_at, image_of}
 use Rattle.writer.specs.Write.{room_test, image_answer, image_bytes, Left}
 
 -- ---- numbers one after the other
 
 -- the bytes that numbers of these widths take
-abbrev pub total : List ℕ → ℕ
+abbrev pub total : List (ℕ × ℕ) → ℕ
 total [] = 0
-total (w ∷ ws) = w + total ws
+total (x ∷ xs) = x.0 + total xs
 
-pub record Laying (l₀ : List ℕ) (at : ℕ) (ws xs l : List ℕ) (place k : ℕ) : Type 0 where
-  pub within : k ≤ length ws
-  pub same : length l ≡ length l₀
-  pub room : place + total (drop k ws) ≤ length l₀
-  pub left : sets l place (littles (drop k ws) (drop k xs)) ≡ sets l₀ at (littles ws xs)
+-- what a loop knows that put the first k numbers: there is room for the rest, which make the whole
+pub record Laying (l₀ : List ℕ) (at : ℕ) (xs : List (ℕ × ℕ)) (l : List ℕ) (place k : ℕ) : Type 0 where
+  pub room : place + total (drop k xs) ≤ length l₀
+  pub left : sets l place (littles (drop k xs)) ≡ sets l₀ at (littles xs)
 
-module _ (l₀ : List ℕ) (at : ℕ) (ws xs : List ℕ) where
-  pub lay_none : at + total ws ≤ length l₀ → Laying l₀ at ws xs l₀ at 0
-  lay_none h = record { within = omega arith; same = refl; room = h; left = refl }
+module _ (l₀ : List ℕ) (at : ℕ) (xs : List (ℕ × ℕ)) where
+  pub lay_step :
+      (l : List ℕ) (place k : ℕ) (x : ℕ × ℕ) → Laying l₀ at xs l place k → drop k xs ≡ x ∷ drop (k + 1) xs
+      → Laying l₀ at xs (sets l place (little x.0 x.1)) (place + x.0) (k + 1)
+  unfolding littles
+  lay_step l place k x p e =
+      record {
+        room = omega (arith, p.room, ap total e);
+        left =
+            sets_next (little x.0 x.1) (littles (drop (k + 1) xs)) l place (place + x.0) (ap (λ (i : ℕ). place + i) (length_little x.0 x.1))
+            ∙ ap (λ (ys : List (ℕ × ℕ)). sets l place (littles ys)) (sym e)
+            ∙ p.left;
+      }
 
-  -- the number at k, of those that are left
-  module _ (k : ℕ) (h : k < length ws) (e : length ws ≡ length xs) where
-    widths_left : drop k ws ≡ get_or ws k 0 ∷ drop (k + 1) ws
-    widths_left = let s : k + 1 ≡ suc k = omega arith in rw s (drop-cons ws k 0 h)
-
-    values_left : drop k xs ≡ get_or xs k 0 ∷ drop (k + 1) xs
-    values_left = let s : k + 1 ≡ suc k = omega arith in rw s (drop-cons xs k 0 (omega arith))
-
-    pub lay_room : (l : List ℕ) (place : ℕ) → Laying l₀ at ws xs l place k → place + get_or ws k 0 + total (drop (k + 1) ws) ≤ length l₀
-    lay_room l place p =
-        let r : total (drop k ws) ≡ get_or ws k 0 + total (drop (k + 1) ws) = ap total widths_left in
-        omega (arith, p.room)
-
-    pub lay_step :
-        (l : List ℕ) (place : ℕ) → Laying l₀ at ws xs l place k
-        → Laying l₀ at ws xs (sets l place (little (get_or ws k 0) (get_or xs k 0))) (place + get_or ws k 0) (k + 1)
-    unfolding littles
-    lay_step l place p =
-        let w = get_or ws k 0 in
-        let x = get_or xs k 0 in
-        record {
-          within = omega arith;
-          same = length-sets l place (little w x) ∙ p.same;
-          room = lay_room l place p;
-          left =
-              sets_next (little w x) (littles (drop (k + 1) ws) (drop (k + 1) xs)) l place (place + w) (ap (λ (i : ℕ). place + i) (length_little w x))
-              ∙ ap (λ (vs : List ℕ). sets l place (littles vs (x ∷ drop (k + 1) xs))) (sym widths_left)
-              ∙ ap (λ (vs : List ℕ). sets l place (littles (drop k ws) vs)) (sym values_left)
-              ∙ p.left;
-        }
-
-  pub lay_done : (l : List ℕ) (place k : ℕ) → Laying l₀ at ws xs l place k → length ws ≤ k → l ≡ sets l₀ at (littles ws xs)
+  pub lay_done : (l : List ℕ) (place k : ℕ) → Laying l₀ at xs l place k → length xs ≤ k → l ≡ sets l₀ at (littles xs)
   unfolding littles
   lay_done l place k p h =
-      ap (λ (vs : List ℕ). sets l place (littles vs (drop k xs))) (sym (drop_of_length-le ws h)) ∙ p.left
+      ap (λ (ys : List (ℕ × ℕ)). sets l place (littles ys)) (sym (drop_of_length-le xs h)) ∙ p.left
 
 -- ---- parts of one length, one after the other
 
@@ -92,34 +67,15 @@ module _ (w : ℕ) (f : ℕ → List ℕ) (each-w : (i : ℕ) → length (f i) �
       let d : w * suc n ≡ w * n + w = mul-suc w n in
       omega arith
 
-  pub record Gathered (l₀ : List ℕ) (at count : ℕ) (l : List ℕ) (k : ℕ) : Type 0 where
-    pub within : k ≤ count
-    pub same : length l ≡ length l₀
-    pub held : l ≡ sets l₀ at (each k f)
-
-  module _ (l₀ : List ℕ) (at count : ℕ) where
-    pub gathered_none : Gathered l₀ at count l₀ 0
-    unfolding each
-    gathered_none = record { within = omega arith; same = refl; held = refl }
-
-    pub gathered_more :
-        (l : List ℕ) (k : ℕ) → Gathered l₀ at count l k → k < count → Gathered l₀ at count (sets l (at + w * k) (f k)) (k + 1)
-    unfolding each
-    gathered_more l k g h =
-        let s : suc k ≡ k + 1 = omega arith in
-        record {
-          within = omega arith;
-          same = length-sets l (at + w * k) (f k) ∙ g.same;
-          held =
-              ap (λ (m : List ℕ). sets m (at + w * k) (f k)) g.held
-              ∙ sets_next (each k f) (f k) l₀ at (at + w * k) (ap (λ (i : ℕ). at + i) (each_length k))
-              ∙ ap (λ (i : ℕ). sets l₀ at (each i f)) s;
-        }
-
-    pub gathered_all : (l : List ℕ) (k : ℕ) → Gathered l₀ at count l k → count ≤ k → l ≡ sets l₀ at (each count f)
-    gathered_all l k g h =
-        let e : k ≡ count = omega (arith, g.within) in
-        g.held ∙ ap (λ (i : ℕ). sets l₀ at (each i f)) e
+  -- one part more
+  pub gathered_more :
+      (l₀ : List ℕ) (at : ℕ) (l : List ℕ) (k : ℕ) → l ≡ sets l₀ at (each k f) → sets l (at + w * k) (f k) ≡ sets l₀ at (each (k + 1) f)
+  unfolding each
+  gathered_more l₀ at l k g =
+      let s : suc k ≡ k + 1 = omega arith in
+      ap (λ (m : List ℕ). sets m (at + w * k) (f k)) g
+      ∙ sets_next (each k f) (f k) l₀ at (at + w * k) (ap (λ (i : ℕ). at + i) (each_length k))
+      ∙ ap (λ (i : ℕ). sets l₀ at (each i f)) s
 
 -- ---- how long the parts are
 
@@ -150,6 +106,17 @@ more_length edition g = go (eqb edition 2)
 
 pub records_length : (r : Runs) (count : ℕ) → length (records_bytes r count) ≡ 32 * count
 records_length r count = each_length 32 (λ k. record_bytes (record_from r k)) (λ k. record_length (record_from r k)) count
+
+-- a record more, and a count more
+pub records_more :
+    (l₀ : List ℕ) (at : ℕ) (l : List ℕ) (r : Runs) (k : ℕ) → l ≡ sets l₀ at (records_bytes r k)
+    → sets l (at + 32 * k) (record_bytes (record_from r k)) ≡ sets l₀ at (records_bytes r (k + 1))
+records_more l₀ at l r k = gathered_more 32 (λ i. record_bytes (record_from r i)) (λ i. record_length (record_from r i)) l₀ at l k
+
+pub counts_more :
+    (l₀ : List ℕ) (at : ℕ) (l n : List ℕ) (k : ℕ) → l ≡ sets l₀ at (count_bytes n k)
+    → sets l (at + 2 * k) (little 2 (count_from n k)) ≡ sets l₀ at (count_bytes n (k + 1))
+counts_more l₀ at l n k = gathered_more 2 (λ i. little 2 (count_from n i)) (λ i. length_little 2 (count_from n i)) l₀ at l k
 
 pub counts_length : (n : List ℕ) (t : ℕ) → length (count_bytes n t) ≡ 2 * t
 counts_length n t = each_length 2 (λ i. little 2 (count_from n i)) (λ i. length_little 2 (count_from n i)) t
@@ -198,17 +165,17 @@ put_left image lent h = let z : 0 + length image ≡ length image = omega arith 
 
 -- refused by what comes before, by the room, or not at all
 pub left_refused :
-    (ts : List Test) (image lent : List ℕ) (k : ℕ) → refusal_of ts ≡ Refused k
-    → Left (refusal_of (ts ++ room_test image lent)) image lent lent (NoImage k)
-left_refused ts image lent k e =
+    (ts : List Test) (image lent : List ℕ) (answer : Result ℕ Refusal) (k : Refusal) → refusal_of ts ≡ Err k → answer ≡ Err k
+    → Left (refusal_of (ts ++ room_test image lent)) image lent lent answer
+left_refused ts image lent answer k e a =
     let s = refusal_stays ts (room_test image lent) k e in
     record {
-      answered = ap (λ (c : Checked). image_answer c image) (sym s);
+      answered = a ∙ ap (λ (c : Checked). image_answer c image) (sym s);
       bytes = ap (λ (c : Checked). image_bytes c image lent) (sym s);
     }
 
 pub left_next :
-    (ts : List Test) (image lent left : List ℕ) (answer : ImageAnswer) → refusal_of ts ≡ Accepted
+    (ts : List Test) (image lent left : List ℕ) (answer : Result ℕ Refusal) → refusal_of ts ≡ Ok tt
     → Left (refusal_of (room_test image lent)) image lent left answer → Left (refusal_of (ts ++ room_test image lent)) image lent left answer
 left_next ts image lent left answer e d =
     let s = refusal_next ts (room_test image lent) e in
@@ -217,19 +184,19 @@ left_next ts image lent left answer e d =
       bytes = d.bytes ∙ ap (λ (c : Checked). image_bytes c image lent) (sym s);
     }
 
-pub left_short : (image lent : List ℕ) → length lent < length image → Left (refusal_of (room_test image lent)) image lent lent (NoImage 23)
+pub left_short : (image lent : List ℕ) → length lent < length image → Left (refusal_of (room_test image lent)) image lent lent (Err refusal.Rows)
 left_short image lent h =
-    let s : refusal_of (room_test image lent) ≡ Refused 23 = rw (lt-ltb _ _ h) in
+    let s : refusal_of (room_test image lent) ≡ Err refusal.Rows = rw (lt-ltb _ _ h) in
     record {
       answered = ap (λ (c : Checked). image_answer c image) (sym s);
       bytes = ap (λ (c : Checked). image_bytes c image lent) (sym s);
     }
 
 pub left_put :
-    (image lent left : List ℕ) (answer : ImageAnswer) → length image ≤ length lent → left ≡ sets lent 0 image
-    → answer ≡ image_answer Accepted image → Left (refusal_of (room_test image lent)) image lent left answer
+    (image lent left : List ℕ) (answer : Result ℕ Refusal) → length image ≤ length lent → left ≡ sets lent 0 image
+    → answer ≡ image_answer (Ok tt) image → Left (refusal_of (room_test image lent)) image lent left answer
 left_put image lent left answer h e a =
-    let s : refusal_of (room_test image lent) ≡ Accepted = rw (le-ltb _ _ h) in
+    let s : refusal_of (room_test image lent) ≡ Ok tt = rw (le-ltb _ _ h) in
     record {
       answered = a ∙ ap (λ (c : Checked). image_answer c image) (sym s);
       bytes = e ∙ put_left image lent h ∙ ap (λ (c : Checked). image_bytes c image lent) (sym s);

@@ -13,111 +13,102 @@ ghost use Rattle.writer.specs.Image.{records_bytes, tables_at, trailer_at, image
 ghost use Rattle.writer.specs.Write.{room_test, Left, Written};
 ghost use Rattle.writer.specs.Laws.{total};
 
-use codes::Checked;
+use codes::Refusal;
 use given::Fields;
 use layout::{General, Record};
 
-// The answer of a call that writes an image: its length, or the refusal's number.
-#[derive(Clone, Copy)]
-pub enum ImageAnswer {
-    Length(u32),
-    Refused(u8),
-}
-
-// Numbers one after the other from a place on, each in its width of bytes.
-fn put_all(out: &mut [u8], at: usize, widths: &[usize], values: &[u64])
-    requires { (at + total widths.now ≤ length out.old) × (length widths.now ≡ length values.now) }
-    ensures { out.new ≡ sets out.old at (littles widths.now values.now) }
+// Numbers one after the other from a place on, each with the width of bytes before it.
+#[tactic(auto, using(crate::specs::Laws::lay_step, crate::specs::Laws::lay_done))]
+fn put_all(out: &mut [u8], at: usize, numbers: &[(usize, u64)])
+    requires { at + total numbers.now ≤ length out.old }
+    ensures { out.new ≡ sets out.old at (littles numbers.now) }
 {
     let mut place = at;
-    let mut k: usize = 0;
-    while k < widths.len() {
-        let width = widths[k];
-        byte_writes::put(out, place, width, values[k]);
-        place += width;
-        k += 1;
+    for (width, x) in numbers {
+        byte_writes::put(out, place, *width, *x);
+        place += *width;
     }
 }
 
 // A record, in the 32 bytes from at on.
+#[tactic(auto, unfolding(crate::specs::Image::record_bytes))]
 fn put_record(out: &mut [u8], at: usize, r: Record)
     requires { at + 32 ≤ length out.old }
     ensures { out.new ≡ sets out.old at (record_bytes r) }
 {
-    let widths: [usize; 9] = [8, 8, 8, 1, 1, 1, 1, 2, 2];
-    let values: [u64; 9] = [
-        r.low,
-        r.high,
-        r.figure,
-        r.band as u64,
-        r.class as u64,
-        r.emissions as u64,
-        r.flags as u64,
-        r.rule as u64,
-        r.second_rule as u64,
+    let numbers = [
+        (8, r.low),
+        (8, r.high),
+        (8, r.figure),
+        (1, r.band as u64),
+        (1, r.class as u64),
+        (1, r.emissions as u64),
+        (1, r.flags as u64),
+        (2, r.rule as u64),
+        (2, r.second_rule as u64),
     ];
-    put_all(out, at, &widths, &values);
+    put_all(out, at, &numbers);
 }
 
 // The general block, in the first 64 bytes.
+#[tactic(auto, unfolding(crate::specs::Image::block_bytes))]
 fn put_block(out: &mut [u8], g: General)
     requires { 64 ≤ length out.old }
     ensures { out.new ≡ sets out.old 0 (block_bytes g) }
 {
-    let widths: [usize; 19] = [8, 8, 8, 8, 8, 1, 1, 1, 1, 1, 1, 2, 2, 2, 2, 2, 2, 2, 4];
-    let values: [u64; 19] = [
-        g.data_limit,
-        g.elsewhere_limit,
-        g.channel_width,
-        g.carrier_offset,
-        g.carrier_tolerance,
-        g.region as u64,
-        g.reading as u64,
-        g.flags as u64,
-        g.channel_band as u64,
-        g.sideband as u64,
-        g.emissions as u64,
-        g.data_rule as u64,
-        g.elsewhere_rule as u64,
-        g.automatic_rule as u64,
-        g.channels_rule as u64,
-        g.emissions_rule as u64,
-        g.privileges_rule as u64,
-        g.unused as u64,
-        g.unused_rest as u64,
+    let numbers = [
+        (8, g.data_limit),
+        (8, g.elsewhere_limit),
+        (8, g.channel_width),
+        (8, g.carrier_offset),
+        (8, g.carrier_tolerance),
+        (1, g.region as u64),
+        (1, g.reading as u64),
+        (1, g.flags as u64),
+        (1, g.channel_band as u64),
+        (1, g.sideband as u64),
+        (1, g.emissions as u64),
+        (2, g.data_rule as u64),
+        (2, g.elsewhere_rule as u64),
+        (2, g.automatic_rule as u64),
+        (2, g.channels_rule as u64),
+        (2, g.emissions_rule as u64),
+        (2, g.privileges_rule as u64),
+        (2, g.unused as u64),
+        (4, g.unused_rest as u64),
     ];
-    put_all(out, 0, &widths, &values);
+    put_all(out, 0, &numbers);
 }
 
 // The watts of edition 2, after the general block.
+#[tactic(auto, unfolding(crate::specs::Image::watts_bytes))]
 pub fn put_watts(out: &mut [u8], channel: u64, segment: u64)
     requires { 80 ≤ length out.old }
     ensures { out.new ≡ sets out.old 64 (watts_bytes channel segment) }
 {
-    let widths: [usize; 2] = [8, 8];
-    let values: [u64; 2] = [channel, segment];
-    put_all(out, layout::GENERAL_SIZE, &widths, &values);
+    put_all(out, layout::GENERAL_SIZE, &[(8, channel), (8, segment)]);
 }
 
 // The trailer's end: distance, edition and letters.
+#[tactic(auto, unfolding(crate::specs::Image::end_bytes))]
 pub fn put_end(out: &mut [u8], at: usize, distance: u32, edition: u16)
     requires { at + 10 ≤ length out.old }
     ensures { out.new ≡ sets out.old at (end_bytes distance edition) }
 {
     let letters = layout::LETTERS;
-    let widths: [usize; 6] = [4, 2, 1, 1, 1, 1];
-    let values: [u64; 6] = [
-        distance as u64,
-        edition as u64,
-        letters[0] as u64,
-        letters[1] as u64,
-        letters[2] as u64,
-        letters[3] as u64,
+    let numbers = [
+        (4, distance as u64),
+        (2, edition as u64),
+        (1, letters[0] as u64),
+        (1, letters[1] as u64),
+        (1, letters[2] as u64),
+        (1, letters[3] as u64),
     ];
-    put_all(out, at, &widths, &values);
+    put_all(out, at, &numbers);
 }
 
 // The first count records, one after the other.
+#[tactic(auto, using(crate::specs::Laws::records_more), unfolding(lists::specs::Each::each))]
 fn put_records(
     out: &mut [u8],
     at: usize,
@@ -130,23 +121,20 @@ fn put_records(
     ensures { out.new ≡ sets out.old at
         (records_bytes (runs figures.now codes.now rules.now) count) }
 {
-    let mut k: usize = 0;
-    while k < count {
+    for k in 0..count {
         let r = given::record_from(figures, codes, rules, k);
         put_record(out, at + layout::RECORD_SIZE * k, r);
-        k += 1;
     }
 }
 
 // The nine counts.
+#[tactic(auto, using(crate::specs::Laws::counts_more), unfolding(lists::specs::Each::each))]
 fn put_counts(out: &mut [u8], at: usize, counts: &[u16; 9])
     requires { at + 18 ≤ length out.old }
     ensures { out.new ≡ sets out.old at (count_bytes counts.now 9) }
 {
-    let mut t: usize = 0;
-    while t < layout::TABLES {
+    for t in 0..layout::TABLES {
         byte_writes::put(out, at + 2 * t, 2, given::count_at(counts, t) as u64);
-        t += 1;
     }
 }
 
@@ -165,9 +153,10 @@ fn tables_at(edition: u16) -> usize
     ensures { (result ≡ tables_at edition) × (64 ≤ result) × (result ≤ 80) }
 {
     if edition == layout::SECOND_EDITION {
-        return layout::GENERAL_SIZE + layout::WATTS_SIZE;
+        layout::GENERAL_SIZE + layout::WATTS_SIZE
+    } else {
+        layout::GENERAL_SIZE
     }
-    layout::GENERAL_SIZE
 }
 
 // The trailer: counts, and what follows them.
@@ -180,6 +169,7 @@ fn put_trailer(out: &mut [u8], at: usize, counts: &[u16; 9], edition: u16)
 }
 
 // The whole image, from the first byte on.
+#[tactic(auto, using(crate::specs::Laws::parts_set))]
 fn put_image(
     out: &mut [u8],
     edition: u16,
@@ -211,7 +201,7 @@ fn fit(
     figures: &[f64],
     codes: &[u8],
     rules: &[u16],
-) -> ImageAnswer
+) -> Result<u32, Refusal>
     requires { Sound edition counts.now (runs figures.now codes.now rules.now) }
     ensures { Left (refusal_of (room_test (image_of edition g counts.now
         (runs figures.now codes.now rules.now)) out.old))
@@ -221,10 +211,10 @@ fn fit(
     let count = given::before(counts, layout::TABLES);
     let length = tables_at(edition) + layout::RECORD_SIZE * count + layout::TRAILER_SIZE;
     if out.len() < length {
-        return ImageAnswer::Refused(23);
+        return Err(Refusal::Rows);
     }
     put_image(out, edition, g, counts, figures, codes, rules, count);
-    ImageAnswer::Length(length as u32)
+    Ok(length as u32)
 }
 
 // Writes the image of these fields and records, or answers the refusal that it would get.
@@ -235,13 +225,11 @@ pub fn write(
     codes: &[u8],
     rules: &[u16],
     out: &mut [u8],
-) -> ImageAnswer
+) -> Result<u32, Refusal>
     ensures { Written f counts.now (runs figures.now codes.now rules.now)
         out.old out.new result }
 {
     let g = given::general_from(f);
-    match given::refusal(f.edition, g, counts, figures, codes, rules) {
-        Checked::Refused(n) => ImageAnswer::Refused(n),
-        Checked::Accepted => fit(out, f.edition, g, counts, figures, codes, rules),
-    }
+    given::refusal(f.edition, g, counts, figures, codes, rules)?;
+    fit(out, f.edition, g, counts, figures, codes, rules)
 }

@@ -1,10 +1,6 @@
 -- `airtime::move_tail` meets its contract: at each turn what lies before the tail counts no more, and what is held is the rest.
-use Prim.Native.Nat.{◌-◌}
 use Rattle.airtime.specs.Laws.{Held}
 use Rattle.airtime.proofs.move_tail.Given as goal
 
 abbrev pub invariant-loop-at : goal.invariant-loop-at
 invariant-loop-at l = Held l.starts l.bands l.seconds l.i l.at l.held
-
-abbrev pub decreases-loop-at : goal.decreases-loop-at
-decreases-loop-at l = l.i - l.at

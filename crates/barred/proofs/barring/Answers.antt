@@ -1,28 +1,15 @@
 -- By the policy.
-use mathlib.Core.Path.{ap, subst, ◌∙◌}
+use Rattle.std.proofs.Common.{ap, subst, ◌∙◌}
 use Rattle.profile.specs.declared.Range.{Range}
 use Rattle.occupancy.specs.Edges.{range_of}
 use Rattle.table.specs.Parts.{reading_of}
 use Rattle.table.specs.Table.{table_of}
 use Rattle.verdict.specs.Verdict.{under_rules_of, decide_of}
-use Rattle.barred.specs.Barring.{led_by_rules, led_to, Barred, bar_unset, bar_none, bar_broken}
-use native.Mathlib.Omega.{arith}
+use Rattle.barred.specs.Barring.{led_by_rules, led_to, Barred, bar_unset, bar_broken}
 use Rattle.barred.proofs.barring.Goals as goal
-
-pub general_of-g-requires : goal.general_of-g-requires
-general_of-g-requires c = omega (arith, (c.requires c.in-Rules.is).sized)
-
-pub barring_by_rules-requires : goal.barring_by_rules-requires
-barring_by_rules-requires c = (
-  c.requires c.in-Rules.is,
-  c.general_of-g.ensures,
-)
 
 pub returns-in-Unset : goal.returns-in-Unset
 returns-in-Unset c = rw c.in-Unset.is (rw c.bar_by.ensures (bar_unset _ _ _ _ _ _))
-
-pub returns-in-NoProfile : goal.returns-in-NoProfile
-returns-in-NoProfile c = rw c.in-NoProfile.is (bar_none _ _ _ _ _ _)
 
 pub returns-in-Rules : goal.returns-in-Rules
 unfolding led_to decide_of

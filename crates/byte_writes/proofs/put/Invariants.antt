@@ -1,10 +1,6 @@
--- `byte_writes::put` meets its contract: on each way to a return, the tests and what the calls ensure say which case of the definition holds.
-use Prim.Native.Nat.{◌-◌}
+-- `byte_writes::put` meets its contract: what the stores left to come make of the bytes.
 use Rattle.byte_writes.specs.Laws.{Putting}
 use Rattle.byte_writes.proofs.put.Given as goal
 
 abbrev pub invariant-loop-k : goal.invariant-loop-k
 invariant-loop-k l = Putting l.initial.out l.at l.width l.x l.out l.rest l.k
-
-abbrev pub decreases-loop-k : goal.decreases-loop-k
-decreases-loop-k l = l.width - l.k

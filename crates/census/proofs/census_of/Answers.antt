@@ -1,8 +1,8 @@
 -- By what the tests say: noughts, or the counts of the whole stretch.
 use Rattle.std.proofs.Common.{◌≡◌, ℕ, ◌≤◌, ℤ, nat_abs, sym, ap, ◌∙◌, subst, w64, to_z, of_z}
+use Rattle.std.specs.Prelude.{Ok}
 use mir.ValLaws.{to_z-of_z}
 use Rattle.codes.specs.Refusal.{refusal_of}
-use Rattle.codes.specs.declared.Checked.TheVariants.{Accepted}
 use Rattle.station.specs.declared.Situation.{Situation}
 use Rattle.census.specs.Census.{most, farthest, dials_of, stretch_tests, census_tests}
 use Rattle.census.specs.Lifted.{stretch_accepted}
@@ -20,7 +20,7 @@ dials-count-requires c =
     (to_z-of_z w64 a.first c.ranges.first)
     ∙ ap (λ (z : ℤ). refusal_of (census_tests a.r a.kind a.direction a.e a.image.now a.first z)) (to_z-of_z w64 a.last c.ranges.last))) in
     let accepted : (let a = c.args in
-    refusal_of (census_tests a.r a.kind a.direction a.e a.image.now a.first a.last) ≡ Accepted) = (said ∙ c.in-Accepted.is) in
+    refusal_of (census_tests a.r a.kind a.direction a.e a.image.now a.first a.last) ≡ Ok tt) = (said ∙ c.in-Ok.is) in
     let a = c.args in
     ap (λ (z : ℤ). refusal_of (stretch_tests z (to_z w64 (of_z w64 a.last)))) (to_z-of_z w64 a.first c.ranges.first)
     ∙ ap (λ (z : ℤ). refusal_of (stretch_tests a.first z)) (to_z-of_z w64 a.last c.ranges.last)
@@ -43,7 +43,7 @@ count_all-requires c =
     (to_z-of_z w64 a.first c.ranges.first)
     ∙ ap (λ (z : ℤ). refusal_of (census_tests a.r a.kind a.direction a.e a.image.now a.first z)) (to_z-of_z w64 a.last c.ranges.last))) in
     let accepted : (let a = c.args in
-    refusal_of (census_tests a.r a.kind a.direction a.e a.image.now a.first a.last) ≡ Accepted) = (said ∙ c.in-Accepted.is) in
+    refusal_of (census_tests a.r a.kind a.direction a.e a.image.now a.first a.last) ≡ Ok tt) = (said ∙ c.in-Ok.is) in
     let a = c.args in
     let q = accepted in
     let t = stretch_accepted a.first a.last (front_stretch a.r a.kind a.direction a.e a.image.now a.first a.last q) in (
@@ -56,8 +56,8 @@ count_all-requires c =
       ),
     )
 
-pub returns-in-Refused : goal.returns-in-Refused
-returns-in-Refused c =
+pub returns-in-Err : goal.returns-in-Err
+returns-in-Err c =
     let said : (let a = c.args in
     refusal_of (census_tests a.r a.kind a.direction a.e a.image.now a.first a.last) ≡ c.census_refusals.result) = (let s = c in
     let a = s.args in
@@ -68,10 +68,10 @@ returns-in-Refused c =
     ∙ ap (λ (z : ℤ). refusal_of (census_tests a.r a.kind a.direction a.e a.image.now a.first z)) (to_z-of_z w64 a.last s.ranges.last))) in
     let a = c.args in
     census_refused a.r a.kind a.direction a.e a.image.now a.first a.last _
-    (said ∙ c.in-Refused.is)
+    (said ∙ c.in-Err.is)
 
-pub returns-in-Accepted : goal.returns-in-Accepted
-returns-in-Accepted c =
+pub returns-in-Ok : goal.returns-in-Ok
+returns-in-Ok c =
     let dials_are : (let a = c.args in
     c.dials-count.result ≡ dials_of a.first a.last) = (let c = c in
     let a = c.args in
@@ -87,9 +87,9 @@ returns-in-Accepted c =
     (to_z-of_z w64 a.first c.ranges.first)
     ∙ ap (λ (z : ℤ). refusal_of (census_tests a.r a.kind a.direction a.e a.image.now a.first z)) (to_z-of_z w64 a.last c.ranges.last))) in
     let accepted : (let a = c.args in
-    refusal_of (census_tests a.r a.kind a.direction a.e a.image.now a.first a.last) ≡ Accepted) = (said ∙ c.in-Accepted.is) in
+    refusal_of (census_tests a.r a.kind a.direction a.e a.image.now a.first a.last) ≡ Ok tt) = (said ∙ c.in-Ok.is) in
     let a = c.args in
     c.count_all.ensures
-    ∙ counts_same a.image.now c.situation_of-s.ensures c.kind_of.ensures
-    c.direction_of.ensures c.edges_read.ensures (to_z-of_z w64 a.first c.ranges.first) dials_are
+    ∙ counts_same a.image.now c.situation_of-s.ensures c.from-emission.ensures
+    c.from-way.ensures c.edges_read.ensures (to_z-of_z w64 a.first c.ranges.first) dials_are
     ∙ census_counted a.r a.kind a.direction a.e a.image.now a.first a.last accepted

@@ -1,20 +1,23 @@
 -- The tests in turn: the dial's mark, the verdict's, the stretch's.
-use Rattle.std.proofs.Common.{not, [], ◌∷◌, ℤ, ap, ◌∙◌, w64, to_z, of_z}
+use Rattle.std.proofs.Common.{not, ◌≡◌, [], ◌∷◌, ℤ, ap, ◌∙◌, w64, to_z, of_z}
 use mir.ValLaws.{to_z-of_z}
+use Rattle.codes.specs.declared.Refusal.TheVariants as refusal
 use Rattle.codes.specs.Refusal.{test, refusal_of}
 use Rattle.station.specs.Station.{mark_valid}
 use Rattle.station.specs.declared.StationRecord.{StationRecord}
 use Rattle.verdict.specs.Verdict.{evaluate_tests}
 use Rattle.census.specs.Census.{undialled, stretch_tests}
-use Rattle.census.specs.Lifted.{in_turn, in_turns}
+use Rattle.census.specs.Lifted.{in_turn, and_turn, in_turns}
 use Rattle.census.proofs.census_refusals.Goals as goal
 
 pub returns : goal.returns
 returns c =
     let a = c.args in
-    c.in_turn-2.ensures
-    ∙ ap (in_turn c.mark_refusal-mark.result) c.in_turn.ensures
-    ∙ in_turns (test 20 (not (mark_valid a.r.dial_known)) ∷ []) (evaluate_tests (undialled a.r) a.kind a.direction a.e a.image.now)
+    let inner : c.and.result ≡ in_turn c.evaluate_refusals-front.result c.stretch_refusals-stretch.result = c.and.ensures ∙ and_turn c.evaluate_refusals-front.result c.stretch_refusals-stretch.result in
+    let outer : c.and-2.result ≡ in_turn c.mark_refusal-mark.result c.and.result = c.and-2.ensures ∙ and_turn c.mark_refusal-mark.result c.and.result in
+    outer
+    ∙ ap (in_turn c.mark_refusal-mark.result) inner
+    ∙ in_turns (test refusal.StationCode (not (mark_valid a.r.dial_known)) ∷ []) (evaluate_tests (undialled a.r) a.kind a.direction a.e a.image.now)
     (stretch_tests a.first a.last) _ _ _
     c.mark_refusal-mark.ensures
     (c.evaluate_refusals-front.ensures

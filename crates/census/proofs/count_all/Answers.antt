@@ -10,7 +10,7 @@ use Rattle.census.proofs.count_all.Invariants.{codes}
 use Rattle.census.proofs.count_all.Goals as goal
 
 pub loop-k-init : goal.loop-k-init
-loop-k-init c = (omega arith, count_none _)
+loop-k-init c = count_none _
 
 pub dial_at-hz-requires : goal.dial_at-hz-requires
 dial_at-hz-requires c =
@@ -56,7 +56,7 @@ overflow_add-counts c =
     let numbered : (Numbered c.code_at-code.result) = (subst Numbered (sym (code_is)) (code_numbered _ _ _ _ _ _)) in
     let within : (c.place-at.result < 25) = (omega (arith, c.place-at.ensures, (numbered).above, (numbered).within)) in
     let l = c.loop-k in
-    let h = held_few _ l.k l.counts l.invariant.1 c.place-at.result (within) in
+    let h = held_few _ l.k l.counts l.invariant c.place-at.result (within) in
     record { fits = omega (arith, h, c.loop-k-test.true, c.requires.1.1) }
 
 pub offset_bounds-counts-at-in-loop-k : goal.offset_bounds-counts-at-in-loop-k
@@ -77,29 +77,21 @@ bounds-counts-at-in-loop-k c =
     let within : (c.place-at.result < 25) = (omega (arith, c.place-at.ensures, (numbered).above, (numbered).within)) in
     within
 
-pub overflow_add-k : goal.overflow_add-k
-overflow_add-k c = record { fits = omega (arith, c.loop-k-test.true, c.requires.1.1) }
-
-pub loop-k-smaller : goal.loop-k-smaller
-loop-k-smaller c = omega (arith, c.loop-k-test.true)
-
 pub loop-k-preserved : goal.loop-k-preserved
 loop-k-preserved c =
     let code_is : (let a = c.args in
     c.code_at-code.result ≡ codes a.image.now a.s a.kind a.direction a.e (to_z w64 (of_z w64 a.first)) c.loop-k.k) = (let a = c.args in
     c.code_at-code.ensures ∙ ap (λ (hz : Float). code_at (table_of a.image.now) a.s a.kind a.direction a.e hz) c.dial_at-hz.ensures) in
-    let l = c.loop-k in (
-      omega (arith, c.loop-k-test.true),
-      held_next _ l.k l.counts l.invariant.1 c.code_at-code.result c.place-at.result (code_is) c.place-at.ensures
-          (code_numbered _ _ _ _ _ _),
-    )
+    let l = c.loop-k in
+    held_next _ l.k l.counts l.invariant c.code_at-code.result c.place-at.result (code_is) c.place-at.ensures
+    (code_numbered _ _ _ _ _ _)
 
 pub returns : goal.returns
 returns c =
     let l = c.loop-k in
-    let e : l.k ≡ c.args.count = omega (arith, l.invariant.0, c.loop-k-test.false) in
+    let e : l.k ≡ c.args.count = omega (arith, c.loop-k-test.false) in
     let code = codes c.args.image.now c.args.s c.args.kind c.args.direction c.args.e in
     ap counted
-    (l.invariant.1
+    (l.invariant
     ∙ ap (counts_of (code (to_z w64 (of_z w64 c.args.first)))) e
     ∙ ap (λ (z : ℤ). counts_of (code z) c.args.count) (to_z-of_z w64 c.args.first c.ranges.first))

@@ -1,5 +1,5 @@
 -- Before dial k the loop holds the counts of the first k.
-use Rattle.std.proofs.Common.{◌≡◌, ℕ, ◌-◌, ◌≤◌, List, ℤ}
+use Rattle.std.proofs.Common.{◌≡◌, ℕ, List, ℤ}
 use Rattle.codes.specs.declared.EmissionKind.{EmissionKind}
 use Rattle.codes.specs.declared.Direction.{Direction}
 use Rattle.occupancy.specs.declared.Edges.{Edges}
@@ -14,7 +14,4 @@ codes image s kind direction e first k = code_at (table_of image) s kind directi
 
 abbrev pub invariant-loop-k : goal.invariant-loop-k
 invariant-loop-k l =
-    (l.k ≤ l.count) × (l.counts ≡ counts_of (codes l.image l.s l.kind l.direction l.e l.first) l.k)
-
-abbrev pub decreases-loop-k : goal.decreases-loop-k
-decreases-loop-k l = l.count - l.k
+    l.counts ≡ counts_of (codes l.image l.s l.kind l.direction l.e l.first) l.k

@@ -5,5 +5,4 @@ use Rattle.convert.proofs.put_part.Goals as goal
 pub returns : goal.returns
 returns c =
     let a = c.args in
-    rw c.copy.ensures
-    (part_put a.out.now a.image.now a.to a.from a.count c.requires.0 c.requires.1)
+    part_put a.out.now a.image.now _ a.to a.from a.count c.requires.0 c.requires.1 c.copy_from_slice.ensures.after

@@ -1,5 +1,4 @@
 -- `dial_rows::channel_found` meets its contract: a loop invariant, and a law for the first turn, each turn and the end.
-use Prim.Native.Nat.{◌-◌}
 use mathlib.Core.Path.{◌≡◌}
 use mathlib.Core.Bool.{false}
 use Rattle.scan.specs.Laws.{Passed}
@@ -10,11 +9,5 @@ use Rattle.dial_rows.proofs.channel_found.Given as goal
 abbrev pub invariant-loop-k : goal.invariant-loop-k
 invariant-loop-k l = (l.found ≡ false) × Passed (centre_held (table_of l.image) l.range) l.channels l.k
 
-abbrev pub decreases-loop-k : goal.decreases-loop-k
-decreases-loop-k l = l.channels - l.k
-
 abbrev pub invariant-search : goal.invariant-search
 invariant-search l = (l.found ≡ false) × Passed (some_centre_at (table_of l.image) l.q) l.privileges l.i
-
-abbrev pub decreases-search : goal.decreases-search
-decreases-search l = l.privileges - l.i

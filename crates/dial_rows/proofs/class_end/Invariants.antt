@@ -1,9 +1,6 @@
--- `dial_rows::class_end` meets its contract: a loop invariant, and a law for the first turn, each turn and the end.
+-- No privilege of the class from the index that the loop has come to on.
 use Rattle.dial_rows.specs.Class.{Past}
 use Rattle.dial_rows.proofs.class_end.Given as goal
 
-abbrev pub invariant-loop-k : goal.invariant-loop-k
-invariant-loop-k l = Past l.image l.class l.k
-
-abbrev pub decreases-loop-k : goal.decreases-loop-k
-decreases-loop-k l = l.k
+abbrev pub invariant-loop-i : goal.invariant-loop-i
+invariant-loop-i l = Past l.image l.class l.i

@@ -1,6 +1,5 @@
--- `dial_rows::privileges_from` meets its contract: a loop invariant, and a law for each turn and the end.
-use Prim.Native.Nat.{◌-◌}
-use mathlib.Core.Path.{◌≡◌}
+-- From the privilege that the loop has come to on, as from the first.
+use Rattle.std.specs.Prelude.{◌≡◌}
 use Rattle.table.specs.Table.{table_of}
 use Rattle.table.specs.Parts.{segment_of}
 use Rattle.dial_rows.specs.Next.{spot_of, privileges_from}
@@ -9,6 +8,3 @@ use Rattle.dial_rows.proofs.privileges_from.Given as goal
 abbrev pub invariant-loop-i : goal.invariant-loop-i
 invariant-loop-i l =
     privileges_from (table_of l.image) l.q (segment_of l.r) (spot_of l.initial.i l.initial.from) ≡ privileges_from (table_of l.image) l.q (segment_of l.r) (spot_of l.i l.from)
-
-abbrev pub decreases-loop-i : goal.decreases-loop-i
-decreases-loop-i l = l.w.end - l.i

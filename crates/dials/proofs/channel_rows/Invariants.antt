@@ -1,8 +1,6 @@
--- `dials::channel_rows` meets its contract: a loop invariant, and a law for each turn and the end.
-use mathlib.Core.Path.{◌≡◌}
-use lib.ListN.{length}
+-- What the channels from the one that the search has come to on add is what is left.
+use Rattle.std.specs.Prelude.{Some, length}
 use Rattle.table.specs.Table.{table_of}
-use Rattle.table.specs.declared.ChannelBand.TheVariants.{On}
 use Rattle.rows.specs.Pour.{Pouring}
 use Rattle.dial_rows.specs.Dials.{band_rows}
 use Rattle.dial_rows.specs.Next.{channels_from}
@@ -10,7 +8,7 @@ use Rattle.dials.proofs.channel_rows.Given as goal
 
 abbrev pub invariant-loop-x : goal.invariant-loop-x
 invariant-loop-x l =
-    Pouring l.initial.rows l.before (band_rows (table_of l.image) l.q (On l.c)) l.rows l.n (channels_from (table_of l.image) l.q l.c l.w.channel_count l.from) × (length l.rows ≡ length l.initial.rows)
+    Pouring l.initial.rows l.before (band_rows (table_of l.image) l.q (Some l.c)) l.rows l.count (channels_from (table_of l.image) l.q l.c l.w.channel_count l.from)
 
 abbrev pub decreases-loop-x : goal.decreases-loop-x
 decreases-loop-x l = length (channels_from (table_of l.image) l.q l.c l.w.channel_count l.from)

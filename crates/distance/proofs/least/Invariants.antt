@@ -1,11 +1,7 @@
--- `distance::least` meets its contract: after i turns the answer is the definition's over the first i rows.
-use Prim.Native.Nat.{◌-◌, ◌≤◌}
-use mathlib.Core.Path.{◌≡◌}
+-- After i turns the answer is the definition's over the first i rows.
+use Rattle.std.specs.Prelude.{◌≡◌}
 use Rattle.distance.specs.Distance.{least_up_to}
 use Rattle.distance.proofs.least.Given as goal
 
 abbrev pub invariant-loop-i : goal.invariant-loop-i
-invariant-loop-i l = (l.i ≤ l.count) × (l.best ≡ least_up_to l.dial_hz l.flags l.channel_band l.rows l.i)
-
-abbrev pub decreases-loop-i : goal.decreases-loop-i
-decreases-loop-i l = l.count - l.i
+invariant-loop-i l = l.best ≡ least_up_to l.dial_hz l.flags l.channel_band l.rows l.i

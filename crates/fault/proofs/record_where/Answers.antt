@@ -8,16 +8,16 @@ use Rattle.fault.proofs.record_where.Goals as goal
 pub loop-t-init : goal.loop-t-init
 loop-t-init c = passed_none _ _
 
-pub find_wrong-found-requires : goal.find_wrong-found-requires
-find_wrong-found-requires c = (c.requires, c.loop-t-test.true)
+pub find_wrong-requires : goal.find_wrong-requires
+find_wrong-requires c = (c.requires, c.loop-t-test.true)
 
-pub returns-in-At : goal.returns-in-At
-returns-in-At c =
-    where_here _ _ _ _ c.loop-t-test.true c.loop-t.invariant (sym c.in-At.is ∙ c.find_wrong-found.ensures)
+pub returns-in-Some : goal.returns-in-Some
+returns-in-Some c =
+    where_here _ _ _ _ c.loop-t-test.true c.loop-t.invariant (sym c.in-Some.is ∙ c.find_wrong.ensures)
 
 pub loop-t-preserved : goal.loop-t-preserved
 loop-t-preserved c =
-    passed_step _ _ _ c.loop-t-test.true c.loop-t.invariant (ap is_at (sym c.find_wrong-found.ensures ∙ c.in_default.is))
+    passed_step _ _ _ c.loop-t-test.true c.loop-t.invariant (ap is_at (sym c.find_wrong.ensures ∙ c.in_default.is))
 
 pub returns : goal.returns
 returns c = where_none _ _ _ c.loop-t-test.false c.loop-t.invariant

@@ -1,24 +1,15 @@
--- `image::check` meets its contract: on each way to a return, the tests and what the calls ensure say which case of the definition holds.
-use mathlib.Core.Path.{sym, ◌∙◌}
-use Rattle.codes.specs.Laws.{refusal_next, refusal_stays}
+use Rattle.std.proofs.Common.{rules, ◌≡◌, ◌∙◌, sym, Err}
+use Rattle.codes.specs.Refusal.{Checked}
+use Rattle.codes.specs.Laws.{refusal_stays}
 use Rattle.layout.specs.Form.{form_tests}
-use Rattle.layout.specs.Laws.{whole_of}
 use Rattle.table.specs.Table.{table_of}
 use Rattle.image.specs.Check.{content_tests, check_of}
 use Rattle.image.proofs.check.Goals as goal
 
-pub content-requires : goal.content-requires
-content-requires c = whole_of _ (sym c.form.ensures ∙ c.in-Accepted.is)
-
-pub returns-in-Refused : goal.returns-in-Refused
+-- refused by the form: by the whole check too
+pub returns-in_err-form : goal.returns-in_err-form
 unfolding check_of
-returns-in-Refused c =
+returns-in_err-form c =
     let l = c.args.s.now in
-    sym (refusal_stays (form_tests l) (content_tests (table_of l)) _ (sym c.form.ensures ∙ c.in-Refused.is))
-
-pub returns-in-Accepted : goal.returns-in-Accepted
-unfolding check_of
-returns-in-Accepted c =
-    let l = c.args.s.now in
-    c.content.ensures
-    ∙ sym (refusal_next (form_tests l) (content_tests (table_of l)) (sym c.form.ensures ∙ c.in-Accepted.is))
+    let same : ◌≡◌ {A = Checked} c.from_residual.result (Err c.in_err-form.field-0.0) = search rules in
+    same ∙ sym (refusal_stays (form_tests l) (content_tests (table_of l)) _ (sym c.form.ensures ∙ c.in_err-form.was))

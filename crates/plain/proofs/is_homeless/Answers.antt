@@ -28,8 +28,8 @@ high_at-requires c =
     let within : (start_of c.args.s.now segments + record_size * count_of c.args.s.now segments + trailer_size ≤ length c.args.s.now) = (table_within c.args.s.now c.requires.0 segments (omega arith)) in
     omega (arith, within)
 
-pub returns-in-Nothing : goal.returns-in-Nothing
-returns-in-Nothing c =
+pub returns-in-None : goal.returns-in-None
+returns-in-None c =
     let asked : (not (is_at c.home_near.result)
     ≡ homeless_at (table_of c.args.s.now) false
     c.loop-i.i) = (rw c.home_near.ensures
@@ -44,7 +44,7 @@ returns-in-Nothing c =
     rw (← c.count_of-count.ensures)
     (some_here _ _ _ c.loop-i-test.true
     c.loop-i.invariant
-    (rw (← asked) (rw c.in-Nothing.is)))
+    (rw (← asked) (rw c.in-None.is)))
 
 pub loop-i-preserved : goal.loop-i-preserved
 loop-i-preserved c =
@@ -61,7 +61,7 @@ loop-i-preserved c =
     )))))))) in
     passed_step _ _ _ c.loop-i-test.true
     c.loop-i.invariant
-    (rw (← asked) (rw c.in-At.is))
+    (rw (← asked) (rw c.in-Some.is))
 
 pub returns : goal.returns
 returns c = rw (← c.count_of-count.ensures) (some_none _ _ _ c.loop-i-test.false c.loop-i.invariant)

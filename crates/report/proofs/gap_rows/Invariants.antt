@@ -1,7 +1,4 @@
--- `report::gap_rows` meets its contract: a loop invariant, and a law for each turn and the end.
-use Prim.Native.Nat.{◌-◌}
-use mathlib.Core.Path.{◌≡◌}
-use lib.ListN.{length}
+-- `report::gap_rows` meets its contract: the gaps of the segments from i on are left to offer.
 use Rattle.lists.specs.From.{from}
 use Rattle.lists.specs.Pour.{Pouring}
 use Rattle.table.specs.Table.{table_of}
@@ -11,7 +8,4 @@ use Rattle.report.proofs.gap_rows.Given as goal
 
 abbrev pub invariant-loop-i : goal.invariant-loop-i
 invariant-loop-i l =
-    Pouring offer_at l.initial.rows l.before (gap_rows (table_of l.image) l.class) l.rows l.n (from l.s.count (gaps_at (table_of l.image) l.class) l.i) × (length l.rows ≡ length l.initial.rows)
-
-abbrev pub decreases-loop-i : goal.decreases-loop-i
-decreases-loop-i l = l.s.count - l.i
+    Pouring offer_at l.initial.rows l.before (gap_rows (table_of l.image) l.class) l.rows l.n (from l.s.count (gaps_at (table_of l.image) l.class) l.i)

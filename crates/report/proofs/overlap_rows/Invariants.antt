@@ -1,7 +1,4 @@
--- `report::overlap_rows` meets its contract: a loop invariant, and a law for each turn and the end.
-use Prim.Native.Nat.{◌-◌}
-use mathlib.Core.Path.{◌≡◌}
-use lib.ListN.{length}
+-- `report::overlap_rows` meets its contract: the pairs of the records from i on are left to offer.
 use Rattle.lists.specs.From.{from}
 use Rattle.lists.specs.Pour.{Pouring}
 use Rattle.table.specs.Table.{table_of}
@@ -11,7 +8,4 @@ use Rattle.report.proofs.overlap_rows.Given as goal
 
 abbrev pub invariant-loop-i : goal.invariant-loop-i
 invariant-loop-i l =
-    Pouring offer_at l.initial.rows l.before (overlap_rows (table_of l.image) l.t) l.rows l.n (from l.g.count (pair_rows_at (table_of l.image) l.t) l.i) × (length l.rows ≡ length l.initial.rows)
-
-abbrev pub decreases-loop-i : goal.decreases-loop-i
-decreases-loop-i l = l.g.count - l.i
+    Pouring offer_at l.initial.rows l.before (overlap_rows (table_of l.image) l.t) l.rows l.n (from l.g.count (pair_rows_at (table_of l.image) l.t) l.i)

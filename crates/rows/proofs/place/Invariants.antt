@@ -1,9 +1,6 @@
--- `rows::place` meets its contract: on each way to a return, the tests and what the calls ensure say which case of the definition holds.
-use Rattle.rows.specs.Turns.{Placing}
+use Rattle.std.specs.Prelude.{◌≡◌}
+use Rattle.rows.specs.Held.{place_at}
 use Rattle.rows.proofs.place.Given as goal
 
-abbrev pub invariant-loop-k : goal.invariant-loop-k
-invariant-loop-k l = Placing l.dial_low_hz l.count l.rows l.k
-
-abbrev pub decreases-loop-k : goal.decreases-loop-k
-decreases-loop-k l = l.k
+abbrev pub invariant-loop-i : goal.invariant-loop-i
+invariant-loop-i l = place_at l.dial_low_hz l.count l.rows ≡ place_at l.dial_low_hz l.i l.rows

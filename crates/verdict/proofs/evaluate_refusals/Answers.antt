@@ -1,38 +1,15 @@
--- `verdict::evaluate_refusals` meets its contract: on each way to a return, the tests and what the calls ensure say which case of the definition holds.
-use mathlib.Core.Path.{◌≡◌, sym, ◌∙◌}
-use Rattle.codes.specs.Refusal.{refusal_of}
-use Rattle.codes.specs.Laws.{refusal_next, refusal_stays}
+use Rattle.std.proofs.Common.{rules, ◌≡◌, Err, sym, ◌∙◌}
+use Rattle.codes.specs.Refusal.{Checked, refusal_of}
+use Rattle.codes.specs.Laws.{refusal_stays}
 use Rattle.entry.specs.Entry.{entry_tests, entry_of}
 use Rattle.verdict.specs.Verdict.{beside_valid, edge_tests}
 use Rattle.verdict.proofs.evaluate_refusals.Goals as goal
 
-pub returns-in-Refused : goal.returns-in-Refused
+-- refused by the record or the image: by all the tests too
+pub returns-in_err-admit : goal.returns-in_err-admit
 unfolding entry_of
-returns-in-Refused c =
-    let said : (refusal_of (entry_tests c.args.r (beside_valid c.args.kind
-    c.args.direction) c.args.image.now) ≡ c.admit.result) = (sym (rw c.admit.ensures (rw c.beside_valid.ensures))) in
+returns-in_err-admit c =
     let a = c.args in
-    sym (refusal_stays (entry_tests a.r (beside_valid a.kind a.direction) a.image.now)
-    (edge_tests a.e) _ (said ∙ c.in-Refused.is))
-
-pub returns-then-edges_valid : goal.returns-then-edges_valid
-unfolding entry_of
-returns-then-edges_valid c =
-    let said : (refusal_of (entry_tests c.args.r (beside_valid c.args.kind
-    c.args.direction) c.args.image.now) ≡ c.admit.result) = (sym (rw c.admit.ensures (rw c.beside_valid.ensures))) in
-    let a = c.args in
-    sym
-    (refusal_next (entry_tests a.r (beside_valid a.kind a.direction) a.image.now)
-    (edge_tests a.e) (said ∙ c.in-Accepted.is)
-    ∙ rw (← c.edges_valid.ensures) (rw c.if-edges_valid.true))
-
-pub returns-else-edges_valid : goal.returns-else-edges_valid
-unfolding entry_of
-returns-else-edges_valid c =
-    let said : (refusal_of (entry_tests c.args.r (beside_valid c.args.kind
-    c.args.direction) c.args.image.now) ≡ c.admit.result) = (sym (rw c.admit.ensures (rw c.beside_valid.ensures))) in
-    let a = c.args in
-    sym
-    (refusal_next (entry_tests a.r (beside_valid a.kind a.direction) a.image.now)
-    (edge_tests a.e) (said ∙ c.in-Accepted.is)
-    ∙ rw (← c.edges_valid.ensures) (rw c.if-edges_valid.false))
+    let same : ◌≡◌ {A = Checked} c.from_residual.result (Err c.in_err-admit.field-0.0) = search rules in
+    let said : c.admit.result ≡ refusal_of (entry_tests a.r (beside_valid a.kind a.direction) a.image.now) = rw (← c.beside_valid.ensures) c.admit.ensures in
+    same ∙ sym (refusal_stays (entry_tests a.r (beside_valid a.kind a.direction) a.image.now) (edge_tests a.e) _ (sym said ∙ c.in_err-admit.was))

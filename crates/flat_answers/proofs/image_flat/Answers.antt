@@ -1,8 +1,0 @@
--- By cases.
-use Rattle.flat_answers.proofs.image_flat.Goals as goal
-
-pub returns-in-Length : goal.returns-in-Length
-returns-in-Length c = rw c.in-Length.is
-
-pub returns-in-Refused : goal.returns-in-Refused
-returns-in-Refused c = rw c.in-Refused.is

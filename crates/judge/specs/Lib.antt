@@ -1,2 +1,0 @@
--- The way a band is judged.
-pub mod Way
