@@ -5,12 +5,12 @@
 ghost use Rattle.std.specs.Prelude.{◌≡◌, ℕ, ◌+◌, ◌*◌, ◌≤◌, ◌<◌, length, false};
 ghost use Rattle.scan.specs.First.{first, some, on_found};
 ghost use Rattle.layout.specs.Layout.{record_at};
-ghost use Rattle.layout.specs.Form.{Whole};
 ghost use Rattle.table.specs.Table.{table_of};
 ghost use Rattle.find.specs.Question.{sound_bits, sound_record, no_limit, asks, asks_at, first_in, some_in, pick_in, home_question, homeless_of};
 
 use layout::Record;
 use profile::Range;
+use whole::Image;
 
 // What is asked of a record.
 #[derive(Clone, Copy)]
@@ -120,8 +120,8 @@ pub fn find_from(s: &[u8], start: usize, count: usize, q: Question) -> Option<us
 
 // The first record of table t that a question fits, with its index.
 #[tactic(auto, unfolding(crate::specs::Question::pick_in))]
-pub fn pick_in(s: &[u8], t: usize, q: Question) -> Option<(usize, Record)>
-    requires { (Whole s.now) × (t < 9) }
+pub fn pick_in(s: &Image, t: usize, q: Question) -> Option<(usize, Record)>
+    requires { t < 9 }
     ensures { result ≡ pick_in (table_of s.now) t q }
 {
     match q {
@@ -135,32 +135,32 @@ pub fn pick_in(s: &[u8], t: usize, q: Question) -> Option<(usize, Record)>
 
 // The same for the questions that judging asks most, without asking which.
 #[tactic(auto, unfolding(crate::specs::Question::pick_in))]
-pub fn pick_holding(s: &[u8], t: usize, a: Range) -> Option<(usize, Record)>
-    requires { (Whole s.now) × (t < 9) }
+pub fn pick_holding(s: &Image, t: usize, a: Range) -> Option<(usize, Record)>
+    requires { t < 9 }
     ensures { result ≡ pick_in (table_of s.now) t (Question.Holds a) }
 {
     table::pick_of(s, t, |r| holding(r, a))
 }
 
 #[tactic(auto, unfolding(crate::specs::Question::pick_in))]
-pub fn pick_class(s: &[u8], t: usize, n: u8, a: Range) -> Option<(usize, Record)>
-    requires { (Whole s.now) × (t < 9) }
+pub fn pick_class(s: &Image, t: usize, n: u8, a: Range) -> Option<(usize, Record)>
+    requires { t < 9 }
     ensures { result ≡ pick_in (table_of s.now) t (Question.ClassHolds n a) }
 {
     table::pick_of(s, t, |r| class_holding(r, n, a))
 }
 
 // Its index alone.
-pub fn find_in(s: &[u8], t: usize, q: Question) -> Option<usize>
-    requires { (Whole s.now) × (t < 9) }
+pub fn find_in(s: &Image, t: usize, q: Question) -> Option<usize>
+    requires { t < 9 }
     ensures { result ≡ first_in (table_of s.now) t q }
 {
     pick_in(s, t, q).map(|(i, _)| i)
 }
 
 // Whether a question fits a record of table t.
-pub fn some_in(s: &[u8], t: usize, q: Question) -> bool
-    requires { (Whole s.now) × (t < 9) }
+pub fn some_in(s: &Image, t: usize, q: Question) -> bool
+    requires { t < 9 }
     ensures { result ≡ some_in (table_of s.now) t q }
 {
     find_in(s, t, q).is_some()
@@ -178,8 +178,7 @@ fn home_question(own: bool, r: Record) -> Question
 }
 
 // Whether a data segment lies in no band, of whatever number or of its own.
-pub fn homeless(s: &[u8], own: bool) -> bool
-    requires { Whole s.now }
+pub fn homeless(s: &Image, own: bool) -> bool
     ensures { result ≡ homeless_of (table_of s.now) own }
 {
     table::some_of(

@@ -5,7 +5,6 @@
 ghost use Rattle.std.specs.Prelude.{◌≡◌, ◌+◌, ◌*◌, ◌≤◌, ◌<◌, ℕ, Bool, length};
 ghost use Rattle.scan.specs.First.{first, some, on_found};
 ghost use Rattle.layout.specs.Layout.{count_of};
-ghost use Rattle.layout.specs.Form.{Whole};
 ghost use Rattle.table.specs.Table.{count_in, record_in};
 ghost use Rattle.table.specs.Parts.{span_of, band_of, own_limit_of, named_of, listed_of, channel_sideband_of};
 ghost use Rattle.table.specs.Parts.{segment_of, centre_of, privilege_of, excluded_of, power_of, plan_of};
@@ -15,6 +14,7 @@ use codes::Sideband;
 use layout::{General, Record};
 use occupancy::Reading;
 use profile::{DataLimit, Range};
+use whole::Image;
 
 // A band, for naming a frequency.
 #[derive(Clone, Copy)]
@@ -85,25 +85,25 @@ pub struct Channels {
 }
 
 // Record i of table t.
-pub fn record_of(s: &[u8], t: usize, i: usize) -> Record
-    requires { (Whole s.now) × (t < 9) × (i < count_of s.now t) }
+pub fn record_of(s: &Image, t: usize, i: usize) -> Record
+    requires { (t < 9) × (i < count_of s.now t) }
     ensures { result ≡ record_in s.now t i }
 {
-    let at = layout::start_of(s, t) + layout::RECORD_SIZE * i;
-    layout::record_at(s, at)
+    let at = s.start_of(t) + layout::RECORD_SIZE * i;
+    s.record_at(at)
 }
 
 // The first record of table t that passes a test, with its index. A test that answers as p does, record by record, picks what p picks.
-pub fn pick_of<F: Fn(Record) -> bool>(s: &[u8], t: usize, test: F) -> Option<(usize, Record)>
-    requires lies { (Whole s.now) × (t < 9) }
+pub fn pick_of<F: Fn(Record) -> bool>(s: &Image, t: usize, test: F) -> Option<(usize, Record)>
+    requires lies { t < 9 }
     requires can { (i : ℕ) → i < count_in s.now t → F.pre test (record_in s.now t i) }
     ensures { (p : ℕ → Bool) → ((i : ℕ) (b : Bool) → i < count_in s.now t → F.post test (record_in s.now t i) b → b ≡ p i)
         → result ≡ on_found (first p (count_in s.now t)) (λ i. Some (i, record_in s.now t i)) None }
 {
-    let start = layout::start_of(s, t);
-    let count = layout::count_of(s, t) as usize;
+    let start = s.start_of(t);
+    let count = s.count_of(t) as usize;
     for i in 0..count {
-        let r = layout::record_at(s, start + layout::RECORD_SIZE * i);
+        let r = s.record_at(start + layout::RECORD_SIZE * i);
         if test(r) {
             return Some((i, r));
         }
@@ -112,8 +112,8 @@ pub fn pick_of<F: Fn(Record) -> bool>(s: &[u8], t: usize, test: F) -> Option<(us
 }
 
 // Its index alone.
-pub fn first_of<F: Fn(Record) -> bool>(s: &[u8], t: usize, test: F) -> Option<usize>
-    requires lies { (Whole s.now) × (t < 9) }
+pub fn first_of<F: Fn(Record) -> bool>(s: &Image, t: usize, test: F) -> Option<usize>
+    requires lies { t < 9 }
     requires can { (i : ℕ) → i < count_in s.now t → F.pre test (record_in s.now t i) }
     ensures { (p : ℕ → Bool) → ((i : ℕ) (b : Bool) → i < count_in s.now t → F.post test (record_in s.now t i) b → b ≡ p i)
         → result ≡ first p (count_in s.now t) }
@@ -122,8 +122,8 @@ pub fn first_of<F: Fn(Record) -> bool>(s: &[u8], t: usize, test: F) -> Option<us
 }
 
 // Whether a record of table t passes a test.
-pub fn some_of<F: Fn(Record) -> bool>(s: &[u8], t: usize, test: F) -> bool
-    requires lies { (Whole s.now) × (t < 9) }
+pub fn some_of<F: Fn(Record) -> bool>(s: &Image, t: usize, test: F) -> bool
+    requires lies { t < 9 }
     requires can { (i : ℕ) → i < count_in s.now t → F.pre test (record_in s.now t i) }
     ensures { (p : ℕ → Bool) → ((i : ℕ) (b : Bool) → i < count_in s.now t → F.post test (record_in s.now t i) b → b ≡ p i)
         → result ≡ some p (count_in s.now t) }
