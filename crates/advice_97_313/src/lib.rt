@@ -14,6 +14,7 @@ use layout::General;
 use part97::Case;
 use profile::Range;
 use table::PowerLimit;
+use whole::Image;
 
 // Whether a known power is above a limit.
 pub fn above(watts: Option<f64>, most: f64) -> bool
@@ -39,17 +40,16 @@ pub struct Notes {
 }
 
 #[tactic(auto, using(layout::specs::Laws::table_within, table::specs::Laws::read_in, part97::specs::Laws::notes_more, part97::specs::Laws::any_more), unfolding(part97::specs::Part97::notes_up_to, part97::specs::Part97::any_note))]
-fn notes_of(s: &[u8], c: Case, r: Range) -> Notes
-    requires { Whole s.now }
+fn notes_of(s: &Image, c: Case, r: Range) -> Notes
     ensures { (result.marks ≡ notes_up_to (note_at (table_of s.now) c r) (count_of s.now power))
         × (result.any ≡ any_note (note_at (table_of s.now) c r) (count_of s.now power)) }
 {
-    let start = layout::start_of(s, layout::POWER);
-    let count = layout::count_of(s, layout::POWER) as usize;
+    let start = s.start_of(layout::POWER);
+    let count = s.count_of(layout::POWER) as usize;
     let mut marks = [0u8; 256];
     let mut any = false;
     for i in 0..count {
-        let limit = table::power_limit_of(layout::record_at(s, start + layout::RECORD_SIZE * i));
+        let limit = table::power_limit_of(s.record_at(start + layout::RECORD_SIZE * i));
         if is_noted(c, r, limit) {
             marks[i] = 1;
             any = true;
@@ -68,8 +68,7 @@ fn wants_plan(g: General, c: Case) -> bool
 
 // What the plan says of a range.
 #[tactic(auto, unfolding(part97::specs::Part97::plan_says))]
-fn plan_says(s: &[u8], r: Range) -> Guidance
-    requires { Whole s.now }
+fn plan_says(s: &Image, r: Range) -> Guidance
     ensures { result ≡ plan_says (table_of s.now) r }
 {
     match find::find_in(s, layout::PLAN_AVOID, Question::Overlaps(r)) {
@@ -83,11 +82,10 @@ fn plan_says(s: &[u8], r: Range) -> Guidance
 
 // The voluntary plan, where it is asked.
 #[tactic(auto, unfolding(part97::specs::Part97::guidance_of))]
-fn guidance_of(s: &[u8], g: General, c: Case, r: Range) -> Option<Guidance>
-    requires { (Whole s.now) × (g ≡ general_of s.now) }
+fn guidance_of(s: &Image, c: Case, r: Range) -> Option<Guidance>
     ensures { result ≡ guidance_of (table_of s.now) c r }
 {
-    if wants_plan(g, c) {
+    if wants_plan(s.general, c) {
         Some(plan_says(s, r))
     } else {
         None
@@ -102,21 +100,12 @@ fn plan_warns(g: Option<Guidance>) -> bool
 
 // A lawful data transmission over a range, with what the operator should know.
 #[tactic(auto, unfolding(part97::specs::Part97::advised, part97::specs::Part97::advice_warns, part97::specs::Part97::advice_of))]
-pub fn advise(
-    s: &[u8],
-    g: General,
-    c: Case,
-    r: Range,
-    draft: Draft,
-    code: Code,
-    rule: u16,
-) -> Decision
-    requires { (Whole s.now) × (g ≡ general_of s.now) }
+pub fn advise(s: &Image, c: Case, r: Range, draft: Draft, code: Code, rule: u16) -> Decision
     ensures { result ≡ advised (table_of s.now) c r draft code rule }
 {
     let notes = notes_of(s, c, r);
     let marks = notes.marks;
-    let guidance = guidance_of(s, g, c, r);
+    let guidance = guidance_of(s, c, r);
     let warn = notes.any || plan_warns(guidance);
     decision::finish(
         draft,

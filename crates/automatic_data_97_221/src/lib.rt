@@ -16,6 +16,7 @@ use layout::General;
 use part97::{Case, Finding};
 use profile::Range;
 use table::Elsewhere;
+use whole::Image;
 
 // Whether a transmission would have to answer interrogation, and doesn't.
 fn must_respond(e: Elsewhere, direction: Direction) -> bool
@@ -65,8 +66,7 @@ fn automatic_elsewhere(
 
 // Inside a segment for automatic control (97.221(b)), or else by (c).
 #[tactic(auto, using(part97::specs::Finding::lawful_automatic), unfolding(part97::specs::Part97::automatic_data, find::specs::Question::pick_in))]
-pub fn automatic_data(s: &[u8], g: General, c: Case, band: u8, segment: Range, rule: u16) -> Finding
-    requires { (Whole s.now) × (g ≡ general_of s.now) }
+pub fn automatic_data(s: &Image, c: Case, band: u8, segment: Range, rule: u16) -> Finding
     ensures { concluded (table_of s.now) c result ≡ automatic_data (table_of s.now) c band segment rule }
 {
     match find::pick_holding(s, layout::AUTOMATIC, c.guarded) {
@@ -78,9 +78,16 @@ pub fn automatic_data(s: &[u8], g: General, c: Case, band: u8, segment: Range, r
                 rule,
                 Some(table::span_of(r)),
                 Code::AutomaticSegment,
-                g.automatic_rule,
+                s.general.automatic_rule,
             )
         }
-        None => automatic_elsewhere(g, c, band, segment, rule, table::elsewhere_of(g)),
+        None => automatic_elsewhere(
+            s.general,
+            c,
+            band,
+            segment,
+            rule,
+            table::elsewhere_of(s.general),
+        ),
     }
 }

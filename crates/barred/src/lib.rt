@@ -18,6 +18,7 @@ use occupancy::Edges;
 use part97::Finding;
 use profile::Range;
 use station::Situation;
+use whole::Image;
 
 // What is asked of a decision that is not made.
 #[derive(Clone, Copy)]
@@ -53,19 +54,17 @@ fn brief_of(f: Finding) -> Brief
 // Under an accepted table, at a dial: a prerequisite that is missing blocks, and else Part 97 says.
 #[tactic(auto, using(crate::specs::Barred::finding_brief), unfolding(verdict::specs::Verdict::under_rules_of, decision::specs::Decision::simple_of, decision::specs::Decision::finish_of))]
 fn brief_by_rules(
-    image: &[u8],
-    g: General,
+    image: &Image,
     s: Situation,
     dial: Option<f64>,
     kind: EmissionKind,
     direction: Direction,
     audio: Range,
 ) -> Brief
-    requires { (Whole image.now) × (g ≡ general_of image.now) }
     ensures { result ≡ brief_of (under_rules_of (table_of image.now) s dial kind direction audio) }
 {
-    match verdict::prepare(g, s, dial, kind, direction, audio) {
-        Ok(c) => brief_of(judge::judge_case(image, g, c)),
+    match verdict::prepare(image.general, s, dial, kind, direction, audio) {
+        Ok(c) => brief_of(judge::judge_case(image, c)),
         Err(m) => settled(true, m.code),
     }
 }
@@ -88,9 +87,9 @@ pub fn in_brief(
         Policy::Unset => settled(true, Code::NoProfile),
         Policy::NoProfile => settled(false, Code::NoRules),
         Policy::Rules => {
-            let g = layout::general_of(image);
-            let audio = e.range(table::reading_of(g));
-            brief_by_rules(image, g, s, dial, kind, direction, audio)
+            let image = Image::of(image);
+            let audio = e.range(table::reading_of(image.general));
+            brief_by_rules(&image, s, dial, kind, direction, audio)
         }
         Policy::Broken => settled(true, Code::ProfileBroken),
     }
@@ -106,21 +105,19 @@ fn bar_by(code: Code, rule: u16) -> Option<Finding>
 // Under an accepted table, at a dial: a prerequisite that is missing blocks, and else Part 97 says.
 #[tactic(auto, using(crate::specs::Barring::bar_free))]
 fn barring_by_rules(
-    image: &[u8],
-    g: General,
+    image: &Image,
     s: Situation,
     dial: Option<f64>,
     kind: EmissionKind,
     direction: Direction,
     audio: Range,
 ) -> Option<Finding>
-    requires { (Whole image.now) × (g ≡ general_of image.now) }
     ensures { Barred (led_by_rules (table_of image.now) s dial kind direction audio)
         (under_rules_of (table_of image.now) s dial kind direction audio) result }
 {
-    match verdict::prepare(g, s, dial, kind, direction, audio) {
+    match verdict::prepare(image.general, s, dial, kind, direction, audio) {
         Ok(c) => {
-            let f = judge::judge_case(image, g, c);
+            let f = judge::judge_case(image, c);
             if blocks(f) { Some(f) } else { None }
         }
         Err(m) => bar_by(m.code, m.rule),
@@ -146,9 +143,9 @@ pub fn barring(
         Policy::Unset => bar_by(Code::NoProfile, decision::NO_RULE),
         Policy::NoProfile => None,
         Policy::Rules => {
-            let g = layout::general_of(image);
-            let audio = e.range(table::reading_of(g));
-            barring_by_rules(image, g, s, dial, kind, direction, audio)
+            let image = Image::of(image);
+            let audio = e.range(table::reading_of(image.general));
+            barring_by_rules(&image, s, dial, kind, direction, audio)
         }
         Policy::Broken => bar_by(Code::ProfileBroken, decision::NO_RULE),
     }
@@ -157,8 +154,7 @@ pub fn barring(
 // The answer on what is blocked by a finding, under an accepted table. Nothing is judged again.
 #[tactic(auto, unfolding(crate::specs::Barring::led_by_rules))]
 fn answer_by_rules(
-    image: &[u8],
-    g: General,
+    image: &Image,
     s: Situation,
     dial: Option<f64>,
     kind: EmissionKind,
@@ -166,11 +162,10 @@ fn answer_by_rules(
     audio: Range,
     f: Finding,
 ) -> Decision
-    requires { (Whole image.now) × (g ≡ general_of image.now) }
     ensures { result ≡ led_by_rules (table_of image.now) s dial kind direction audio f }
 {
-    match verdict::prepare(g, s, dial, kind, direction, audio) {
-        Ok(c) => judge::conclude(image, g, c, f),
+    match verdict::prepare(image.general, s, dial, kind, direction, audio) {
+        Ok(c) => judge::conclude(image, c, f),
         Err(m) => {
             let signal = verdict::signal_of(dial, s.sideband, audio);
             decision::simple(signal, Verdict::Blocked, m.code, m.rule)
@@ -195,9 +190,9 @@ pub fn answer(
 {
     match policy {
         Policy::Rules => {
-            let g = layout::general_of(image);
-            let audio = e.range(table::reading_of(g));
-            answer_by_rules(image, g, s, dial, kind, direction, audio, f)
+            let image = Image::of(image);
+            let audio = e.range(table::reading_of(image.general));
+            answer_by_rules(&image, s, dial, kind, direction, audio, f)
         }
         Policy::Unset | Policy::NoProfile | Policy::Broken => {
             verdict::unruled(s, dial, e, f.verdict, f.code)

@@ -17,11 +17,11 @@ use decision::{Code, Verdict};
 use layout::General;
 use part97::{Case, Finding, Privileged};
 use table::Segment;
+use whole::Image;
 
 // No data segment holds the guarded signal: the nearest one says how far it lies outside.
 #[tactic(auto, using(part97::specs::Laws::nearest_below, part97::specs::Finding::on_band_holds, part97::specs::Finding::beyond_segment_holds), unfolding(part97::specs::Part97::outside_segments))]
-fn outside_segments(s: &[u8], c: Case, band: u8) -> Finding
-    requires { Whole s.now }
+fn outside_segments(s: &Image, c: Case, band: u8) -> Finding
     ensures { concluded (table_of s.now) c result ≡ outside_segments (table_of s.now) c band }
 {
     match overshoot_97_305::nearest_segment(s, c) {
@@ -43,8 +43,7 @@ fn outside_segments(s: &[u8], c: Case, band: u8) -> Finding
 
 // Inside a data segment: the operator's privileges, then automatic control.
 #[tactic(auto, using(part97::specs::Finding::in_segment_holds, part97::specs::Finding::lawful_in_holds), unfolding(part97::specs::Part97::inside_segment))]
-fn inside_segment(s: &[u8], g: General, c: Case, band: u8, segment: Segment) -> Finding
-    requires { (Whole s.now) × (g ≡ general_of s.now) }
+fn inside_segment(s: &Image, c: Case, band: u8, segment: Segment) -> Finding
     ensures { concluded (table_of s.now) c result ≡ inside_segment (table_of s.now) c band segment }
 {
     let range = segment.range;
@@ -52,7 +51,7 @@ fn inside_segment(s: &[u8], g: General, c: Case, band: u8, segment: Segment) -> 
     match privileges_97_301::privileged(s, c, EmissionKind::Data) {
         Privileged::Granted => {
             if c.automatic {
-                automatic_data_97_221::automatic_data(s, g, c, band, range, rule)
+                automatic_data_97_221::automatic_data(s, c, band, range, rule)
             } else {
                 findings::lawful_in(band, range, rule, None, c.air, Code::Permitted, rule)
             }
@@ -68,12 +67,11 @@ fn inside_segment(s: &[u8], g: General, c: Case, band: u8, segment: Segment) -> 
 
 // By the first data segment that holds the guarded range; too wide comes before "no segment".
 #[tactic(auto, using(part97::specs::Finding::on_band_holds), unfolding(part97::specs::Part97::judge_data, find::specs::Question::pick_in))]
-pub fn judge_data(s: &[u8], g: General, c: Case, band: u8) -> Finding
-    requires { (Whole s.now) × (g ≡ general_of s.now) }
+pub fn judge_data(s: &Image, c: Case, band: u8) -> Finding
     ensures { concluded (table_of s.now) c result
         ≡ judge_data (table_of s.now) c band (first_in (table_of s.now) segments (Holds c.guarded)) }
 {
-    let general = table::data_of(g);
+    let general = table::data_of(s.general);
     let found = find::pick_holding(s, layout::SEGMENTS, c.guarded).map(|(_, r)| table::segment_of(
         r,
     ));
@@ -85,7 +83,7 @@ pub fn judge_data(s: &[u8], g: General, c: Case, band: u8) -> Finding
         return findings::on_band(Some(band), Verdict::Blocked, Code::TooWide, limit.rule);
     }
     match found {
-        Some(segment) => inside_segment(s, g, c, band, segment),
+        Some(segment) => inside_segment(s, c, band, segment),
         None => outside_segments(s, c, band),
     }
 }

@@ -25,6 +25,7 @@ use layout::{General, Record};
 use profile::{DataLimit, Range};
 use rows::SafeDial;
 use table::{Channels, Privilege, Segment};
+use whole::Image;
 
 // The bits of 2^40.
 const LIMIT_BITS: u64 = 0x4270_0000_0000_0000;
@@ -219,8 +220,7 @@ fn too_wide(q: Request, s: Segment) -> bool
 }
 
 // Whether 97.221 keeps the signal out of a segment's band.
-fn excluded(image: &[u8], q: Request, s: Segment) -> bool
-    requires { Whole image.now }
+fn excluded(image: &Image, q: Request, s: Segment) -> bool
     ensures { result ≡ excluded_band (table_of image.now) q s }
 {
     q.automatic && find::some_in(image, layout::EXCLUDED, Question::OfBand(s.band))
@@ -228,29 +228,27 @@ fn excluded(image: &[u8], q: Request, s: Segment) -> bool
 
 // The first privilege of a class; where there is none, how many privileges there are.
 #[tactic(auto, using(layout::specs::Laws::table_within))]
-fn class_first(image: &[u8], class: u8) -> usize
-    requires { Whole image.now }
+fn class_first(image: &Image, class: u8) -> usize
     ensures { Ahead image.now class result }
 {
-    let start = layout::start_of(image, layout::PRIVILEGES);
-    let count = layout::count_of(image, layout::PRIVILEGES) as usize;
+    let start = image.start_of(layout::PRIVILEGES);
+    let count = image.count_of(layout::PRIVILEGES) as usize;
     scan::first(
         count,
-        |i| layout::class_at(image, start + layout::RECORD_SIZE * i) == class,
+        |i| layout::class_at(image.bytes, start + layout::RECORD_SIZE * i) == class,
     )
     .unwrap_or(count)
 }
 
 // The place after the last privilege of a class; where there is none, 0.
 #[tactic(auto, using(layout::specs::Laws::table_within, crate::specs::Class::of_in, crate::specs::Class::past_step))]
-fn class_end(image: &[u8], class: u8) -> usize
-    requires { Whole image.now }
+fn class_end(image: &Image, class: u8) -> usize
     ensures { Past image.now class result }
 {
-    let start = layout::start_of(image, layout::PRIVILEGES);
-    let count = layout::count_of(image, layout::PRIVILEGES) as usize;
+    let start = image.start_of(layout::PRIVILEGES);
+    let count = image.count_of(layout::PRIVILEGES) as usize;
     for i in (0..count).rev() {
-        if layout::class_at(image, start + layout::RECORD_SIZE * i) == class {
+        if layout::class_at(image.bytes, start + layout::RECORD_SIZE * i) == class {
             return i + 1;
         }
     }
@@ -343,8 +341,7 @@ pub fn privileges_from(
 }
 
 // Whether a segment's record is passed over: the signal is too wide for it, or kept out of its band.
-pub fn closed(image: &[u8], q: Request, r: Record) -> bool
-    requires { Whole image.now }
+pub fn closed(image: &Image, q: Request, r: Record) -> bool
     ensures { result ≡ closed_of (table_of image.now) q (segment_of r) }
 {
     let s = table::segment_of(r);
@@ -370,22 +367,21 @@ fn centre_held(range: Range, r: Record) -> bool
 }
 
 // Whether one channel lies under one privilege of the class that allows data.
-fn channel_found(image: &[u8], q: Request) -> bool
-    requires { Whole image.now }
+fn channel_found(image: &Image, q: Request) -> bool
     ensures { result ≡ channel_found (table_of image.now) q }
 {
-    let from = layout::start_of(image, layout::PRIVILEGES);
-    let privileges = layout::count_of(image, layout::PRIVILEGES) as usize;
-    let start = layout::start_of(image, layout::CHANNELS);
-    let channels = layout::count_of(image, layout::CHANNELS) as usize;
+    let from = image.start_of(layout::PRIVILEGES);
+    let privileges = image.count_of(layout::PRIVILEGES) as usize;
+    let start = image.start_of(layout::CHANNELS);
+    let channels = image.count_of(layout::CHANNELS) as usize;
     let mut found = false;
     'search: for i in 0..privileges {
-        let r = layout::record_at(image, from + layout::RECORD_SIZE * i);
+        let r = image.record_at(from + layout::RECORD_SIZE * i);
         let p = table::privilege_of(r);
         if may_use(q, p) {
             let range = p.range;
             for k in 0..channels {
-                let c = layout::record_at(image, start + layout::RECORD_SIZE * k);
+                let c = image.record_at(start + layout::RECORD_SIZE * k);
                 if centre_held(range, c) {
                     found = true;
                     break 'search;
@@ -397,12 +393,11 @@ fn channel_found(image: &[u8], q: Request) -> bool
 }
 
 // How many channels are gone through: all, where channels are asked for and one is found.
-fn channel_count(image: &[u8], q: Request, band: Option<Channels>) -> usize
-    requires { Whole image.now }
+fn channel_count(image: &Image, q: Request, band: Option<Channels>) -> usize
     ensures { result ≡ channel_count_of (table_of image.now) q band }
 {
     if band.is_some() && (channels_open(q) && channel_found(image, q)) {
-        layout::count_of(image, layout::CHANNELS) as usize
+        image.count_of(layout::CHANNELS) as usize
     } else {
         0
     }
@@ -458,32 +453,30 @@ fn is_cut(q: Request) -> bool
 }
 
 // How many cuts a piece has.
-fn cut_count(image: &[u8], q: Request) -> usize
-    requires { Whole image.now }
+fn cut_count(image: &Image, q: Request) -> usize
     ensures { result ≡ cuts (table_of image.now) q }
 {
     if is_cut(q) {
-        layout::count_of(image, layout::AUTOMATIC) as usize
+        image.count_of(layout::AUTOMATIC) as usize
     } else {
         1
     }
 }
 
 // What a search for rows knows beforehand.
-pub fn search_of(image: &[u8], q: Request, band: Option<Channels>) -> Search
-    requires { Whole image.now }
+pub fn search_of(image: &Image, q: Request, band: Option<Channels>) -> Search
     ensures { Searched image.now q band result }
 {
     Search {
-        segments: layout::start_of(image, layout::SEGMENTS),
-        segment_count: layout::count_of(image, layout::SEGMENTS) as usize,
-        privileges: layout::start_of(image, layout::PRIVILEGES),
+        segments: image.start_of(layout::SEGMENTS),
+        segment_count: image.count_of(layout::SEGMENTS) as usize,
+        privileges: image.start_of(layout::PRIVILEGES),
         first: class_first(image, q.class),
         end: class_end(image, q.class),
-        automatic: layout::start_of(image, layout::AUTOMATIC),
+        automatic: image.start_of(layout::AUTOMATIC),
         cut: is_cut(q),
         cuts: cut_count(image, q),
-        channels: layout::start_of(image, layout::CHANNELS),
+        channels: image.start_of(layout::CHANNELS),
         channel_count: channel_count(image, q, band),
     }
 }

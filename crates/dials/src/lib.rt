@@ -20,6 +20,7 @@ use nearest_rows::Here;
 use occupancy::Edges;
 use station::{Situation, StationRecord};
 use table::Channels;
+use whole::Image;
 
 // What was made of the rows so far: how many they are, and the nearest of them to a dial.
 #[derive(Clone, Copy)]
@@ -212,8 +213,12 @@ fn fill_from(
 }
 
 // The same with bytes made for it.
-fn fill(image: &[u8], rows: &mut [u8], q: Request, band: Option<Channels>) -> Result<usize, Refusal>
-    requires { Whole image.now }
+fn fill(
+    image: &Image,
+    rows: &mut [u8],
+    q: Request,
+    band: Option<Channels>,
+) -> Result<usize, Refusal>
     ensures { Filled (data_rows (table_of image.now) q ++ band_rows (table_of image.now) q band)
         rows.old rows.new result }
 {
@@ -225,19 +230,18 @@ fn fill(image: &[u8], rows: &mut [u8], q: Request, band: Option<Channels>) -> Re
 // The list for a station and edges as they are read, under Rules.
 #[tactic(auto, unfolding(crate::specs::List::situation_rows, dial_rows::specs::Dials::rows_of))]
 fn situation_list(
-    image: &[u8],
+    image: &Image,
     rows: &mut [u8],
     s: Situation,
     direction: Direction,
     e: Edges,
 ) -> Result<usize, Refusal>
-    requires { Whole image.now }
     ensures { Filled (situation_rows (table_of image.now) s direction e) rows.old rows.new result }
 {
     let (Some(sideband), Some(license), Some(control)) = (s.sideband, s.license, s.control) else {
         return Ok(0);
     };
-    let g = layout::general_of(image);
+    let g = image.general;
     let audio = e.range(table::reading_of(g));
     let q = dial_rows::request_of(g, license, sideband, control, direction, s.margin, audio);
     fill(image, rows, q, table::channels_of(g))
@@ -263,5 +267,5 @@ pub fn safe_dials(
     }
     let s = station::situation_of(r);
     let read = entry::edges_read(e);
-    situation_list(image, rows, s, Direction::from(direction), read)
+    situation_list(&Image::of(image), rows, s, Direction::from(direction), read)
 }

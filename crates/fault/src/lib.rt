@@ -14,6 +14,7 @@ ghost use Rattle.fault.specs.Number.{fault_number};
 use codes::{Checked, Refusal};
 use find::Question;
 use layout::General;
+use whole::Image;
 
 #[derive(Clone, Copy)]
 pub enum Fault {
@@ -65,25 +66,24 @@ fn is_absent(g: General, t: usize) -> bool
 }
 
 // The first record of table t that meets 5, or 6.
-fn find_wrong(s: &[u8], coding: bool, t: usize) -> Option<usize>
-    requires { (Whole s.now) × (t < 9) }
+fn find_wrong(s: &Image, coding: bool, t: usize) -> Option<usize>
+    requires { t < 9 }
     ensures { result ≡ first_of (table_of s.now) (wrong_at coding (table_of s.now)) t }
 {
     if !coding {
         return find::find_in(s, t, Question::Unsound);
     }
-    if !is_absent(layout::general_of(s), t) {
+    if !is_absent(s.general, t) {
         return find::find_in(s, t, Question::Miscoded(t));
     }
-    if layout::count_of(s, t) == 0 {
+    if s.count_of(t) == 0 {
         return None;
     }
     Some(0)
 }
 
 // The first table and record that meets 5, or 6.
-fn record_where(s: &[u8], coding: bool) -> Option<Fault>
-    requires { Whole s.now }
+fn record_where(s: &Image, coding: bool) -> Option<Fault>
     ensures { result ≡ record_where (table_of s.now) (wrong_at coding (table_of s.now)) }
 {
     for t in 0..layout::TABLES {
@@ -96,11 +96,10 @@ fn record_where(s: &[u8], coding: bool) -> Option<Fault>
 
 // 5
 #[tactic(auto, unfolding(crate::specs::Fault::miscoded_place))]
-fn miscoded_place(s: &[u8]) -> Option<Fault>
-    requires { Whole s.now }
+fn miscoded_place(s: &Image) -> Option<Fault>
     ensures { result ≡ miscoded_place (table_of s.now) }
 {
-    if coded::coded_general(layout::general_of(s), 0, 0, 0) {
+    if coded::coded_general(s.general, 0, 0, 0) {
         record_where(s, true)
     } else {
         Some(Fault::InGeneral)
@@ -109,11 +108,10 @@ fn miscoded_place(s: &[u8]) -> Option<Fault>
 
 // 6
 #[tactic(auto, unfolding(crate::specs::Fault::unsound_place))]
-fn unsound_place(s: &[u8]) -> Option<Fault>
-    requires { Whole s.now }
+fn unsound_place(s: &Image) -> Option<Fault>
     ensures { result ≡ unsound_place (table_of s.now) }
 {
-    if image::sound_block(layout::general_of(s)) {
+    if image::sound_block(s.general) {
         record_where(s, false)
     } else {
         Some(Fault::InGeneral)
@@ -121,8 +119,7 @@ fn unsound_place(s: &[u8]) -> Option<Fault>
 }
 
 // The first segment in no band (12).
-fn find_homeless(s: &[u8]) -> Option<usize>
-    requires { Whole s.now }
+fn find_homeless(s: &Image) -> Option<usize>
     ensures { result ≡ first (homeless_at (table_of s.now) false) (count_of s.now segments) }
 {
     table::first_of(
@@ -133,8 +130,8 @@ fn find_homeless(s: &[u8]) -> Option<usize>
 }
 
 // The first record of table t with low not below high (7 to 10).
-fn short_in(s: &[u8], t: usize) -> Option<Fault>
-    requires { (Whole s.now) × (t < 9) }
+fn short_in(s: &Image, t: usize) -> Option<Fault>
+    requires { t < 9 }
     ensures { result ≡ short_in (table_of s.now) t }
 {
     in_table(t, find::find_in(s, t, Question::NotLengthy))
@@ -142,8 +139,7 @@ fn short_in(s: &[u8], t: usize) -> Option<Fault>
 
 // The place of a refusal of a whole image.
 #[tactic(auto, unfolding(crate::specs::Fault::fault_at))]
-fn fault_at(s: &[u8], n: Refusal) -> Option<Fault>
-    requires { Whole s.now }
+fn fault_at(s: &Image, n: Refusal) -> Option<Fault>
     ensures { result ≡ fault_at n (table_of s.now) }
 {
     match n {
@@ -173,7 +169,7 @@ pub fn fault_of(s: &[u8]) -> FaultAnswer
             if u8::from(n) < 5 {
                 None
             } else {
-                fault_at(s, n)
+                fault_at(&Image::of(s), n)
             }
         }
     };

@@ -12,25 +12,24 @@ ghost use Rattle.image.specs.Short.{plain_image, left_tests};
 use codes::{Checked, Refusal};
 use find::Question;
 use layout::General;
+use whole::Image;
 
 // The general block's codes, with the counts of the tables whose part may be absent.
 #[tactic(auto, unfolding(crate::specs::Check::coded_block))]
-fn coded_block(s: &[u8]) -> bool
-    requires { Whole s.now }
+fn coded_block(s: &Image) -> bool
     ensures { result ≡ coded_block (table_of s.now) }
 {
     coded::coded_general(
-        layout::general_of(s),
-        layout::count_of(s, layout::CHANNELS),
-        layout::count_of(s, layout::PLAN_DATA),
-        layout::count_of(s, layout::PLAN_AVOID),
+        s.general,
+        s.count_of(layout::CHANNELS),
+        s.count_of(layout::PLAN_DATA),
+        s.count_of(layout::PLAN_AVOID),
     )
 }
 
 // 5: the general block, then each table.
 #[tactic(auto, unfolding(crate::specs::Check::miscoded))]
-fn is_miscoded(s: &[u8]) -> bool
-    requires { Whole s.now }
+fn is_miscoded(s: &Image) -> bool
     ensures { result ≡ miscoded (table_of s.now) }
 {
     !coded_block(s)
@@ -56,21 +55,19 @@ pub fn sound_block(g: General) -> bool
 
 // 6: the general block's figures, then those of each table's records.
 #[tactic(auto, unfolding(crate::specs::Check::unsound))]
-fn is_unsound(s: &[u8]) -> bool
-    requires { Whole s.now }
+fn is_unsound(s: &Image) -> bool
     ensures { result ≡ unsound (table_of s.now) }
 {
-    !sound_block(layout::general_of(s))
+    !sound_block(s.general)
         || scan::some(layout::TABLES, |t| find::some_in(s, t, Question::Unsound))
 }
 
 // 11
 #[tactic(auto, unfolding(crate::specs::Check::bare))]
-fn is_bare(s: &[u8]) -> bool
-    requires { Whole s.now }
+fn is_bare(s: &Image) -> bool
     ensures { result ≡ bare (table_of s.now) }
 {
-    layout::count_of(s, layout::BANDS) == 0 || layout::count_of(s, layout::SEGMENTS) == 0
+    s.count_of(layout::BANDS) == 0 || s.count_of(layout::SEGMENTS) == 0
 }
 
 // 14
@@ -82,8 +79,7 @@ pub fn is_unlimited(g: General) -> bool
 }
 
 // Refusals 5 to 14 of a whole image, test by test.
-fn in_order(s: &[u8]) -> Checked
-    requires { Whole s.now }
+fn in_order(s: &Image) -> Checked
     ensures { result ≡ refusal_of (content_tests (table_of s.now)) }
 {
     if is_miscoded(s) {
@@ -113,7 +109,7 @@ fn in_order(s: &[u8]) -> Checked
     if find::some_in(s, layout::SEGMENTS, Question::NoLimit) {
         return Err(Refusal::OwnLimit);
     }
-    if is_unlimited(layout::general_of(s)) {
+    if is_unlimited(s.general) {
         return Err(Refusal::GeneralLimit);
     }
     Ok(())
@@ -121,16 +117,15 @@ fn in_order(s: &[u8]) -> Checked
 
 // The general block is coded and sound, and every record is plain.
 #[tactic(auto, unfolding(crate::specs::Short::plain_image))]
-fn is_plain(s: &[u8]) -> bool
-    requires { Whole s.now }
+fn is_plain(s: &Image) -> bool
     ensures { result ≡ plain_image s.now }
 {
-    coded_block(s) && (sound_block(layout::general_of(s)) && !plain::is_rough(s))
+    coded_block(s) && (sound_block(s.general) && !plain::is_rough(s))
 }
 
 // The refusals that are left of a plain image.
-fn left(s: &[u8]) -> Checked
-    requires { (Whole s.now) × (is_rough s.now ≡ false) }
+fn left(s: &Image) -> Checked
+    requires { is_rough s.now ≡ false }
     ensures { result ≡ refusal_of (left_tests (table_of s.now)) }
 {
     if is_bare(s) {
@@ -139,15 +134,14 @@ fn left(s: &[u8]) -> Checked
     if plain::is_homeless(s) {
         return Err(Refusal::SegmentOutside);
     }
-    if is_unlimited(layout::general_of(s)) {
+    if is_unlimited(s.general) {
         return Err(Refusal::GeneralLimit);
     }
     Ok(())
 }
 
 // Refusals 5 to 14 of a whole image. A plain one, as most are, is visited once.
-fn content(s: &[u8]) -> Checked
-    requires { Whole s.now }
+fn content(s: &Image) -> Checked
     ensures { result ≡ refusal_of (content_tests (table_of s.now)) }
 {
     if is_plain(s) {
@@ -162,5 +156,5 @@ pub fn check(s: &[u8]) -> Checked
     ensures { result ≡ check_of s.now }
 {
     layout::form(s)?;
-    content(s)
+    content(&Image::of(s))
 }

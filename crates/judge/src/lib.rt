@@ -16,35 +16,33 @@ use find::Question;
 use layout::General;
 use part97::{Case, Finding};
 use table::Channels;
+use whole::Image;
 
 // By the kind of emission, off 60 m.
-fn off_sixty(s: &[u8], g: General, c: Case, band: u8, kind: EmissionKind) -> Finding
-    requires { (Whole s.now) × (g ≡ general_of s.now) }
+fn off_sixty(s: &Image, c: Case, band: u8, kind: EmissionKind) -> Finding
     ensures { concluded (table_of s.now) c result ≡ off_sixty (table_of s.now) c band kind }
 {
     match kind {
-        EmissionKind::Data => data_97_305::judge_data(s, g, c, band),
+        EmissionKind::Data => data_97_305::judge_data(s, c, band),
         EmissionKind::Cw | EmissionKind::Test => other_97_305::judge_emitted(s, c, band, kind),
-        EmissionKind::Nothing => other_97_305::judge_keyed(s, g, c, band),
+        EmissionKind::Nothing => other_97_305::judge_keyed(s, c, band),
     }
 }
 
 // On 60 m, the band that has the channels' number, or off it.
 #[tactic(auto, unfolding(part97::specs::Part97::judge_on_band))]
-fn judge_on_band(s: &[u8], g: General, c: Case, band: u8, channels: Option<Channels>) -> Finding
-    requires { (Whole s.now) × (g ≡ general_of s.now) }
+fn judge_on_band(s: &Image, c: Case, band: u8, channels: Option<Channels>) -> Finding
     ensures { concluded (table_of s.now) c result ≡ judge_on_band (table_of s.now) c band channels }
 {
     match channels {
-        Some(ch) if ch.band == band => sixty_97_303::sixty(s, g, c, ch),
-        _ => off_sixty(s, g, c, band, c.kind),
+        Some(ch) if ch.band == band => sixty_97_303::sixty(s, c, ch),
+        _ => off_sixty(s, c, band, c.kind),
     }
 }
 
 // A band that is not closed to a station under automatic control is judged.
 #[tactic(auto, using(part97::specs::Finding::on_band_holds), unfolding(part97::specs::Part97::judge_in_band, find::specs::Question::pick_in))]
-fn judge_in_band(s: &[u8], g: General, c: Case, band: u8) -> Finding
-    requires { (Whole s.now) × (g ≡ general_of s.now) }
+fn judge_in_band(s: &Image, c: Case, band: u8) -> Finding
     ensures { concluded (table_of s.now) c result ≡ judge_in_band (table_of s.now) c band }
 {
     if c.automatic
@@ -57,13 +55,12 @@ fn judge_in_band(s: &[u8], g: General, c: Case, band: u8) -> Finding
             table::excluded_of(r).rule,
         );
     }
-    judge_on_band(s, g, c, band, table::channels_of(g))
+    judge_on_band(s, c, band, table::channels_of(s.general))
 }
 
 // The first band that the guarded range touches.
 #[tactic(auto, unfolding(part97::specs::Part97::touching, find::specs::Question::pick_in))]
-fn touching_band(s: &[u8], c: Case) -> Option<u8>
-    requires { Whole s.now }
+fn touching_band(s: &Image, c: Case) -> Option<u8>
     ensures { result ≡ touching (table_of s.now) c }
 {
     find::pick_in(s, layout::BANDS, Question::Overlaps(c.guarded)).map(|(_, r)| r.band)
@@ -71,12 +68,11 @@ fn touching_band(s: &[u8], c: Case) -> Option<u8>
 
 // By the first band that holds the guarded range.
 #[tactic(auto, using(part97::specs::Finding::on_band_holds), unfolding(part97::specs::Part97::judge, find::specs::Question::pick_in))]
-pub fn judge_case(s: &[u8], g: General, c: Case) -> Finding
-    requires { (Whole s.now) × (g ≡ general_of s.now) }
+pub fn judge_case(s: &Image, c: Case) -> Finding
     ensures { concluded (table_of s.now) c result ≡ judge (table_of s.now) c }
 {
     match find::pick_holding(s, layout::BANDS, c.guarded) {
-        Some((_, r)) => judge_in_band(s, g, c, r.band),
+        Some((_, r)) => judge_in_band(s, c, r.band),
         None => findings::on_band(
             touching_band(s, c),
             Verdict::Blocked,
@@ -103,13 +99,12 @@ fn draft_at(c: Case, f: Finding) -> Draft
 
 // The decision, with what the operator should know.
 #[tactic(auto, unfolding(part97::specs::Finding::concluded, part97::specs::Finding::concluded_over))]
-pub fn conclude(s: &[u8], g: General, c: Case, f: Finding) -> Decision
-    requires { (Whole s.now) × (g ≡ general_of s.now) }
+pub fn conclude(s: &Image, c: Case, f: Finding) -> Decision
     ensures { result ≡ concluded (table_of s.now) c f }
 {
     let draft = draft_at(c, f);
     match f.over {
-        Some(r) => advice_97_313::advise(s, g, c, r, draft, f.code, f.rule),
+        Some(r) => advice_97_313::advise(s, c, r, draft, f.code, f.rule),
         None => {
             let advice = Advice {
                 guidance: None,

@@ -20,6 +20,7 @@ use nearest_rows::Here;
 use occupancy::Edges;
 use profile::Range;
 use station::{Situation, StationRecord};
+use whole::Image;
 
 // The dial to move to, that no dial would be allowed, or that a premise fails.
 #[derive(Clone, Copy)]
@@ -39,22 +40,14 @@ fn positive_width(s: Situation, audio: Range) -> bool
 
 // The premises that are left where Rules are in force and the prerequisites met.
 #[tactic(auto, unfolding(crate::specs::Laws::premises_of))]
-fn premises_met(
-    image: &[u8],
-    g: General,
-    s: Situation,
-    e: Edges,
-    dial_hz: f64,
-    audio: Range,
-) -> bool
-    requires { (Whole image.now) × (g ≡ general_of image.now) }
+fn premises_met(image: &Image, s: Situation, e: Edges, dial_hz: f64, audio: Range) -> bool
     ensures { result ≡ premises_of (table_of image.now) s e dial_hz audio }
 {
     on_grid::figure_met(dial_hz)
         && (on_grid::margins_met(s.margin)
             && (on_grid::edges_met(e)
                 && (positive_width(s, audio)
-                    && (on_grid::figures_met(image, g) && tidy::tidy_table(image)))))
+                    && (on_grid::figures_met(image) && tidy::tidy_table(image)))))
 }
 
 fn answer_of(best: Option<f64>) -> Nearest
@@ -68,15 +61,14 @@ fn answer_of(best: Option<f64>) -> Nearest
 
 // The nearest of the rows that a request is given, by the list's own search, with no bytes to keep a row in. Those of the channels are not
 // searched: none lies outside the channel band.
-fn nearest_for(image: &[u8], g: General, q: Request, dial_hz: f64) -> Nearest
-    requires { (Whole image.now) × (g ≡ general_of image.now) }
+fn nearest_for(image: &Image, q: Request, dial_hz: f64) -> Nearest
     ensures { result ≡ answer_of (nearest_over dial_hz g.flags g.channel_band None (rows_of (table_of image.now) q)) }
 {
     let w = dial_rows::search_of(image, q, None);
     let h = Here {
         dial_hz,
-        flags: g.flags,
-        channel_band: g.channel_band,
+        flags: image.general.flags,
+        channel_band: image.general.channel_band,
     };
     let mut none = [0u8; 1];
     answer_of(dials::data_rows(image, &mut none, q, w, h).best)
@@ -85,8 +77,7 @@ fn nearest_for(image: &[u8], g: General, q: Request, dial_hz: f64) -> Nearest
 // With the prerequisites met.
 #[tactic(auto, unfolding(crate::specs::Laws::known_nearest))]
 fn nearest_known(
-    image: &[u8],
-    g: General,
+    image: &Image,
     s: Situation,
     direction: Direction,
     e: Edges,
@@ -95,13 +86,20 @@ fn nearest_known(
     control: ControlMode,
     dial_hz: f64,
 ) -> Nearest
-    requires { (Whole image.now) × (g ≡ general_of image.now) }
     ensures { result ≡ known_nearest (table_of image.now) s direction e sideband license control dial_hz }
 {
-    let audio = e.range(table::reading_of(g));
-    if premises_met(image, g, s, e, dial_hz, audio) {
-        let q = dial_rows::request_of(g, license, sideband, control, direction, s.margin, audio);
-        nearest_for(image, g, q, dial_hz)
+    let audio = e.range(table::reading_of(image.general));
+    if premises_met(image, s, e, dial_hz, audio) {
+        let q = dial_rows::request_of(
+            image.general,
+            license,
+            sideband,
+            control,
+            direction,
+            s.margin,
+            audio,
+        );
+        nearest_for(image, q, dial_hz)
     } else {
         Nearest::NotJudged
     }
@@ -109,11 +107,11 @@ fn nearest_known(
 
 // For a station and edges as they are read, under Rules.
 #[tactic(auto, using(crate::proofs::Premises::no_region, crate::proofs::Premises::no_control, crate::proofs::Premises::no_license, crate::proofs::Premises::no_sideband, crate::proofs::Premises::no_dial))]
-fn nearest_in(image: &[u8], s: Situation, direction: Direction, e: Edges) -> Nearest
-    requires { (Whole image.now) × ((s.policy ≡ Rules) × (unrefused (table_of image.now) ≡ true)) }
+fn nearest_in(image: &Image, s: Situation, direction: Direction, e: Edges) -> Nearest
+    requires { ((s.policy ≡ Rules) × (unrefused (table_of image.now) ≡ true)) }
     ensures { result ≡ nearest_in (table_of image.now) s direction e }
 {
-    let g = layout::general_of(image);
+    let g = image.general;
     if s.itu_region != g.region {
         return Nearest::NotJudged;
     }
@@ -141,5 +139,10 @@ pub fn nearest_dial(
     if s.policy != Policy::Rules {
         return Ok(Nearest::NotJudged);
     }
-    Ok(nearest_in(image, s, Direction::from(direction), entry::edges_read(e)))
+    Ok(nearest_in(
+        &Image::of(image),
+        s,
+        Direction::from(direction),
+        entry::edges_read(e),
+    ))
 }

@@ -15,6 +15,7 @@ use air::Margins;
 use layout::{General, Record};
 use occupancy::Edges;
 use profile::Range;
+use whole::Image;
 
 // The limit, 2^38.
 const LIMIT: f64 = 274877906944.0;
@@ -78,8 +79,8 @@ fn block_met(g: General) -> bool
 }
 
 // Whether a record of table t has a figure that is not.
-fn unmet_in(s: &[u8], t: usize) -> bool
-    requires { (Whole s.now) × (t < 9) }
+fn unmet_in(s: &Image, t: usize) -> bool
+    requires { t < 9 }
     ensures { result ≡ unmet_in (table_of s.now) t }
 {
     table::some_of(s, t, |r| !record_met(t, r))
@@ -87,11 +88,10 @@ fn unmet_in(s: &[u8], t: usize) -> bool
 
 // Whether every hertz figure of a table is in eighths and at most 2^38 in size.
 #[tactic(auto, unfolding(crate::specs::Within::figures_met))]
-pub fn figures_met(s: &[u8], g: General) -> bool
-    requires { (Whole s.now) × (g ≡ general_of s.now) }
+pub fn figures_met(s: &Image) -> bool
     ensures { result ≡ figures_met (table_of s.now) }
 {
-    block_met(g) && !scan::some(layout::TABLES, |t| unmet_in(s, t))
+    block_met(s.general) && !scan::some(layout::TABLES, |t| unmet_in(s, t))
 }
 
 fn range_met(r: Range) -> bool

@@ -14,6 +14,7 @@ use decision::{Code, Verdict};
 use layout::General;
 use part97::{Case, Finding, Privileged};
 use profile::Range;
+use whole::Image;
 
 fn other_rule(kind: EmissionKind) -> u16
     ensures { result ≡ other_rule kind }
@@ -27,8 +28,7 @@ fn other_rule(kind: EmissionKind) -> u16
 
 // An emission that is allowed wherever the operator's privileges allow it.
 #[tactic(auto, using(part97::specs::Finding::on_band_holds))]
-pub fn judge_emitted(s: &[u8], c: Case, band: u8, kind: EmissionKind) -> Finding
-    requires { Whole s.now }
+pub fn judge_emitted(s: &Image, c: Case, band: u8, kind: EmissionKind) -> Finding
     ensures { concluded (table_of s.now) c result ≡ emitted (table_of s.now) c band kind }
 {
     let (verdict, code, rule) = match privileges_97_301::privileged(s, c, kind) {
@@ -41,8 +41,7 @@ pub fn judge_emitted(s: &[u8], c: Case, band: u8, kind: EmissionKind) -> Finding
 
 // Keyed with no audio: some privilege holds the dial.
 #[tactic(auto, using(part97::specs::Finding::on_band_holds))]
-pub fn judge_keyed(s: &[u8], g: General, c: Case, band: u8) -> Finding
-    requires { (Whole s.now) × (g ≡ general_of s.now) }
+pub fn judge_keyed(s: &Image, c: Case, band: u8) -> Finding
     ensures { concluded (table_of s.now) c result ≡ keyed (table_of s.now) c band }
 {
     let dial = Range {
@@ -52,7 +51,7 @@ pub fn judge_keyed(s: &[u8], g: General, c: Case, band: u8) -> Finding
     let (verdict, code, rule) = if privileges_97_301::some_privilege(s, c, dial) {
         (Verdict::Legal, Code::Permitted, decision::RULE_97_301)
     } else {
-        (Verdict::Blocked, Code::Privilege, g.privileges_rule)
+        (Verdict::Blocked, Code::Privilege, s.general.privileges_rule)
     };
     findings::on_band(Some(band), verdict, code, rule)
 }

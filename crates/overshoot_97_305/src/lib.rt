@@ -11,6 +11,7 @@ ghost use Rattle.part97.specs.Part97.{below, above, reach, overshoot_by, oversho
 use decision::{Edge, Overshoot};
 use part97::Case;
 use profile::Range;
+use whole::Image;
 
 // How far a signal reaches below a segment, and above it.
 fn below_of(segment: Range, air: Range) -> f64
@@ -78,15 +79,14 @@ fn consider(c: Case, best: Option<(usize, f64)>, i: usize, segment: Range) -> Op
 
 // Among the segments that overlap the guarded range the one with the least overshoot, the first at a tie.
 #[tactic(auto, using(layout::specs::Laws::table_within, table::specs::Laws::read_in, part97::specs::Laws::nearest_more), unfolding(part97::specs::Part97::nearest_up_to))]
-pub fn nearest_segment(s: &[u8], c: Case) -> Option<(usize, f64)>
-    requires { Whole s.now }
+pub fn nearest_segment(s: &Image, c: Case) -> Option<(usize, f64)>
     ensures { result ≡ nearest_up_to (table_of s.now) c (count_of s.now segments) }
 {
-    let start = layout::start_of(s, layout::SEGMENTS);
-    let count = layout::count_of(s, layout::SEGMENTS) as usize;
+    let start = s.start_of(layout::SEGMENTS);
+    let count = s.count_of(layout::SEGMENTS) as usize;
     let mut best = None;
     for i in 0..count {
-        let segment = table::span_of(layout::record_at(s, start + layout::RECORD_SIZE * i));
+        let segment = table::span_of(s.record_at(start + layout::RECORD_SIZE * i));
         best = consider(c, best, i, segment);
     }
     best

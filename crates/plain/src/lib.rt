@@ -15,6 +15,7 @@ ghost use Rattle.plain.specs.Quick.{range_within, point_within, listed_privilege
 ghost use Rattle.plain.specs.Home.{held_bits};
 
 use layout::Record;
+use whole::Image;
 
 // The bits of 2^40.
 const LIMIT_BITS: u64 = 0x4270_0000_0000_0000;
@@ -230,13 +231,12 @@ fn rough_from(s: &[u8], t: usize, start: usize, count: usize) -> bool
 }
 
 // Whether a record of some table is not plain.
-pub fn is_rough(s: &[u8]) -> bool
-    requires { Whole s.now }
+pub fn is_rough(s: &Image) -> bool
     ensures { result ≡ is_rough s.now }
 {
-    let mut start = layout::tables_from(s);
+    let mut start = layout::tables_from(s.bytes);
     for t in 0..layout::TABLES {
-        let count = layout::count_of(s, t) as usize;
+        let count = s.count_of(t) as usize;
         if rough_from(s, t, start, count) {
             return true;
         }
@@ -246,29 +246,27 @@ pub fn is_rough(s: &[u8]) -> bool
 }
 
 // Whether band j holds a range, by the bits of its ends.
-fn held_by(s: &[u8], j: usize, low: u64, high: u64) -> bool
-    requires { (Whole s.now) × (j < count_of s.now 0) }
+fn held_by(s: &Image, j: usize, low: u64, high: u64) -> bool
+    requires { j < count_of s.now 0 }
     ensures { result ≡ held_bits s.now low high j }
 {
-    let at = layout::tables_from(s) + layout::RECORD_SIZE * j;
-    layout::low_at(s, at) <= low && high <= layout::high_at(s, at)
+    let at = layout::tables_from(s.bytes) + layout::RECORD_SIZE * j;
+    layout::low_at(s.bytes, at) <= low && high <= layout::high_at(s.bytes, at)
 }
 
 // The first band that does.
-fn first_home(s: &[u8], low: u64, high: u64) -> Option<usize>
-    requires { Whole s.now }
+fn first_home(s: &Image, low: u64, high: u64) -> Option<usize>
     ensures { result ≡ first (held_bits s.now low high) (count_of s.now 0) }
 {
-    let count = layout::count_of(s, layout::BANDS) as usize;
+    let count = s.count_of(layout::BANDS) as usize;
     scan::first(count, |j| held_by(s, j, low, high))
 }
 
 // A band that does: band near, the next one, or else the first of all. Segments mostly stand in the bands' order.
-fn home_near(s: &[u8], near: usize, low: u64, high: u64) -> Option<usize>
-    requires { Whole s.now }
+fn home_near(s: &Image, near: usize, low: u64, high: u64) -> Option<usize>
     ensures { is_at result ≡ some (held_bits s.now low high) (count_of s.now 0) }
 {
-    let count = layout::count_of(s, layout::BANDS) as usize;
+    let count = s.count_of(layout::BANDS) as usize;
     if near < count {
         if held_by(s, near, low, high) {
             return Some(near);
@@ -284,16 +282,21 @@ fn home_near(s: &[u8], near: usize, low: u64, high: u64) -> Option<usize>
 }
 
 // Whether a data segment of a plain table lies in no band.
-pub fn is_homeless(s: &[u8]) -> bool
-    requires { (Whole s.now) × (is_rough s.now ≡ false) }
+pub fn is_homeless(s: &Image) -> bool
+    requires { is_rough s.now ≡ false }
     ensures { result ≡ homeless_of (table_of s.now) false }
 {
-    let start = layout::start_of(s, layout::SEGMENTS);
-    let count = layout::count_of(s, layout::SEGMENTS) as usize;
+    let start = s.start_of(layout::SEGMENTS);
+    let count = s.count_of(layout::SEGMENTS) as usize;
     let mut near: usize = 0;
     for i in 0..count {
         let at = start + layout::RECORD_SIZE * i;
-        match home_near(s, near, layout::low_at(s, at), layout::high_at(s, at)) {
+        match home_near(
+            s,
+            near,
+            layout::low_at(s.bytes, at),
+            layout::high_at(s.bytes, at),
+        ) {
             Some(k) => {
                 near = k;
             }

@@ -11,10 +11,10 @@ use codes::EmissionKind;
 use find::Question;
 use part97::{Case, Privileged};
 use profile::Range;
+use whole::Image;
 
 // Whether some privilege of the operator's class holds a range, whatever emissions it allows.
-pub fn some_privilege(s: &[u8], c: Case, r: Range) -> bool
-    requires { Whole s.now }
+pub fn some_privilege(s: &Image, c: Case, r: Range) -> bool
     ensures { result ≡ some_privilege (table_of s.now) c r }
 {
     find::some_in(
@@ -26,8 +26,7 @@ pub fn some_privilege(s: &[u8], c: Case, r: Range) -> bool
 
 // What the first privilege of the operator's class that holds the guarded range says of an emission.
 #[tactic(auto, unfolding(part97::specs::Part97::privileged_of, find::specs::Question::pick_in))]
-pub fn privileged(s: &[u8], c: Case, kind: EmissionKind) -> Privileged
-    requires { Whole s.now }
+pub fn privileged(s: &Image, c: Case, kind: EmissionKind) -> Privileged
     ensures { result ≡ privileged_of (table_of s.now) c kind }
 {
     match find::pick_class(s, layout::PRIVILEGES, c.class.into(), c.guarded) {

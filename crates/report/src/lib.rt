@@ -18,6 +18,7 @@ use layout::Record;
 use profile::Range;
 use report_rows::{ReportRow, RowKind};
 use sweep::Ranges;
+use whole::Image;
 
 // The bytes that rows are counted on: 64 rows. A report of no more takes one pass.
 const OWN: usize = 1536;
@@ -35,7 +36,7 @@ fn pair_members(t: usize, r: Record) -> Option<u8>
 
 // The pairs of record i of a table, which is r, with later ones, as rows into bytes that may have room for them or not. Each of these
 // functions takes the count of rows so far and returns it with its own.
-fn pair_rows(image: &[u8], rows: &mut [u8], g: Ranges, i: usize, r: Record, before: usize) -> usize
+fn pair_rows(image: &Image, rows: &mut [u8], g: Ranges, i: usize, r: Record, before: usize) -> usize
     requires { (Whole image.now) × (g.table < 9) × (g ≡ ranges_of image.now g.table) × (i < g.count)
         × (before + length (pair_rows (table_of image.now) g.table i r) ≤ 0x1_0000_0000) }
     ensures { Poured offer_at rows.old before rows.new result
@@ -64,8 +65,8 @@ fn pair_rows(image: &[u8], rows: &mut [u8], g: Ranges, i: usize, r: Record, befo
 }
 
 // The pairs of table t.
-fn overlap_rows(image: &[u8], rows: &mut [u8], t: usize, before: usize) -> usize
-    requires { (Whole image.now) × (t < 9) × (before + length (overlap_rows (table_of image.now) t) ≤ 0x1_0000_0000) }
+fn overlap_rows(image: &Image, rows: &mut [u8], t: usize, before: usize) -> usize
+    requires { (t < 9) × (before + length (overlap_rows (table_of image.now) t) ≤ 0x1_0000_0000) }
     ensures { Poured offer_at rows.old before rows.new result (overlap_rows (table_of image.now) t) }
 {
     let g = sweep::ranges_of(image, t);
@@ -79,7 +80,7 @@ fn overlap_rows(image: &[u8], rows: &mut [u8], t: usize, before: usize) -> usize
 // What the privileges of a class from an index on leave of a piece of a segment: of the first that shares a stretch with it, what the
 // others leave of the parts below and above that stretch.
 fn gaps_left(
-    image: &[u8],
+    image: &Image,
     rows: &mut [u8],
     g: Ranges,
     class: u8,
@@ -123,8 +124,8 @@ fn gaps_left(
 }
 
 // The gaps of the data segments, for the privileges of a class.
-fn gap_rows(image: &[u8], rows: &mut [u8], class: u8, before: usize) -> usize
-    requires { (Whole image.now) × (before + length (gap_rows (table_of image.now) class) ≤ 0x1_0000_0000) }
+fn gap_rows(image: &Image, rows: &mut [u8], class: u8, before: usize) -> usize
+    requires { (before + length (gap_rows (table_of image.now) class) ≤ 0x1_0000_0000) }
     ensures { Poured offer_at rows.old before rows.new result (gap_rows (table_of image.now) class) }
 {
     let g = sweep::ranges_of(image, layout::PRIVILEGES);
@@ -139,8 +140,7 @@ fn gap_rows(image: &[u8], rows: &mut [u8], class: u8, before: usize) -> usize
 
 // Every row; and their count.
 #[tactic(auto, using(crate::specs::Few::table_few, crate::specs::Few::segments_few))]
-fn gather(image: &[u8], rows: &mut [u8], class: u8) -> usize
-    requires { Whole image.now }
+fn gather(image: &Image, rows: &mut [u8], class: u8) -> usize
     ensures { Poured offer_at rows.old 0 rows.new result (report_rows (table_of image.now) class) }
 {
     let a = overlap_rows(image, rows, layout::BANDS, 0);
@@ -151,7 +151,7 @@ fn gather(image: &[u8], rows: &mut [u8], class: u8) -> usize
 
 // Writes the rows, which fit: from the bytes that they were counted on, where these had room for all, and else by one more pass.
 #[tactic(auto, using(crate::specs::Answer::copied))]
-fn settle(image: &[u8], rows: &mut [u8], class: u8, own: &[u8], count: usize)
+fn settle(image: &Image, rows: &mut [u8], class: u8, own: &[u8], count: usize)
     requires { (Whole image.now) × (Begun (report_rows (table_of image.now) class) own.now)
         × (count ≡ length (report_rows (table_of image.now) class)) × (count * 24 ≤ length rows.old) }
     ensures { rows.new ≡ encode_all (report_rows (table_of image.now) class) ++ drop (count * 24) rows.old }
@@ -166,8 +166,7 @@ fn settle(image: &[u8], rows: &mut [u8], class: u8, own: &[u8], count: usize)
 
 // Counts the rows on bytes of their own, refuses where too few whole rows are lent, and writes them where they fit.
 #[tactic(auto, using(crate::specs::Answer::begun, crate::specs::Answer::filled_long, crate::specs::Answer::filled_fit))]
-fn fill_from(image: &[u8], class: u8, rows: &mut [u8], own: &mut [u8]) -> Result<usize, Refusal>
-    requires { Whole image.now }
+fn fill_from(image: &Image, class: u8, rows: &mut [u8], own: &mut [u8]) -> Result<usize, Refusal>
     ensures { Filled (report_rows (table_of image.now) class) rows.old rows.new result }
 {
     let count = gather(image, own, class);
@@ -179,8 +178,7 @@ fn fill_from(image: &[u8], class: u8, rows: &mut [u8], own: &mut [u8]) -> Result
 }
 
 // The same with bytes made for it.
-fn fill(image: &[u8], class: u8, rows: &mut [u8]) -> Result<usize, Refusal>
-    requires { Whole image.now }
+fn fill(image: &Image, class: u8, rows: &mut [u8]) -> Result<usize, Refusal>
     ensures { Filled (report_rows (table_of image.now) class) rows.old rows.new result }
 {
     let mut own = [0u8; OWN];
@@ -195,5 +193,5 @@ pub fn report_of(image: &[u8], class: u8, rows: &mut [u8]) -> Result<usize, Refu
         return Err(Refusal::StationCode);
     }
     image::check(image)?;
-    fill(image, class, rows)
+    fill(&Image::of(image), class, rows)
 }

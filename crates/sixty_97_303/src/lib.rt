@@ -20,6 +20,7 @@ use find::Question;
 use layout::General;
 use part97::{Case, Finding};
 use table::{Channels, Segment};
+use whole::Image;
 
 // Whether a CW carrier is on a channel's centre, within the tolerance.
 fn cw_on_channel(c: Case, ch: Channels, centre: f64) -> bool
@@ -95,8 +96,7 @@ fn sixty_segment(g: General, c: Case, band: u8, place: Segment) -> Finding
 
 // The first data segment of the channels' band that holds the guarded range.
 #[tactic(auto, unfolding(find::specs::Question::pick_in))]
-fn band_segment(s: &[u8], c: Case, ch: Channels) -> Option<Segment>
-    requires { Whole s.now }
+fn band_segment(s: &Image, c: Case, ch: Channels) -> Option<Segment>
     ensures { result ≡ on_found (first_in (table_of s.now) segments (BandHolds ch.band c.guarded)) (λ i. Some (segment_at (table_of s.now) i)) None }
 {
     find::pick_in(s, layout::SEGMENTS, Question::BandHolds(ch.band, c.guarded)).map(|(
@@ -108,31 +108,29 @@ fn band_segment(s: &[u8], c: Case, ch: Channels) -> Option<Segment>
 // By the first channel that the signal overlaps, whose centre is given, if it holds the guarded range; else by the segment that holds
 // it, if one does.
 #[tactic(auto, unfolding(part97::specs::Part97::sixty_overlap))]
-fn sixty_overlap(s: &[u8], g: General, c: Case, ch: Channels, centre: f64) -> Finding
-    requires { (Whole s.now) × (g ≡ general_of s.now) }
+fn sixty_overlap(s: &Image, c: Case, ch: Channels, centre: f64) -> Finding
     ensures { concluded (table_of s.now) c result ≡ sixty_overlap (table_of s.now) c ch centre }
 {
     if profile::channel_range(ch.width_hz, centre).holds(c.guarded) {
-        return sixty_channel(g, c, ch, centre);
+        return sixty_channel(s.general, c, ch, centre);
     }
     match band_segment(s, c, ch) {
-        Some(segment) => sixty_segment(g, c, ch.band, segment),
-        None => sixty_channel(g, c, ch, centre),
+        Some(segment) => sixty_segment(s.general, c, ch.band, segment),
+        None => sixty_channel(s.general, c, ch, centre),
     }
 }
 
 // By an overlapping channel or the segment; neither: off channel.
 #[tactic(auto, using(part97::specs::Finding::on_band_holds), unfolding(part97::specs::Part97::sixty_place, find::specs::Question::pick_in))]
-fn sixty_place(s: &[u8], g: General, c: Case, ch: Channels) -> Finding
-    requires { (Whole s.now) × (g ≡ general_of s.now) }
+fn sixty_place(s: &Image, c: Case, ch: Channels) -> Finding
     ensures { concluded (table_of s.now) c result ≡ sixty_place (table_of s.now) c ch }
 {
     let overlaps = Question::ChannelOverlaps(ch.width_hz, c.guarded);
     if let Some((_, channel)) = find::pick_in(s, layout::CHANNELS, overlaps) {
-        return sixty_overlap(s, g, c, ch, table::centre_of(channel));
+        return sixty_overlap(s, c, ch, table::centre_of(channel));
     }
     match band_segment(s, c, ch) {
-        Some(segment) => sixty_segment(g, c, ch.band, segment),
+        Some(segment) => sixty_segment(s.general, c, ch.band, segment),
         None => findings::on_band(
             Some(ch.band),
             Verdict::Blocked,
@@ -144,14 +142,7 @@ fn sixty_place(s: &[u8], g: General, c: Case, ch: Channels) -> Finding
 
 // The emissions allowed on 60 m (97.307(f)(14)).
 #[tactic(auto, using(part97::specs::Finding::on_band_holds), unfolding(part97::specs::Part97::sixty_emission))]
-fn sixty_emission(
-    s: &[u8],
-    g: General,
-    c: Case,
-    ch: Channels,
-    allowed: Option<(u8, u16)>,
-) -> Finding
-    requires { (Whole s.now) × (g ≡ general_of s.now) }
+fn sixty_emission(s: &Image, c: Case, ch: Channels, allowed: Option<(u8, u16)>) -> Finding
     ensures { concluded (table_of s.now) c result ≡ sixty_emission (table_of s.now) c ch allowed }
 {
     match allowed {
@@ -161,14 +152,13 @@ fn sixty_emission(
             Code::SixtyEmission,
             rule,
         ),
-        _ => sixty_place(s, g, c, ch),
+        _ => sixty_place(s, c, ch),
     }
 }
 
 // Keyed with no audio is permitted; anything else goes by the emissions allowed.
 #[tactic(auto, using(part97::specs::Finding::on_band_holds), unfolding(part97::specs::Part97::sixty_kind))]
-fn sixty_kind(s: &[u8], g: General, c: Case, ch: Channels, kind: EmissionKind) -> Finding
-    requires { (Whole s.now) × (g ≡ general_of s.now) }
+fn sixty_kind(s: &Image, c: Case, ch: Channels, kind: EmissionKind) -> Finding
     ensures { concluded (table_of s.now) c result ≡ sixty_kind (table_of s.now) c ch kind }
 {
     if kind == EmissionKind::Nothing {
@@ -179,14 +169,13 @@ fn sixty_kind(s: &[u8], g: General, c: Case, ch: Channels, kind: EmissionKind) -
             decision::RULE_97_301,
         );
     }
-    sixty_emission(s, g, c, ch, table::sixty_emissions_of(g))
+    sixty_emission(s, c, ch, table::sixty_emissions_of(s.general))
 }
 
 // 60 m: some privilege must hold the signal's range on the air, without the margin; the emissions that privileges list
 // aren't read.
 #[tactic(auto, using(part97::specs::Finding::on_band_holds), unfolding(part97::specs::Part97::sixty))]
-pub fn sixty(s: &[u8], g: General, c: Case, ch: Channels) -> Finding
-    requires { (Whole s.now) × (g ≡ general_of s.now) }
+pub fn sixty(s: &Image, c: Case, ch: Channels) -> Finding
     ensures { concluded (table_of s.now) c result ≡ sixty (table_of s.now) c ch }
 {
     if !privileges_97_301::some_privilege(s, c, c.air) {
@@ -197,5 +186,5 @@ pub fn sixty(s: &[u8], g: General, c: Case, ch: Channels) -> Finding
             decision::RULE_97_301,
         );
     }
-    sixty_kind(s, g, c, ch, c.kind)
+    sixty_kind(s, c, ch, c.kind)
 }

@@ -11,6 +11,7 @@ ghost use Rattle.sweep.specs.Sweep.{is_member, shared_with, sweep, ranges_of};
 
 use layout::Record;
 use profile::Range;
+use whole::Image;
 
 // One table of an image: its number, where its records begin, and how many it has.
 #[derive(Clone, Copy)]
@@ -21,24 +22,24 @@ pub struct Ranges {
 }
 
 // Table t of an image.
-pub fn ranges_of(image: &[u8], t: usize) -> Ranges
-    requires { (Whole image.now) × (t < 9) }
+pub fn ranges_of(image: &Image, t: usize) -> Ranges
+    requires { t < 9 }
     ensures { result ≡ ranges_of image.now t }
 {
     Ranges {
         table: t,
-        start: layout::start_of(image, t),
-        count: layout::count_of(image, t) as usize,
+        start: image.start_of(t),
+        count: image.count_of(t) as usize,
     }
 }
 
 // Record i of it.
 #[tactic(auto, using(crate::specs::Laws::ranges_read, crate::specs::Laws::ranges_within))]
-pub fn record_of(image: &[u8], g: Ranges, i: usize) -> Record
-    requires { (Whole image.now) × (g.table < 9) × (g ≡ ranges_of image.now g.table) × (i < g.count) }
+pub fn record_of(image: &Image, g: Ranges, i: usize) -> Record
+    requires { (g.table < 9) × (g ≡ ranges_of image.now g.table) × (i < g.count) }
     ensures { result ≡ (table_of image.now).at g.table i }
 {
-    layout::record_at(image, g.start + layout::RECORD_SIZE * i)
+    image.record_at(g.start + layout::RECORD_SIZE * i)
 }
 
 fn is_member(m: Option<u8>, r: Record) -> bool
@@ -66,13 +67,13 @@ fn shared_with(m: Option<u8>, window: Range, r: Record) -> Option<Range>
 // The first record of a table, from an index on, that counts and shares a stretch of positive length with a window.
 #[tactic(auto, using(crate::specs::Laws::sweep_step, crate::specs::Laws::sweep_end))]
 pub fn next(
-    image: &[u8],
+    image: &Image,
     g: Ranges,
     m: Option<u8>,
     window: Range,
     from: usize,
 ) -> Option<(usize, Range)>
-    requires { (Whole image.now) × (g.table < 9) × (g ≡ ranges_of image.now g.table) }
+    requires { (g.table < 9) × (g ≡ ranges_of image.now g.table) }
     ensures value { result ≡ sweep ((table_of image.now).at g.table) m window g.count from }
     ensures within { IfSome result (λ p. (from ≤ p.0) × (p.0 < g.count)) }
 {

@@ -12,6 +12,7 @@ ghost use Rattle.tidy.specs.Tidy.{pair_question, two_share, tidy_table, tidy_of}
 use codes::Refusal;
 use find::Question;
 use layout::Record;
+use whole::Image;
 
 fn pair_question(classes: bool, r: Record) -> Question
     ensures { result ≡ pair_question classes r }
@@ -34,21 +35,20 @@ fn shares_earlier(s: &[u8], start: usize, j: usize, classes: bool) -> bool
 
 // Whether two records of table t share a stretch of positive length; with classes, two of one class.
 #[tactic(auto, using(layout::specs::Laws::table_within), unfolding(crate::specs::Tidy::two_share))]
-fn two_share(s: &[u8], t: usize, classes: bool) -> bool
-    requires { (Whole s.now) × (t < 9) }
+fn two_share(s: &Image, t: usize, classes: bool) -> bool
+    requires { t < 9 }
     ensures { result ≡ two_share (table_of s.now) t classes }
 {
-    let start = layout::start_of(s, t);
+    let start = s.start_of(t);
     scan::some(
-        layout::count_of(s, t) as usize,
+        s.count_of(t) as usize,
         |j| shares_earlier(s, start, j, classes),
     )
 }
 
 // Whether the table of an accepted image is tidy.
 #[tactic(auto, unfolding(crate::specs::Tidy::tidy_table))]
-pub fn tidy_table(s: &[u8]) -> bool
-    requires { Whole s.now }
+pub fn tidy_table(s: &Image) -> bool
     ensures { result ≡ tidy_table (table_of s.now) }
 {
     !find::homeless(s, true)
@@ -62,5 +62,5 @@ pub fn is_tidy(s: &[u8]) -> Result<bool, Refusal>
     ensures { result ≡ tidy_of s.now }
 {
     image::check(s)?;
-    Ok(tidy_table(s))
+    Ok(tidy_table(&Image::of(s)))
 }

@@ -19,6 +19,7 @@ use occupancy::{Edges, Reading};
 use part97::Case;
 use profile::Range;
 use station::{Situation, StationRecord};
+use whole::Image;
 
 // A prerequisite that is missing: the code that blocks, and its rule.
 #[derive(Clone, Copy)]
@@ -127,19 +128,17 @@ pub fn prepare(
 // Under Rules: Part 97 judges the case, and what is missing blocks.
 #[tactic(auto, unfolding(crate::specs::Verdict::under_rules_of))]
 fn under_rules(
-    image: &[u8],
-    g: General,
+    image: &Image,
     s: Situation,
     dial: Option<f64>,
     kind: EmissionKind,
     direction: Direction,
     audio: Range,
 ) -> Decision
-    requires { (Whole image.now) × (g ≡ general_of image.now) }
     ensures { result ≡ under_rules_of (table_of image.now) s dial kind direction audio }
 {
-    match prepare(g, s, dial, kind, direction, audio) {
-        Ok(c) => judge::conclude(image, g, c, judge::judge_case(image, g, c)),
+    match prepare(image.general, s, dial, kind, direction, audio) {
+        Ok(c) => judge::conclude(image, c, judge::judge_case(image, c)),
         Err(m) => {
             let signal = signal_of(dial, s.sideband, audio);
             decision::simple(signal, Verdict::Blocked, m.code, m.rule)
@@ -174,9 +173,9 @@ pub fn decide(
         Policy::Unset => unruled(s, dial, e, Verdict::Blocked, Code::NoProfile),
         Policy::NoProfile => unruled(s, dial, e, Verdict::Legal, Code::NoRules),
         Policy::Rules => {
-            let g = layout::general_of(image);
-            let audio = e.range(table::reading_of(g));
-            under_rules(image, g, s, dial, kind, direction, audio)
+            let image = Image::of(image);
+            let audio = e.range(table::reading_of(image.general));
+            under_rules(&image, s, dial, kind, direction, audio)
         }
         Policy::Broken => unruled(s, dial, e, Verdict::Blocked, Code::ProfileBroken),
     }
