@@ -11,7 +11,8 @@ use Rattle.occupancy.specs.Edges.{range_of}
 use Rattle.occupancy.specs.declared.Edges.{Edges}
 use Rattle.station.specs.declared.Situation.{Situation}
 use Rattle.table.specs.Parts.{reading_of}
-use Rattle.table.specs.Table.{Table}
+use Rattle.table.specs.Table.{Table, table_of}
+use Rattle.transmission.specs.declared.Transmission.{Transmission}
 use Rattle.decision.specs.Number.{no_rule}
 use Rattle.decision.specs.Decision.{is_blocked, finish_of, simple_of}
 use Rattle.decision.specs.declared.Verdict.TheVariants.{Blocked}
@@ -52,6 +53,11 @@ led_to table s Unset dial kind direction e f = unruled_of s dial e f.verdict f.c
 led_to table s NoneApply dial kind direction e f = unruled_of s dial e f.verdict f.code
 led_to table s Rules dial kind direction e f = led_by_rules table s dial kind direction (range_of e (reading_of table.general)) f
 led_to table s Broken dial kind direction e f = unruled_of s dial e f.verdict f.code
+
+-- of a transmission
+abbrev pub led_on : Transmission → Finding → Decision
+led_on x f =
+    led_to (table_of x.station.now.lent.now) x.station.now.situation x.station.now.situation.policy x.dial x.kind x.direction x.edges f
 
 -- Something blocks exactly where the decision does, and it leads to that decision.
 pub record Barred (led : Finding → Decision) (d : Decision) (x : Option Finding) : Type 0 where

@@ -93,13 +93,6 @@ pub fn case_of(
     }
 }
 
-// The audio range, by an image's reading.
-fn audio(image: &Image, x: &Transmission) -> Range
-    ensures { result ≡ audio_on image.now x.now }
-{
-    x.edges.range(table::reading_of(image.general))
-}
-
 // The prerequisites in order: the case to judge under an image, or the first that is missing, with its rule.
 #[tactic(auto, unfolding(crate::specs::Verdict::ready_of))]
 pub fn prepare(image: &Image, x: &Transmission) -> Result<Case, Missing>
@@ -121,14 +114,16 @@ pub fn prepare(image: &Image, x: &Transmission) -> Result<Case, Missing>
     let Some(hz) = x.dial else {
         return Err(Missing::new(Code::NoDial, decision::NO_RULE));
     };
-    Ok(case_of(x, control, class, sideband, hz, audio(image, x)))
+    let audio = x.edges.range(table::reading_of(image.general));
+    Ok(case_of(x, control, class, sideband, hz, audio))
 }
 
 // Blocked under an image by what is missing.
 pub fn unmet(image: &Image, x: &Transmission, m: Missing) -> Decision
     ensures { result ≡ simple_of (signal_of x.now.dial x.now.station.now.situation.sideband (audio_on image.now x.now)) Blocked m.code m.rule }
 {
-    let signal = signal_of(x.dial, x.station.situation.sideband, audio(image, x));
+    let audio = x.edges.range(table::reading_of(image.general));
+    let signal = signal_of(x.dial, x.station.situation.sideband, audio);
     decision::simple(signal, Verdict::Blocked, m.code, m.rule)
 }
 
