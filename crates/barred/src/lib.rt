@@ -71,7 +71,7 @@ fn bar_by(code: Code, rule: u16) -> Option<Finding>
 }
 
 // What blocks, by the policy. Under Rules that is a prerequisite that is missing, and else what Part 97 finds.
-#[tactic(auto, using(crate::specs::Barring::bar_none, crate::specs::Barring::bar_free))]
+#[tactic(auto, using(crate::specs::Barring::bar_none))]
 pub fn barring(x: &Transmission) -> Option<Finding>
     ensures { Barred (led_on x.now) (decision_on x.now) result }
 {
