@@ -73,7 +73,7 @@ impl<'a> Ladder<'a> {
     ghost use Rattle.ceiling.specs.Ladder.{judge_on, lead_on, bursts_on};
 
     // The call, read.
-    #[tactic(auto, using(verdict::specs::Laws::rules_whole, rungs::specs::Laws::rungs_marked, rungs::specs::Laws::rungs_few))]
+    #[tactic(auto, using(rungs::specs::Laws::rungs_marked, rungs::specs::Laws::rungs_few))]
     pub fn of(q: &Call<'a>) -> Self
         requires { refusal_of (ceiling_tests q.now.record q.now.direction q.now.rungs.ordinary q.now.rungs.floor q.now.image.now
             q.now.rungs.figures.now q.now.rungs.floors.now) ≡ Ok tt }
@@ -101,6 +101,7 @@ impl<'a> Ladder<'a> {
     }
 
     // The transmission of an envelope: data.
+    #[tactic(auto, unfolding(crate::specs::Ceiling::judge_by, crate::specs::Ceiling::lead_by))]
     fn sent(&self, envelope: Edges) -> Transmission<'_>
         ensures judged { decision_on result ≡ judge_on self.now envelope }
         ensures led { led_on result ≡ lead_on self.now envelope }
