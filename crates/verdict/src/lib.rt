@@ -138,7 +138,7 @@ pub fn unruled(x: &Transmission, verdict: Verdict, code: Code) -> Decision
 }
 
 // By the policy. Under Rules Part 97 judges the case, and what is missing blocks.
-#[tactic(auto, using(crate::specs::Laws::under_met, crate::specs::Laws::under_missing), unfolding(crate::specs::Verdict::decide_of, crate::specs::Verdict::under_rules_of))]
+#[tactic(auto, unfolding(crate::specs::Verdict::decide_of, crate::specs::Verdict::under_rules_of))]
 pub fn decide(x: &Transmission) -> Decision
     ensures { result ≡ decision_on x.now }
 {
@@ -157,10 +157,10 @@ pub fn decide(x: &Transmission) -> Decision
 }
 
 // The codes beside the record.
-fn beside_valid(kind: u8, direction: u8) -> bool
-    ensures { result ≡ beside_valid kind direction }
+fn beside_valid(q: &Call) -> bool
+    ensures { result ≡ beside_valid q.now.kind q.now.direction }
 {
-    kind <= 3 && codes::direction_valid(direction)
+    q.kind <= 3 && codes::direction_valid(q.direction)
 }
 
 // Refusals 20 to 22, 1 to 14 and 15.
@@ -168,7 +168,7 @@ fn beside_valid(kind: u8, direction: u8) -> bool
 pub fn evaluate_refusals(q: &Call) -> Checked
     ensures { result ≡ refusal_of (evaluate_tests q.now.record q.now.kind q.now.direction q.now.edges q.now.image.now) }
 {
-    entry::admit(q.record, beside_valid(q.kind, q.direction), q.image)?;
+    entry::admit(q.record, beside_valid(q), q.image)?;
     if !entry::edges_valid(q.edges) {
         return Err(Refusal::SignalEdge);
     }
