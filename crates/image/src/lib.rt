@@ -6,6 +6,7 @@ ghost use Rattle.std.specs.Prelude.{◌≡◌, ◌<◌, ℕ, Bool, false};
 ghost use Rattle.codes.specs.Refusal.{refusal_of};
 ghost use Rattle.scan.specs.First.{some};
 ghost use Rattle.layout.specs.Form.{Whole};
+ghost use Rattle.layout.specs.Layout.{start_of};
 ghost use Rattle.table.specs.Table.{Table, table_of};
 ghost use Rattle.find.specs.Question.{some_in, homeless_of};
 ghost use Rattle.image.specs.Check.{coded_block, miscoded, sound_block, unsound, bare, unlimited, content_tests, check_of, accepted_of};
@@ -19,8 +20,10 @@ use whole::Image;
 
 // What holds a table that refusals 5 to 14 are asked of: an image, what an image is written from, the effective image of a day.
 pub trait Source {
-    // The table.
+    // The table, and where each of its nine begins.
     ghost table: { Self → Table };
+
+    ghost begins: { Self → ℕ → ℕ };
 
     fn general(&self) -> General
         ensures { result ≡ (table self.now).general };
@@ -30,12 +33,32 @@ pub trait Source {
         requires { t < 9 }
         ensures { result ≡ (table self.now).count t };
 
-    // Whether one of them passes a test. A test that answers as p does, record by record, passes what p passes.
+    // Where table t begins, counted as the source counts.
+    fn start_of(&self, t: usize) -> usize
+        requires { t < 9 }
+        ensures { result ≡ begins self.now t };
+
+    // Record i of table t, which begins there.
+    fn record_in(&self, t: usize, start: usize, i: usize) -> Record
+        requires { (t < 9) × (start ≡ begins self.now t) × (i < (table self.now).count t) }
+        ensures { result ≡ (table self.now).at t i };
+
+    // Whether a record of table t passes a test. A test that answers as p does, record by record, passes what p passes.
     fn some_of<F: Fn(Record) -> bool>(&self, t: usize, test: F) -> bool
         requires lies { t < 9 }
         requires can { (i : ℕ) → i < (table self.now).count t → F.pre test ((table self.now).at t i) }
         ensures { (p : ℕ → Bool) → ((i : ℕ) (b : Bool) → i < (table self.now).count t → F.post test ((table self.now).at t i) b → b ≡ p i)
-            → result ≡ some p ((table self.now).count t) };
+            → result ≡ some p ((table self.now).count t) }
+    {
+        let start = self.start_of(t);
+        let count = self.count_of(t) as usize;
+        for i in 0..count {
+            if test(self.record_in(t, start, i)) {
+                return true;
+            }
+        }
+        false
+    }
 
     // Whether a question fits one of them.
     fn some_in(&self, t: usize, q: Question) -> bool
@@ -49,6 +72,8 @@ pub trait Source {
 impl Source for Image<'_> {
     ghost table = { table_of };
 
+    ghost begins = { start_of };
+
     fn general(&self) -> General {
         self.general
     }
@@ -57,8 +82,14 @@ impl Source for Image<'_> {
         Image::count_of(self, t)
     }
 
-    fn some_of<F: Fn(Record) -> bool>(&self, t: usize, test: F) -> bool {
-        table::some_of(self, t, test)
+    fn start_of(&self, t: usize) -> usize {
+        Image::start_of(self, t)
+    }
+
+    #[tactic(auto, using(layout::specs::Laws::table_within, table::specs::Laws::count_in_holds, table::specs::Laws::read_in))]
+    fn record_in(&self, _t: usize, start: usize, i: usize) -> Record {
+        let bytes = self.bytes;
+        layout::record_at(bytes, start + layout::RECORD_SIZE * i)
     }
 
     fn some_in(&self, t: usize, q: Question) -> bool {
