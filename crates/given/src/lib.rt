@@ -166,7 +166,8 @@ pub struct Given<'a> {
     pub general: General,
     pub counts: &'a [u16; 9],
     pub records: Records<'a>,
-    pub ghost held: { (Held records (before_from counts.now 9)) × (before_from counts.now 9 ≤ 2045) },
+    pub ghost held: { Held records (before_from counts.now 9) },
+    pub ghost few: { before_from counts.now 9 ≤ 2045 },
 }
 
 impl Source for Given<'_> {
