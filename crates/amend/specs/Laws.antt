@@ -25,25 +25,6 @@ use Rattle.amended.specs.Amended.{replacement_of, counting, slot_of, slot_at, am
 use Rattle.amended.specs.Effective.{amended_more, amended_length, same_length, few_bytes, slot_within, count_same, general_same, form_same, record_of_same}
 use Rattle.amend.specs.Amend.{amend_tests}
 
-module _ (l a : List ℕ) (day : ℕ) (w : Whole l) where
-  abbrev image : List ℕ
-  image = effective_of l a day
-
-  pub count_in_same : (t : ℕ) → t < tables → count_in image t ≡ count_of l t
-  count_in_same t h = count_in_holds image t h ∙ count_same l a day w t h
-
-  -- record i of table t, read by its place among all
-  pub record_read :
-      (t i start : ℕ) (r : Record) → t < tables → i < count_of l t → start ≡ records_before l t → r ≡ record_at image (slot_at l (start + i))
-      → r ≡ record_in image t i
-  record_read t i start r h k s e =
-      e ∙ ap (λ (x : ℕ). record_at image (slot_at l (x + i))) s
-      ∙ sym (at_in image t i h (subst (λ (n : ℕ). i < n) (sym (count_same l a day w t h)) k) ∙ record_of_same l a day w t i h)
-
-  -- a place of table t is one of the image's
-  pub slot_below : (t i : ℕ) → t < tables → i < count_of l t → slot_of l t i < records_before l tables
-  slot_below t i h k = omega (arith, table_within l w t h, w.filled)
-
 -- ---- what an accepted base leaves to be asked of the effective image
 
 record Kept (table : Table) : Type 0 where

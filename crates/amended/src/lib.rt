@@ -1,15 +1,17 @@
 // Amendments with a day: a lent list of them and its refusal, which one counts for each record of an image, and the record that is in force. It
-// uses layout, scan and whole; its laws use alike.
+// uses layout, scan, whole and image; its definitions and laws use table and alike.
 #![tactic(auto)]
 
 ghost use Rattle.std.specs.Prelude.{◌≡◌, false, ◌+◌, ◌*◌, ◌≤◌, ◌<◌, length};
 ghost use Rattle.std.specs.Option.{IfSome};
 ghost use Rattle.layout.specs.Form.{Whole};
 ghost use Rattle.layout.specs.Layout.{record_at, records_before};
+ghost use Rattle.table.specs.Table.{table_of};
 ghost use Rattle.amended.specs.Amended.{amendments_in, table_at, index_at, day_at, stray_at, list_wrong, named_at, counting, slot_at, effective_of};
 ghost use Rattle.amended.specs.Latest.{Named, Earlier, found_from, superseded, onward, Indexed, Ready};
 
-use layout::Record;
+use image::Source;
+use layout::{General, Record};
 use whole::Image;
 
 pub const AMENDMENT_SIZE: usize = 40;
@@ -211,5 +213,33 @@ impl<'a> Effective<'a> {
                 )
             }
         }
+    }
+}
+
+impl Source for Effective<'_> {
+    ghost table = { λ e. table_of (effective_of e.of.image.now e.of.list.bytes.now e.of.day) };
+
+    ghost begins = { λ e t. records_before e.of.image.now t };
+
+    // The general block is the base's.
+    #[tactic(auto, using(crate::specs::Effective::general_same))]
+    fn general(&self) -> General {
+        let image = self.of.image;
+        image.general
+    }
+
+    #[tactic(auto, using(crate::specs::Effective::count_in_same))]
+    fn count_of(&self, t: usize) -> u16 {
+        self.of.image.count_of(t)
+    }
+
+    fn start_of(&self, t: usize) -> usize {
+        let image = self.of.image;
+        layout::records_before(image.bytes, t) as usize
+    }
+
+    #[tactic(auto, using(crate::specs::Effective::count_in_same, crate::specs::Effective::record_read, crate::specs::Effective::slot_below))]
+    fn record_in(&self, _t: usize, start: usize, i: usize) -> Record {
+        self.record_at(start + i)
     }
 }
