@@ -1,28 +1,26 @@
--- Laws of the amending call: what the effective image keeps of an accepted base, what a scan of its table asks, and what is written.
+-- Laws of the amending call: what the effective image keeps of an accepted base and what is written.
 use Rattle.std.specs.Prelude.{ℕ, suc, ◌+◌, ◌<◌, ◌≤◌, true, false, not, ◌≡◌, refl, ltb, length, set, Option, Some, None, Result, Ok, Err}
 use Rattle.codes.specs.declared.Refusal.TheVariants as refusal
 use Rattle.codes.specs.Refusal.{Checked, Test, test, refusal_of}
 use Rattle.codes.specs.declared.Refusal.{Refusal}
 use mathlib.Core.List.{List, [], ◌∷◌, ◌++◌}
 use Rattle.std.proofs.Math.Path.{sym, ap}
-use Rattle.std.proofs.Common.{subst, ◌∙◌, arith, le-ltb, lt-ltb, length-set}
+use Rattle.std.proofs.Common.{◌∙◌, arith, le-ltb, lt-ltb, length-set}
 use Rattle.std.proofs.lemmas.Bool.{not-false}
 use Rattle.std.proofs.Math.ListN.{drop}
 use Rattle.std.proofs.lemmas.List.Edits.{sets}
 use Rattle.std.proofs.lemmas.List.{set-append_left}
 use Rattle.codes.specs.Laws.{refusal_next, refusal_stays, refusal_both, none_fails}
 use Rattle.scan.specs.First.{some, on_found}
-use Rattle.layout.specs.Layout.{tables, bands, segments, channels, plan_data, plan_avoid, count_of, records_before, record_at, general_of}
+use Rattle.layout.specs.Layout.{tables, bands, segments, channels, plan_data, plan_avoid, records_before, general_of}
 use Rattle.layout.specs.Form.{form_tests, Whole}
-use Rattle.layout.specs.Laws.{or_false_both, table_within}
-use Rattle.layout.specs.declared.Record.{Record}
-use Rattle.table.specs.Table.{Table, count_in, record_in, table_of}
-use Rattle.table.specs.Laws.{count_in_holds, at_in}
+use Rattle.layout.specs.Laws.{or_false_both}
+use Rattle.table.specs.Table.{Table, table_of}
 use Rattle.image.specs.Check.{coded_block, miscoded_in, miscoded, sound_block, unsound_in, unsound, bare, unlimited, content_tests, check_tests, check_of}
 use Rattle.image.specs.Laws.{accepted_whole}
 use Rattle.writer.specs.Write.{image_answer, image_bytes, Left}
-use Rattle.amended.specs.Amended.{replacement_of, counting, slot_of, slot_at, amended_to, effective_of, list_wrong}
-use Rattle.amended.specs.Effective.{amended_more, amended_length, same_length, few_bytes, slot_within, count_same, general_same, form_same, record_of_same}
+use Rattle.amended.specs.Amended.{replacement_of, counting, slot_at, amended_to, effective_of, list_wrong}
+use Rattle.amended.specs.Effective.{amended_more, amended_length, same_length, few_bytes, slot_within, count_same, general_same, form_same}
 use Rattle.amend.specs.Amend.{amend_tests}
 
 -- ---- what an accepted base leaves to be asked of the effective image
