@@ -1,48 +1,27 @@
--- Laws of the amending call: what the effective image keeps of an accepted base, what a scan of its table asks, and what is written.
+-- Laws of the amending call: what the effective image keeps of an accepted base and what is written.
 use Rattle.std.specs.Prelude.{ℕ, suc, ◌+◌, ◌<◌, ◌≤◌, true, false, not, ◌≡◌, refl, ltb, length, set, Option, Some, None, Result, Ok, Err}
 use Rattle.codes.specs.declared.Refusal.TheVariants as refusal
 use Rattle.codes.specs.Refusal.{Checked, Test, test, refusal_of}
 use Rattle.codes.specs.declared.Refusal.{Refusal}
 use mathlib.Core.List.{List, [], ◌∷◌, ◌++◌}
 use Rattle.std.proofs.Math.Path.{sym, ap}
-use Rattle.std.proofs.Common.{subst, ◌∙◌, arith, le-ltb, lt-ltb, length-set}
+use Rattle.std.proofs.Common.{◌∙◌, arith, le-ltb, lt-ltb, length-set}
 use Rattle.std.proofs.lemmas.Bool.{not-false}
 use Rattle.std.proofs.Math.ListN.{drop}
 use Rattle.std.proofs.lemmas.List.Edits.{sets}
 use Rattle.std.proofs.lemmas.List.{set-append_left}
 use Rattle.codes.specs.Laws.{refusal_next, refusal_stays, refusal_both, none_fails}
 use Rattle.scan.specs.First.{some, on_found}
-use Rattle.layout.specs.Layout.{tables, bands, segments, channels, plan_data, plan_avoid, count_of, records_before, record_at, general_of}
+use Rattle.layout.specs.Layout.{tables, bands, segments, channels, plan_data, plan_avoid, records_before, general_of}
 use Rattle.layout.specs.Form.{form_tests, Whole}
-use Rattle.layout.specs.Laws.{or_false_both, table_within}
-use Rattle.layout.specs.declared.Record.{Record}
-use Rattle.table.specs.Table.{Table, count_in, record_in, table_of}
-use Rattle.table.specs.Laws.{count_in_holds, at_in}
+use Rattle.layout.specs.Laws.{or_false_both}
+use Rattle.table.specs.Table.{Table, table_of}
 use Rattle.image.specs.Check.{coded_block, miscoded_in, miscoded, sound_block, unsound_in, unsound, bare, unlimited, content_tests, check_tests, check_of}
 use Rattle.image.specs.Laws.{accepted_whole}
 use Rattle.writer.specs.Write.{image_answer, image_bytes, Left}
-use Rattle.amended.specs.Amended.{replacement_of, counting, slot_of, slot_at, amended_to, effective_of, list_wrong}
-use Rattle.amended.specs.Effective.{amended_more, amended_length, same_length, few_bytes, slot_within, count_same, general_same, form_same, record_of_same}
+use Rattle.amended.specs.Amended.{replacement_of, counting, slot_at, amended_to, effective_of, list_wrong}
+use Rattle.amended.specs.Effective.{amended_more, amended_length, same_length, few_bytes, slot_within, count_same, general_same, form_same}
 use Rattle.amend.specs.Amend.{amend_tests}
-
-module _ (l a : List ℕ) (day : ℕ) (w : Whole l) where
-  abbrev image : List ℕ
-  image = effective_of l a day
-
-  pub count_in_same : (t : ℕ) → t < tables → count_in image t ≡ count_of l t
-  count_in_same t h = count_in_holds image t h ∙ count_same l a day w t h
-
-  -- record i of table t, read by its place among all
-  pub record_read :
-      (t i start : ℕ) (r : Record) → t < tables → i < count_of l t → start ≡ records_before l t → r ≡ record_at image (slot_at l (start + i))
-      → r ≡ record_in image t i
-  record_read t i start r h k s e =
-      e ∙ ap (λ (x : ℕ). record_at image (slot_at l (x + i))) s
-      ∙ sym (at_in image t i h (subst (λ (n : ℕ). i < n) (sym (count_same l a day w t h)) k) ∙ record_of_same l a day w t i h)
-
-  -- a place of table t is one of the image's
-  pub slot_below : (t i : ℕ) → t < tables → i < count_of l t → slot_of l t i < records_before l tables
-  slot_below t i h k = omega (arith, table_within l w t h, w.filled)
 
 -- ---- what an accepted base leaves to be asked of the effective image
 

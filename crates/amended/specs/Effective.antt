@@ -5,7 +5,7 @@ use Rattle.std.specs.Prelude.{Option, Some, None, Bool, not, ◌&&◌, ◌||◌,
 use Rattle.std.proofs.Math.Bool.{true, false, cond}
 use mathlib.Core.List.{List, [], ◌∷◌}
 use Rattle.std.proofs.Math.Path.{refl, sym, ap, ap₂}
-use Rattle.std.proofs.Common.{◌∙◌, length-set, length-take, length-drop, length-take-le, get_or-set_same, get_or-set_other, get_or-take, get_or-drop}
+use Rattle.std.proofs.Common.{◌∙◌, subst, length-set, length-take, length-drop, length-take-le, get_or-set_same, get_or-set_other, get_or-take, get_or-drop}
 use Rattle.std.proofs.Math.Nat.{zero-add, suc-add}
 use native.Mathlib.Omega.{arith}
 use Rattle.std.proofs.Math.ListN.{length}
@@ -17,9 +17,13 @@ use Rattle.codes.specs.Refusal.{Test, test}
 use Rattle.layout.specs.Bytes.{byte_at, u64_at}
 use Rattle.layout.specs.Layout.{general_size, watts_size, record_size, trailer_size, tables, trailer_of, is_second, count_of, distance_back, edition_of}
 use Rattle.layout.specs.Layout.{records_before, tables_from, record_at, record_of, watts_at, general_of, fixed_channel_watts, fixed_segment_watts}
+use Rattle.layout.specs.declared.Record.{Record}
+use Rattle.layout.specs.Laws.{table_within}
 use Rattle.layout.specs.Form.{letters, size_wrong, letter_right, letters_wrong, edition_wrong, overfull_at, counts_wrong, form_tests, Whole}
+use Rattle.table.specs.Table.{count_in, record_in}
+use Rattle.table.specs.Laws.{count_in_holds, at_in}
 use Rattle.alike.specs.Alike.{Alike, alike_part, u16_alike, u32_alike, u64_alike, record_alike, general_alike}
-use Rattle.amended.specs.Amended.{amendments_in, replacement_at, replacement_of, counting, slot_at, amended_to, effective_of}
+use Rattle.amended.specs.Amended.{amendments_in, replacement_at, replacement_of, counting, slot_of, slot_at, amended_to, effective_of}
 use Rattle.amended.specs.Latest.{latest_below, within_list, tables_far}
 
 -- ---- stores into a list of bytes
@@ -265,3 +269,20 @@ module _ (l a : List ℕ) (day : ℕ) (w : Whole l) where
       let e : tables_from l + record_size * records_before l t + record_size * i ≡ slot_at l (records_before l t + i) = omega arith in
       ap₂ (λ (x y : ℕ). record_at image (x + record_size * y + record_size * i)) from_same (before_same t (omega arith))
       ∙ ap (record_at image) e
+
+  -- ---- the table
+
+  pub count_in_same : (t : ℕ) → t < tables → count_in image t ≡ count_of l t
+  count_in_same t h = count_in_holds image t h ∙ count_same t h
+
+  -- record i of table t, read by its place among all
+  pub record_read :
+      (t i start : ℕ) (r : Record) → t < tables → i < count_of l t → start ≡ records_before l t → r ≡ record_at image (slot_at l (start + i))
+      → r ≡ record_in image t i
+  record_read t i start r h k s e =
+      e ∙ ap (λ (x : ℕ). record_at image (slot_at l (x + i))) s
+      ∙ sym (at_in image t i h (subst (λ (n : ℕ). i < n) (sym (count_same t h)) k) ∙ record_of_same t i h)
+
+  -- a place of table t is one of the image's
+  pub slot_below : (t i : ℕ) → t < tables → i < count_of l t → slot_of l t i < records_before l tables
+  slot_below t i h k = omega (arith, table_within l w t h, w.filled)

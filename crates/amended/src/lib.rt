@@ -1,83 +1,155 @@
 // Amendments with a day: a lent list of them and its refusal, which one counts for each record of an image, and the record that is in force. It
-// uses layout and scan; its laws use alike.
+// uses layout, scan, whole and image; its definitions and laws use table and alike.
 #![tactic(auto)]
 
 ghost use Rattle.std.specs.Prelude.{◌≡◌, false, ◌+◌, ◌*◌, ◌≤◌, ◌<◌, length};
 ghost use Rattle.std.specs.Option.{IfSome};
 ghost use Rattle.layout.specs.Form.{Whole};
 ghost use Rattle.layout.specs.Layout.{record_at, records_before};
-ghost use Rattle.amended.specs.Amended.{table_at, index_at, day_at, stray_at, list_wrong, named_at, counting, slot_at, effective_of};
+ghost use Rattle.table.specs.Table.{table_of};
+ghost use Rattle.amended.specs.Amended.{amendments_in, table_at, index_at, day_at, stray_at, list_wrong, named_at, counting, slot_at, effective_of};
 ghost use Rattle.amended.specs.Latest.{Named, Earlier, found_from, superseded, onward, Indexed, Ready};
 
-use layout::Record;
+use image::Source;
+use layout::{General, Record};
+use whole::Image;
 
 pub const AMENDMENT_SIZE: usize = 40;
 
 // The most amendments whose places fit the index's numbers.
 const MOST: usize = u32::MAX as usize;
 
-// The table, the index and the day of amendment j.
-fn table_at(list: &[u8], j: usize) -> usize
-    requires { 40 * j + 40 ≤ length list.now }
-    ensures { result ≡ table_at list.now j }
-{
-    layout::u16_at(list, AMENDMENT_SIZE * j) as usize
+// A lent list of amendments.
+#[derive(Clone, Copy)]
+pub struct Amendments<'a> {
+    pub bytes: &'a [u8],
 }
 
-fn index_at(list: &[u8], j: usize) -> usize
-    requires { 40 * j + 40 ≤ length list.now }
-    ensures { result ≡ index_at list.now j }
-{
-    layout::u16_at(list, AMENDMENT_SIZE * j + 2) as usize
-}
-
-fn day_at(list: &[u8], j: usize) -> u32
-    requires { 40 * j + 40 ≤ length list.now }
-    ensures { result ≡ day_at list.now j }
-{
-    layout::u32_at(list, AMENDMENT_SIZE * j + 4)
-}
-
-// Whether amendment j names a table above 8 or an index beyond its table.
-fn is_stray(image: &[u8], list: &[u8], j: usize) -> bool
-    requires { (28 ≤ length image.now) × (40 * j + 40 ≤ length list.now) }
-    ensures { result ≡ stray_at image.now list.now j }
-{
-    let t = table_at(list, j);
-    layout::TABLES <= t || layout::count_of(image, t) as usize <= index_at(list, j)
-}
-
-// 27: the list is not in forties, or an amendment is stray.
-#[tactic(auto, unfolding(crate::specs::Amended::list_wrong))]
-pub fn list_wrong(image: &[u8], list: &[u8]) -> bool
-    requires { 28 ≤ length image.now }
-    ensures { result ≡ list_wrong image.now list.now }
-{
-    list.len() % AMENDMENT_SIZE != 0
-        || scan::some(list.len() / AMENDMENT_SIZE, |j| is_stray(image, list, j))
-}
-
-// The record that amendment j names, of all the image's records.
-#[tactic(auto, using(crate::specs::Latest::named_below, crate::specs::Latest::few_records))]
-fn named_at(image: &[u8], list: &[u8], j: usize) -> usize
-    requires { (Whole image.now) × (40 * j + 40 ≤ length list.now) × (Named image.now list.now j) }
-    ensures { (result ≡ named_at image.now list.now j) × (result < 2045) }
-{
-    layout::records_before(image, table_at(list, j)) as usize + index_at(list, j)
-}
-
-// What is found after amendment j, which names the record: j, where it is in force and not of an earlier day than what was found before.
-fn superseded(list: &[u8], day: u32, found: Option<usize>, j: usize) -> Option<usize>
-    requires { (40 * j + 40 ≤ length list.now) × (Earlier found j) }
-    ensures { result ≡ superseded list.now day found j }
-{
-    let own = day_at(list, j);
-    if day < own {
-        return found;
+impl<'a> Amendments<'a> {
+    // How many it has.
+    fn count(&self) -> usize
+        ensures { result ≡ amendments_in self.now.bytes.now }
+    {
+        self.bytes.len() / AMENDMENT_SIZE
     }
-    match found {
-        Some(i) if own < day_at(list, i) => found,
-        _ => Some(j),
+
+    // The table, the index and the day of amendment j.
+    fn table_at(&self, j: usize) -> usize
+        requires { j < amendments_in self.now.bytes.now }
+        ensures { result ≡ table_at self.now.bytes.now j }
+    {
+        layout::u16_at(self.bytes, AMENDMENT_SIZE * j) as usize
+    }
+
+    fn index_at(&self, j: usize) -> usize
+        requires { j < amendments_in self.now.bytes.now }
+        ensures { result ≡ index_at self.now.bytes.now j }
+    {
+        layout::u16_at(self.bytes, AMENDMENT_SIZE * j + 2) as usize
+    }
+
+    fn day_at(&self, j: usize) -> u32
+        requires { j < amendments_in self.now.bytes.now }
+        ensures { result ≡ day_at self.now.bytes.now j }
+    {
+        layout::u32_at(self.bytes, AMENDMENT_SIZE * j + 4)
+    }
+
+    // Whether amendment j names a table above 8 or an index beyond its table.
+    fn is_stray(&self, image: &[u8], j: usize) -> bool
+        requires { (28 ≤ length image.now) × (j < amendments_in self.now.bytes.now) }
+        ensures { result ≡ stray_at image.now self.now.bytes.now j }
+    {
+        let t = self.table_at(j);
+        layout::TABLES <= t || layout::count_of(image, t) as usize <= self.index_at(j)
+    }
+
+    // 27: the list is not in forties, or an amendment is stray.
+    #[tactic(auto, unfolding(crate::specs::Amended::list_wrong))]
+    pub fn is_wrong(&self, image: &[u8]) -> bool
+        requires { 28 ≤ length image.now }
+        ensures { result ≡ list_wrong image.now self.now.bytes.now }
+    {
+        self.bytes.len() % AMENDMENT_SIZE != 0
+            || scan::some(self.count(), |j| self.is_stray(image, j))
+    }
+}
+
+// An image, a list of amendments that is right for it, and the day that is asked for.
+#[derive(Clone, Copy)]
+pub struct Amending<'a> {
+    pub image: &'a Image<'a>,
+    pub list: Amendments<'a>,
+    pub day: u32,
+    pub ghost right: { list_wrong image.now list.bytes.now ≡ false },
+}
+
+impl<'a> Amending<'a> {
+    // The record that amendment j names, of all the image's records.
+    #[tactic(auto, using(crate::specs::Latest::named_of_right, crate::specs::Latest::named_below, crate::specs::Latest::few_records))]
+    fn named_at(&self, j: usize) -> usize
+        requires { j < amendments_in self.now.list.bytes.now }
+        ensures { (result ≡ named_at self.now.image.now self.now.list.bytes.now j) × (result < 2045) }
+    {
+        let image = self.image;
+        layout::records_before(image.bytes, self.list.table_at(j)) as usize + self.list.index_at(j)
+    }
+
+    // What is found after amendment j, which names the record: j, where it is in force and not of an earlier day than what was found before.
+    fn superseded(&self, found: Option<usize>, j: usize) -> Option<usize>
+        requires { (j < amendments_in self.now.list.bytes.now) × (Earlier found j) }
+        ensures { result ≡ superseded self.now.list.bytes.now self.now.day found j }
+    {
+        let own = self.list.day_at(j);
+        if self.day < own {
+            return found;
+        }
+        match found {
+            Some(i) if own < self.list.day_at(i) => found,
+            _ => Some(j),
+        }
+    }
+
+    // The index of the list: for each record what counts, in one pass.
+    pub fn fill(&self, index: &mut [u32])
+        requires { Indexed self.now.image.now self.now.list.bytes.now self.now.day index.old 0 }
+        ensures { Ready self.now.image.now self.now.list.bytes.now self.now.day index.new }
+    {
+        // The image, looked into, is whole.
+        let image = self.image;
+        let _ = &image.bytes;
+        let count = self.list.count();
+        if MOST < count {
+            return;
+        }
+        for j in 0..count {
+            let k = self.named_at(j);
+            index[k] = held(self.superseded(found(index[k]), j));
+        }
+    }
+
+    // What is found for record k after amendment j.
+    fn onward(&self, k: usize, found: Option<usize>, j: usize) -> Option<usize>
+        requires { (j < amendments_in self.now.list.bytes.now) × (Earlier found j) }
+        ensures { result ≡ onward self.now.image.now self.now.list.bytes.now self.now.day k found j }
+    {
+        if self.named_at(j) == k {
+            self.superseded(found, j)
+        } else {
+            found
+        }
+    }
+
+    // What counts for record k, without the index.
+    #[tactic(auto, using(crate::specs::Latest::latest_more))]
+    fn search(&self, k: usize) -> Option<usize>
+        ensures { result ≡ counting self.now.image.now self.now.list.bytes.now self.now.day k }
+    {
+        let mut found = None;
+        for j in 0..self.list.count() {
+            found = self.onward(k, found, j);
+        }
+        found
     }
 }
 
@@ -105,72 +177,69 @@ fn found(held: u32) -> Option<usize>
     }
 }
 
-// The index of a list: for each record what counts, in one pass.
-pub fn fill(index: &mut [u32], image: &[u8], list: &[u8], day: u32)
-    requires { (Whole image.now) × (list_wrong image.now list.now ≡ false) × (Indexed image.now list.now day index.old 0) }
-    ensures { Ready image.now list.now day index.new }
-{
-    let count = list.len() / AMENDMENT_SIZE;
-    if MOST < count {
-        return;
+// The effective image: an image, a list and a day, with the index that tells which amendments are in force.
+#[derive(Clone, Copy)]
+pub struct Effective<'a> {
+    pub of: Amending<'a>,
+    pub index: &'a [u32],
+    pub ghost ready: { Ready of.image.now of.list.bytes.now of.day index.now },
+}
+
+impl<'a> Effective<'a> {
+    // The amendment that counts for record k: by the index, which lists of any length that a machine can hold have.
+    pub fn counting(&self, k: usize) -> Option<usize>
+        requires { k < 2045 }
+        ensures value { result ≡ counting self.now.of.image.now self.now.of.list.bytes.now self.now.of.day k }
+        ensures within { IfSome result (λ j. 40 * j + 40 ≤ length self.now.of.list.bytes.now) }
+    {
+        if MOST < self.of.list.count() {
+            return self.of.search(k);
+        }
+        found(self.index[k])
     }
-    for j in 0..count {
-        let k = named_at(image, list, j);
-        index[k] = held(superseded(list, day, found(index[k]), j));
+
+    // Record k of the effective image.
+    pub fn record_at(&self, k: usize) -> Record
+        requires { k < records_before self.now.of.image.now 9 }
+        ensures { result ≡ record_at (effective_of self.now.of.image.now self.now.of.list.bytes.now self.now.of.day) (slot_at self.now.of.image.now k) }
+    {
+        match self.counting(k) {
+            Some(j) => layout::record_at(self.of.list.bytes, AMENDMENT_SIZE * j + 8),
+            None => {
+                let image = self.of.image;
+                layout::record_at(
+                    image.bytes,
+                    layout::tables_from(image.bytes) + layout::RECORD_SIZE * k,
+                )
+            }
+        }
     }
 }
 
-// What is found for record k after amendment j.
-fn onward(
-    image: &[u8],
-    list: &[u8],
-    day: u32,
-    k: usize,
-    found: Option<usize>,
-    j: usize,
-) -> Option<usize>
-    requires { (Whole image.now) × (40 * j + 40 ≤ length list.now) × (Named image.now list.now j) × (Earlier found j) }
-    ensures { result ≡ onward image.now list.now day k found j }
-{
-    if named_at(image, list, j) == k {
-        superseded(list, day, found, j)
-    } else {
-        found
-    }
-}
+impl Source for Effective<'_> {
+    ghost table = { λ e. table_of (effective_of e.of.image.now e.of.list.bytes.now e.of.day) };
 
-// What counts for record k, without the index.
-#[tactic(auto, using(crate::specs::Latest::latest_more))]
-fn search(image: &[u8], list: &[u8], day: u32, k: usize) -> Option<usize>
-    requires { (Whole image.now) × (list_wrong image.now list.now ≡ false) }
-    ensures { result ≡ counting image.now list.now day k }
-{
-    let mut found = None;
-    for j in 0..list.len() / AMENDMENT_SIZE {
-        found = onward(image, list, day, k, found, j);
-    }
-    found
-}
+    ghost begins = { λ e t. records_before e.of.image.now t };
 
-// The amendment that counts for record k: by the index, which lists of any length that a machine can hold have.
-pub fn counting(image: &[u8], list: &[u8], day: u32, index: &[u32], k: usize) -> Option<usize>
-    requires { (Ready image.now list.now day index.now) × (k < 2045) }
-    ensures value { result ≡ counting image.now list.now day k }
-    ensures within { IfSome result (λ j. 40 * j + 40 ≤ length list.now) }
-{
-    if MOST < list.len() / AMENDMENT_SIZE {
-        return search(image, list, day, k);
+    // The general block is the base's.
+    #[tactic(auto, using(crate::specs::Effective::general_same))]
+    fn general(&self) -> General {
+        let image = self.of.image;
+        image.general
     }
-    found(index[k])
-}
 
-// Record k of the effective image.
-pub fn record_at(image: &[u8], list: &[u8], day: u32, index: &[u32], k: usize) -> Record
-    requires { (Ready image.now list.now day index.now) × (k < records_before image.now 9) }
-    ensures { result ≡ record_at (effective_of image.now list.now day) (slot_at image.now k) }
-{
-    match counting(image, list, day, index, k) {
-        Some(j) => layout::record_at(list, AMENDMENT_SIZE * j + 8),
-        None => layout::record_at(image, layout::tables_from(image) + layout::RECORD_SIZE * k),
+    #[tactic(auto, using(crate::specs::Effective::count_in_same))]
+    fn count_of(&self, t: usize) -> u16 {
+        self.of.image.count_of(t)
+    }
+
+    fn start_of(&self, t: usize) -> usize {
+        let image = self.of.image;
+        layout::records_before(image.bytes, t) as usize
+    }
+
+    #[tactic(auto, using(crate::specs::Effective::count_in_same, crate::specs::Effective::record_read, crate::specs::Effective::slot_below))]
+    fn record_in(&self, _t: usize, start: usize, i: usize) -> Record {
+        self.record_at(start + i)
     }
 }

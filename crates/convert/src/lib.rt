@@ -1,39 +1,41 @@
-// The converters between the two editions of an image. Public calls. They use codes, layout, image, byte_writes and writer.
+// The converters between the two editions of an image. Public calls. They use codes, layout, whole, image, byte_writes and writer.
 #![tactic(auto)]
 
 ghost use Rattle.std.specs.Prelude.{◌≡◌, false, ◌+◌, ◌≤◌, length, take, drop};
 ghost use Rattle.std.proofs.lemmas.List.Edits.{sets};
 ghost use Rattle.codes.specs.Refusal.{refusal_of};
 ghost use Rattle.layout.specs.Layout.{edition_of};
-ghost use Rattle.layout.specs.Form.{Whole};
+ghost use Rattle.image.specs.Check.{image_or};
 ghost use Rattle.given.specs.Tests.{neither_edition};
 ghost use Rattle.writer.specs.Write.{room_test, Left};
 ghost use Rattle.convert.specs.Convert.{from_tests, other_watts, lower_tests, raised_of, lowered_of, Raised, Lowered};
 ghost use Rattle.convert.specs.Laws.{early};
 
-use codes::{Checked, Refusal};
+use codes::Refusal;
 use layout::General;
+use whole::Image;
 
 // Whether a refusal comes before the edition is looked at.
-fn is_early(c: Checked) -> bool
-    ensures { result ≡ early c }
+fn is_early(r: Refusal) -> bool
+    ensures { result ≡ early (Err r) }
 {
-    matches!(c, Err(Refusal::ImageLength | Refusal::Letters))
+    matches!(r, Refusal::ImageLength | Refusal::Letters)
 }
 
-// The refusals 1 to 14 of an image that must be of one edition.
-fn refusal(s: &[u8], edition: u16) -> Checked
+// An image that must be of one edition, or its refusal of 1 to 14.
+fn image_of(s: &[u8], edition: u16) -> Result<Image<'_>, Refusal>
     requires { neither_edition edition ≡ false }
-    ensures { result ≡ refusal_of (from_tests edition s.now) }
+    ensures { result ≡ image_or s.now (refusal_of (from_tests edition s.now)) }
 {
-    let form = layout::form(s);
-    if is_early(form) {
-        return form;
+    if let Err(r) = layout::form(s) {
+        if is_early(r) {
+            return Err(r);
+        }
     }
     if layout::edition_of(s) != edition {
         return Err(Refusal::Edition);
     }
-    image::check(s)
+    image::accepted(s)
 }
 
 // Whether the watts are others than those of edition 1.
@@ -44,14 +46,14 @@ fn other_watts(g: General) -> bool
 }
 
 // The same with 26, which an image that is to be lowered can meet.
-fn lower_refusal(s: &[u8]) -> Checked
-    ensures { result ≡ refusal_of (lower_tests s.now) }
+fn lowerable(s: &[u8]) -> Result<Image<'_>, Refusal>
+    ensures { result ≡ image_or s.now (refusal_of (lower_tests s.now)) }
 {
-    refusal(s, layout::SECOND_EDITION)?;
-    if other_watts(layout::general_of(s)) {
+    let image = image_of(s, layout::SECOND_EDITION)?;
+    if other_watts(image.general) {
         return Err(Refusal::Watts);
     }
-    Ok(())
+    Ok(image)
 }
 
 // Bytes of an image, from one place on, to another place of the output.
@@ -63,11 +65,12 @@ pub fn put_part(out: &mut [u8], to: usize, image: &[u8], from: usize, count: usi
 }
 
 // The raised image, where it fits.
-fn put_raised(image: &[u8], out: &mut [u8]) -> Result<u32, Refusal>
-    requires { (Whole image.now) × (edition_of image.now ≡ 1) }
+fn put_raised(image: &Image, out: &mut [u8]) -> Result<u32, Refusal>
+    requires { edition_of image.now ≡ 1 }
     ensures { Left (refusal_of (room_test (raised_of image.now) out.old)) (raised_of image.now)
         out.old out.new result }
 {
+    let image = image.bytes;
     let length = image.len() + layout::WATTS_SIZE;
     if out.len() < length {
         return Err(Refusal::Rows);
@@ -92,11 +95,12 @@ fn put_raised(image: &[u8], out: &mut [u8]) -> Result<u32, Refusal>
 }
 
 // The lowered image, where it fits.
-fn put_lowered(image: &[u8], out: &mut [u8]) -> Result<u32, Refusal>
-    requires { (Whole image.now) × (edition_of image.now ≡ 2) }
+fn put_lowered(image: &Image, out: &mut [u8]) -> Result<u32, Refusal>
+    requires { edition_of image.now ≡ 2 }
     ensures { Left (refusal_of (room_test (lowered_of image.now) out.old)) (lowered_of image.now)
         out.old out.new result }
 {
+    let image = image.bytes;
     let length = image.len() - layout::WATTS_SIZE;
     if out.len() < length {
         return Err(Refusal::Rows);
@@ -118,14 +122,14 @@ fn put_lowered(image: &[u8], out: &mut [u8]) -> Result<u32, Refusal>
 pub fn raise(image: &[u8], out: &mut [u8]) -> Result<u32, Refusal>
     ensures { Raised image.now out.old out.new result }
 {
-    refusal(image, layout::FIRST_EDITION)?;
-    put_raised(image, out)
+    let image = image_of(image, layout::FIRST_EDITION)?;
+    put_raised(&image, out)
 }
 
 // Writes edition 1 of an image of edition 2 whose watts are those of edition 1.
 pub fn lower(image: &[u8], out: &mut [u8]) -> Result<u32, Refusal>
     ensures { Lowered image.now out.old out.new result }
 {
-    lower_refusal(image)?;
-    put_lowered(image, out)
+    let image = lowerable(image)?;
+    put_lowered(&image, out)
 }

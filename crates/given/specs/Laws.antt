@@ -1,18 +1,14 @@
--- Laws of what is given: every table's records lie within the runs, and what a scan of them finds.
-use Rattle.std.specs.Prelude.{ℕ, zero, suc, ◌+◌, ◌*◌, ◌-◌, ◌≤◌, ◌<◌, false, List, ◌≡◌, length, Option, Ok}
-use Rattle.std.proofs.Common.{sym, ap, subst, ◌∙◌, add-one, zero-add, suc-add, le_refl, arith, lt-ltb, ltb-false, eqb-true}
+-- Laws of what is given: every table's records lie within the runs.
+use Rattle.std.specs.Prelude.{ℕ, zero, suc, ◌+◌, ◌*◌, ◌-◌, ◌≤◌, ◌<◌, false, List, ◌≡◌, length, Ok}
+use Rattle.std.proofs.Common.{subst, add-one, zero-add, suc-add, le_refl, arith, lt-ltb, ltb-false, eqb-true}
 use Rattle.std.proofs.lemmas.Bool.{not-false}
-use Rattle.scan.specs.First.{first}
-use Rattle.scan.specs.Laws.{first_same}
 use Rattle.codes.specs.Refusal.{refusal_of}
 use Rattle.codes.specs.Laws.{none_fails}
 use Rattle.layout.specs.Layout.{tables}
 use Rattle.layout.specs.Laws.{or_false_both}
 use Rattle.layout.specs.declared.General.{General}
-use Rattle.find.specs.Question.{asks}
-use Rattle.find.specs.declared.Question.{Question}
 use Rattle.given.specs.Given.{Runs, count_from, before_from, record_from, count_given, record_given}
-use Rattle.given.specs.Tests.{neither_edition, overfull_from, runs_wrong, given_tests, Held, asks_from, first_given}
+use Rattle.given.specs.Tests.{neither_edition, overfull_from, runs_wrong, given_tests, Held}
 
 pub before_more : (n : List ℕ) (t : ℕ) → before_from n (t + 1) ≡ before_from n t + count_from n t
 unfolding before_from
@@ -40,16 +36,6 @@ pub record_given_holds :
     (n : List ℕ) (r : Runs) (t i : ℕ) → t < tables → i < count_from n t → record_given n r t i ≡ record_from r (before_from n t + i)
 unfolding record_given
 record_given_holds n r t i h k = rw (count_given_holds n t h) (rw (lt-ltb i (count_from n t) k))
-
--- what a scan of the runs found, from where table t's records begin
-pub found_given :
-    (n : List ℕ) (r : Runs) (t : ℕ) (q : Question) (start count : ℕ) (f : Option ℕ) → t < tables → start ≡ before_from n t
-    → count ≡ count_from n t → f ≡ first (asks_from r start q) count → f ≡ first_given n r t q
-found_given n r t q start count f h s k e =
-    e ∙ ap (λ (a : ℕ). first (asks_from r a q) count) s ∙ ap (λ (m : ℕ). first (asks_from r (before_from n t) q) m) k
-    ∙ sym (rw (count_given_holds n t h)
-    (first_same (λ i. asks q (record_given n r t i)) (asks_from r (before_from n t) q) (count_from n t)
-    (λ i b. ap (asks q) (record_given_holds n r t i h b))))
 
 -- runs that agree with a count hold so many records
 pub runs_held : (r : Runs) (count : ℕ) → runs_wrong r count ≡ false → Held r count

@@ -1,16 +1,13 @@
 -- The refusals of what is given: "The writer refuses with the number that its image would get" (document 02, 6). 2 is never met: a writer
 -- writes the letters itself.
-use Rattle.std.specs.Prelude.{ℕ, ◌+◌, ◌*◌, ◌≤◌, Bool, false, not, ◌&&◌, ◌||◌, List, ◌∷◌, eqb, ltb, length, Option}
-use Rattle.scan.specs.First.{first, some, is_at}
+use Rattle.std.specs.Prelude.{ℕ, ◌*◌, ◌≤◌, Bool, not, ◌&&◌, ◌||◌, List, ◌∷◌, eqb, ltb, length}
+use Rattle.scan.specs.First.{some}
 use Rattle.codes.specs.declared.Refusal.TheVariants as refusal
 use Rattle.codes.specs.Refusal.{Test, test}
-use Rattle.layout.specs.Layout.{tables, bands, segments}
-use Rattle.find.specs.Question.{asks, home_question}
-use Rattle.find.specs.declared.Question.{Question}
+use Rattle.layout.specs.Layout.{tables}
 use Rattle.image.specs.Check.{content_tests}
 use Rattle.layout.specs.declared.General.{General}
-use Rattle.coded.specs.Coded.{blank}
-use Rattle.given.specs.Given.{Runs, count_from, before_from, record_from, count_given, record_given, table_with}
+use Rattle.given.specs.Given.{Runs, count_from, before_from, table_with}
 
 -- 1: an image of over 2,045 records is over 65,552 bytes long, in either edition
 abbrev pub too_many : List ℕ → Bool
@@ -35,29 +32,8 @@ given_wrong n r = overfull_from n || runs_wrong r (before_from n tables)
 abbrev pub given_tests : ℕ → General → List ℕ → Runs → List Test
 given_tests edition g n r = test refusal.ImageLength (too_many n) ∷ test refusal.Edition (neither_edition edition) ∷ test refusal.Counts (given_wrong n r) ∷ content_tests (table_with g n r)
 
--- ---- what a scan of the runs asks
-
 -- the runs have so many records
 pub record Held (r : Runs) (count : ℕ) : Type 0 where
   pub figures : 3 * count ≤ length r.figures
   pub codes : 4 * count ≤ length r.codes
   pub rules : 2 * count ≤ length r.rules
-
--- a question asked of the records from a place on, and of those of table t
-abbrev pub asks_from : Runs → ℕ → Question → ℕ → Bool
-asks_from r start q i = asks q (record_from r (start + i))
-
-abbrev pub first_given : List ℕ → Runs → ℕ → Question → Option ℕ
-first_given n r t q = first (λ i. asks q (record_given n r t i)) (count_given n t)
-
-abbrev pub some_given : List ℕ → Runs → ℕ → Question → Bool
-some_given n r t q = is_at (first_given n r t q)
-
-abbrev pub bare_given : List ℕ → Bool
-bare_given n = blank (count_given n bands) || blank (count_given n segments)
-
-abbrev pub homeless_given_at : List ℕ → Runs → ℕ → Bool
-homeless_given_at n r i = not (some_given n r bands (home_question false (record_given n r segments i)))
-
-abbrev pub homeless_given : List ℕ → Runs → Bool
-homeless_given n r = some (homeless_given_at n r) (count_given n segments)

@@ -1,22 +1,16 @@
-// What an image is written from, and its refusals: 1, 3 and 4 of what is given, and 5 to 14 of the table that it makes, by the questions
-// that the image check asks of a record. Nothing is written here. It uses codes, scan, layout, coded, table, find, image and byte_writes.
+// What an image is written from, and its refusals: 1, 3 and 4 of what is given, and 5 to 14 of the table that it makes, which image asks.
+// Nothing is written here. It uses codes, scan, layout, image and byte_writes; its definitions use table.
 #![tactic(auto)]
 
-ghost use Rattle.std.specs.Prelude.{◌≡◌, false, not, ◌+◌, ◌*◌, ◌≤◌, ◌<◌, length, get_or};
-ghost use Rattle.std.specs.Float.{nan, binary64};
-ghost use Rattle.std.specs.Float.Ieee.{to_bits};
-ghost use Rattle.scan.specs.First.{first};
+ghost use Rattle.std.specs.Prelude.{◌≡◌, ◌+◌, ◌*◌, ◌≤◌, ◌<◌, length};
 ghost use Rattle.codes.specs.Refusal.{refusal_of};
-ghost use Rattle.layout.specs.Layout.{bands};
-ghost use Rattle.find.specs.Question.{home_question};
-ghost use Rattle.image.specs.Check.{miscoded, unsound, content_tests};
-ghost use Rattle.given.specs.Given.{runs, count_from, before_from, record_from, watts_from, general_from, table_with};
-ghost use Rattle.given.specs.Tests.{neither_edition, overfull_from, runs_wrong, given_tests, Held, asks_from};
-ghost use Rattle.given.specs.Tests.{some_given, bare_given, homeless_given};
+ghost use Rattle.given.specs.Given.{Runs, runs, figure_bits, count_from, before_from, record_from, watts_from, general_from, table_with};
+ghost use Rattle.given.specs.Tests.{neither_edition, overfull_from, runs_wrong, given_tests, Held};
 
 use codes::{Checked, Refusal};
-use find::Question;
+use image::Source;
 use layout::{General, Record};
+use std::marker::Model;
 
 // The most records that an image has room for, of either edition.
 pub const MOST: usize = 2045;
@@ -87,30 +81,61 @@ pub fn general_from(f: Fields) -> General
     }
 }
 
-// A figure of the runs by its bits.
-fn bits_at(figures: &[f64], i: usize) -> u64
-    requires { i < length figures.now }
-    ensures { result ≡ to_bits binary64 (get_or figures.now i nan) }
-{
-    byte_writes::bits(figures[i])
+// The records of the nine tables one after the other, in runs: three figures, four codes and two rules each. A contract sees the runs.
+#[derive(Drop)]
+pub struct Records<'a> {
+    pub figures: &'a [f64],
+    pub codes: &'a [u8],
+    pub rules: &'a [u16],
 }
 
-// Record k of all.
-#[tactic(auto, unfolding(crate::specs::Given::record_from))]
-pub fn record_from(figures: &[f64], codes: &[u8], rules: &[u16], k: usize) -> Record
-    requires { Held (runs figures.now codes.now rules.now) (k + 1) }
-    ensures { result ≡ record_from (runs figures.now codes.now rules.now) k }
-{
-    Record {
-        low: bits_at(figures, 3 * k),
-        high: bits_at(figures, 3 * k + 1),
-        figure: bits_at(figures, 3 * k + 2),
-        band: codes[4 * k],
-        class: codes[4 * k + 1],
-        emissions: codes[4 * k + 2],
-        flags: codes[4 * k + 3],
-        rule: rules[2 * k],
-        second_rule: rules[2 * k + 1],
+impl<'a> Model for Records<'a> {
+    ghost use Rattle.given.specs.Given.{Runs, runs};
+
+    ghost Value = { Runs };
+
+    ghost view = { λ a. runs a.figures.now a.codes.now a.rules.now };
+}
+
+impl Records<'_> {
+    // Figure i of all, by its bits.
+    fn bits_at(&self, i: usize) -> u64
+        requires { i < length self.now.figures }
+        ensures { result ≡ figure_bits self.now i }
+    {
+        let figures = self.figures;
+        byte_writes::bits(figures[i])
+    }
+
+    // Record k of all.
+    #[tactic(auto, unfolding(crate::specs::Given::record_from))]
+    pub fn record_at(&self, k: usize) -> Record
+        requires { Held self.now (k + 1) }
+        ensures { result ≡ record_from self.now k }
+    {
+        let codes = self.codes;
+        let rules = self.rules;
+        Record {
+            low: self.bits_at(3 * k),
+            high: self.bits_at(3 * k + 1),
+            figure: self.bits_at(3 * k + 2),
+            band: codes[4 * k],
+            class: codes[4 * k + 1],
+            emissions: codes[4 * k + 2],
+            flags: codes[4 * k + 3],
+            rule: rules[2 * k],
+            second_rule: rules[2 * k + 1],
+        }
+    }
+
+    // Whether a run has other than its three figures, four codes or two rules for each of so many records.
+    #[tactic(auto, unfolding(crate::specs::Tests::runs_wrong))]
+    fn are_wrong(&self, count: usize) -> bool
+        requires { count ≤ 2045 }
+        ensures { result ≡ runs_wrong self.now count }
+    {
+        self.figures.len() != 3 * count
+            || (self.codes.len() != 4 * count || self.rules.len() != 2 * count)
     }
 }
 
@@ -135,159 +160,37 @@ pub fn before(counts: &[u16; 9], t: usize) -> usize
     sum
 }
 
-// The first of the count records from a place on that a question fits.
-fn find_from(
-    figures: &[f64],
-    codes: &[u8],
-    rules: &[u16],
-    start: usize,
-    count: usize,
-    q: Question,
-) -> Option<usize>
-    requires { Held (runs figures.now codes.now rules.now) (start + count) }
-    ensures { result ≡ first (asks_from (runs figures.now codes.now rules.now) start q) count }
-{
-    scan::first(
-        count,
-        |i| find::answers(q, record_from(figures, codes, rules, start + i)),
-    )
+// What an image is written from, where the runs have the records that the counts say.
+#[derive(Drop)]
+pub struct Given<'a> {
+    pub general: General,
+    pub counts: &'a [u16; 9],
+    pub records: Records<'a>,
+    pub ghost held: { Held records (before_from counts.now 9) },
+    pub ghost few: { before_from counts.now 9 ≤ 2045 },
 }
 
-// Whether a question fits a record of table t.
-#[tactic(auto, using(crate::specs::Laws::before_within, crate::specs::Laws::found_given))]
-fn some_in(
-    counts: &[u16; 9],
-    figures: &[f64],
-    codes: &[u8],
-    rules: &[u16],
-    t: usize,
-    q: Question,
-) -> bool
-    requires { (Held (runs figures.now codes.now rules.now) (before_from counts.now 9)) × (t < 9) }
-    ensures { result ≡ some_given counts.now (runs figures.now codes.now rules.now) t q }
-{
-    let start = before(counts, t);
-    let count = count_at(counts, t) as usize;
-    find_from(figures, codes, rules, start, count, q).is_some()
-}
+impl Source for Given<'_> {
+    ghost table = { λ g. table_with g.general g.counts.now g.records };
 
-// 5: the general block, then each table.
-#[tactic(auto, unfolding(image::specs::Check::miscoded, image::specs::Check::coded_block))]
-fn is_miscoded(g: General, counts: &[u16; 9], figures: &[f64], codes: &[u8], rules: &[u16]) -> bool
-    requires { Held (runs figures.now codes.now rules.now) (before_from counts.now 9) }
-    ensures { result ≡ miscoded (table_with g counts.now (runs figures.now codes.now rules.now)) }
-{
-    !coded::coded_general(
-        g,
-        count_at(counts, layout::CHANNELS),
-        count_at(counts, layout::PLAN_DATA),
-        count_at(counts, layout::PLAN_AVOID),
-    ) || scan::some(
-        layout::TABLES,
-        |t| some_in(counts, figures, codes, rules, t, Question::Miscoded(t)),
-    )
-}
+    ghost begins = { λ g t. before_from g.counts.now t };
 
-// 6: the general block's figures, then those of each table's records.
-#[tactic(auto, unfolding(image::specs::Check::unsound))]
-fn is_unsound(g: General, counts: &[u16; 9], figures: &[f64], codes: &[u8], rules: &[u16]) -> bool
-    requires { Held (runs figures.now codes.now rules.now) (before_from counts.now 9) }
-    ensures { result ≡ unsound (table_with g counts.now (runs figures.now codes.now rules.now)) }
-{
-    !image::sound_block(g)
-        || scan::some(
-            layout::TABLES,
-            |t| some_in(counts, figures, codes, rules, t, Question::Unsound),
-        )
-}
+    fn general(&self) -> General {
+        self.general
+    }
 
-// 11
-fn is_bare(counts: &[u16; 9]) -> bool
-    ensures { result ≡ bare_given counts.now }
-{
-    count_at(counts, layout::BANDS) == 0 || count_at(counts, layout::SEGMENTS) == 0
-}
+    fn count_of(&self, t: usize) -> u16 {
+        count_at(self.counts, t)
+    }
 
-// Whether no band holds a segment.
-fn is_outside(
-    counts: &[u16; 9],
-    figures: &[f64],
-    codes: &[u8],
-    rules: &[u16],
-    segment: Record,
-) -> bool
-    requires { Held (runs figures.now codes.now rules.now) (before_from counts.now 9) }
-    ensures { result ≡ not (some_given counts.now (runs figures.now codes.now rules.now) bands (home_question false segment)) }
-{
-    !some_in(
-        counts,
-        figures,
-        codes,
-        rules,
-        layout::BANDS,
-        Question::Holds(table::span_of(segment)),
-    )
-}
+    fn start_of(&self, t: usize) -> usize {
+        before(self.counts, t)
+    }
 
-// 12
-#[tactic(auto, using(crate::specs::Laws::before_within, crate::specs::Laws::record_given_holds))]
-fn is_homeless(counts: &[u16; 9], figures: &[f64], codes: &[u8], rules: &[u16]) -> bool
-    requires { Held (runs figures.now codes.now rules.now) (before_from counts.now 9) }
-    ensures { result ≡ homeless_given counts.now (runs figures.now codes.now rules.now) }
-{
-    let start = before(counts, layout::SEGMENTS);
-    let count = count_at(counts, layout::SEGMENTS) as usize;
-    scan::some(
-        count,
-        |i| is_outside(
-            counts,
-            figures,
-            codes,
-            rules,
-            record_from(figures, codes, rules, start + i),
-        ),
-    )
-}
-
-// Refusals 5 to 14 of the table of what is given, in their order.
-#[tactic(auto, unfolding(image::specs::Check::bare))]
-fn content(g: General, counts: &[u16; 9], figures: &[f64], codes: &[u8], rules: &[u16]) -> Checked
-    requires { Held (runs figures.now codes.now rules.now) (before_from counts.now 9) }
-    ensures { result ≡ refusal_of (content_tests (table_with g counts.now
-        (runs figures.now codes.now rules.now))) }
-{
-    let has = |t: usize, q: Question| some_in(counts, figures, codes, rules, t, q);
-    if is_miscoded(g, counts, figures, codes, rules) {
-        return Err(Refusal::CodedByte);
+    #[tactic(auto, using(crate::specs::Laws::before_within, crate::specs::Laws::count_given_holds, crate::specs::Laws::record_given_holds))]
+    fn record_in(&self, _t: usize, start: usize, i: usize) -> Record {
+        self.records.record_at(start + i)
     }
-    if is_unsound(g, counts, figures, codes, rules) {
-        return Err(Refusal::ImageFigure);
-    }
-    if has(layout::BANDS, Question::NotLengthy) {
-        return Err(Refusal::BandRange);
-    }
-    if has(layout::SEGMENTS, Question::NotLengthy) {
-        return Err(Refusal::SegmentRange);
-    }
-    if has(layout::AUTOMATIC, Question::NotLengthy) {
-        return Err(Refusal::AutomaticRange);
-    }
-    if has(layout::PRIVILEGES, Question::NotLengthy) {
-        return Err(Refusal::PrivilegeRange);
-    }
-    if is_bare(counts) {
-        return Err(Refusal::EmptyTable);
-    }
-    if is_homeless(counts, figures, codes, rules) {
-        return Err(Refusal::SegmentOutside);
-    }
-    if has(layout::SEGMENTS, Question::NoLimit) {
-        return Err(Refusal::OwnLimit);
-    }
-    if image::is_unlimited(g) {
-        return Err(Refusal::GeneralLimit);
-    }
-    Ok(())
 }
 
 // Whether one of the tables has over 256 records.
@@ -295,15 +198,6 @@ fn has_overfull(counts: &[u16; 9]) -> bool
     ensures { result ≡ overfull_from counts.now }
 {
     scan::some(layout::TABLES, |t| 256 < count_at(counts, t))
-}
-
-// Whether a run has other than its three figures, four codes or two rules for each of so many records.
-#[tactic(auto, unfolding(crate::specs::Tests::runs_wrong))]
-fn runs_wrong(figures: &[f64], codes: &[u8], rules: &[u16], count: usize) -> bool
-    requires { count ≤ 2045 }
-    ensures { result ≡ runs_wrong (runs figures.now codes.now rules.now) count }
-{
-    figures.len() != 3 * count || (codes.len() != 4 * count || rules.len() != 2 * count)
 }
 
 // Whether an edition is neither of the two.
@@ -333,8 +227,17 @@ pub fn refusal(
     if edition_wrong(edition) {
         return Err(Refusal::Edition);
     }
-    if has_overfull(counts) || runs_wrong(figures, codes, rules, count) {
+    let records = Records {
+        figures,
+        codes,
+        rules,
+    };
+    if has_overfull(counts) || records.are_wrong(count) {
         return Err(Refusal::Counts);
     }
-    content(g, counts, figures, codes, rules)
+    image::in_order(&Given {
+        general: g,
+        counts,
+        records,
+    })
 }

@@ -1,6 +1,7 @@
 -- Refusals 1 to 14 of an image, in their order: each is tested over the whole image before the next.
-use Rattle.std.specs.Prelude.{ℕ, Bool, false, not, ◌&&◌, ◌||◌, List, [], ◌∷◌, ◌++◌}
+use Rattle.std.specs.Prelude.{ℕ, Bool, false, not, ◌&&◌, ◌||◌, List, [], ◌∷◌, ◌++◌, Result, Ok, Err}
 use Rattle.codes.specs.declared.Refusal.TheVariants as refusal
+use Rattle.codes.specs.declared.Refusal.{Refusal}
 use Rattle.codes.specs.Refusal.{Checked, Test, test, refusal_of}
 use Rattle.std.specs.Float.Ieee.{le}
 use Rattle.figures.specs.Figure.{zero_hz, figure_of}
@@ -59,3 +60,11 @@ check_tests l = form_tests l ++ content_tests (table_of l)
 -- the check's answer
 unfoldable pub check_of : List ℕ → Checked
 check_of l = refusal_of (check_tests l)
+
+-- the image of accepted bytes: the bytes themselves
+abbrev pub image_or : List ℕ → Checked → Result (List ℕ) Refusal
+image_or l (Ok tt) = Ok l
+image_or l (Err n) = Err n
+
+abbrev pub accepted_of : List ℕ → Result (List ℕ) Refusal
+accepted_of l = image_or l (check_of l)

@@ -7,14 +7,13 @@ ghost use Rattle.std.proofs.lemmas.List.Edits.{sets};
 ghost use Rattle.codes.specs.Refusal.{refusal_of};
 ghost use Rattle.given.specs.Given.{runs, before_from};
 ghost use Rattle.given.specs.Tests.{Held};
-ghost use Rattle.given.specs.Laws.{Sound};
 ghost use Rattle.writer.specs.Image.{littles, record_bytes, block_bytes, watts_bytes, more_bytes, count_bytes, end_bytes};
 ghost use Rattle.writer.specs.Image.{records_bytes, tables_at, trailer_at, image_of};
 ghost use Rattle.writer.specs.Write.{room_test, Left, Written};
 ghost use Rattle.writer.specs.Laws.{total};
 
 use codes::Refusal;
-use given::Fields;
+use given::{Fields, Given, Records};
 use layout::{General, Record};
 
 // Numbers one after the other from a place on, each with the width of bytes before it.
@@ -109,21 +108,12 @@ pub fn put_end(out: &mut [u8], at: usize, distance: u32, edition: u16)
 
 // The first count records, one after the other.
 #[tactic(auto, using(crate::specs::Laws::records_more), unfolding(lists::specs::Each::each))]
-fn put_records(
-    out: &mut [u8],
-    at: usize,
-    figures: &[f64],
-    codes: &[u8],
-    rules: &[u16],
-    count: usize,
-)
-    requires { (at + 32 * count ≤ length out.old) × (Held (runs figures.now codes.now rules.now) count) }
-    ensures { out.new ≡ sets out.old at
-        (records_bytes (runs figures.now codes.now rules.now) count) }
+fn put_records(out: &mut [u8], at: usize, records: &Records, count: usize)
+    requires { (at + 32 * count ≤ length out.old) × (Held records.now count) }
+    ensures { out.new ≡ sets out.old at (records_bytes records.now count) }
 {
     for k in 0..count {
-        let r = given::record_from(figures, codes, rules, k);
-        put_record(out, at + layout::RECORD_SIZE * k, r);
+        put_record(out, at + layout::RECORD_SIZE * k, records.record_at(k));
     }
 }
 
@@ -170,50 +160,29 @@ fn put_trailer(out: &mut [u8], at: usize, counts: &[u16; 9], edition: u16)
 
 // The whole image, from the first byte on.
 #[tactic(auto, using(crate::specs::Laws::parts_set))]
-fn put_image(
-    out: &mut [u8],
-    edition: u16,
-    g: General,
-    counts: &[u16; 9],
-    figures: &[f64],
-    codes: &[u8],
-    rules: &[u16],
-    count: usize,
-)
-    requires { (trailer_at edition counts.now + 28 ≤ length out.old) × (Held (runs figures.now codes.now rules.now) count)
-        × (count ≡ before_from counts.now 9) × (count ≤ 2045) }
-    ensures { out.new ≡ sets out.old 0 (image_of edition g counts.now
-        (runs figures.now codes.now rules.now)) }
+fn put_image(out: &mut [u8], edition: u16, given: &Given, count: usize)
+    requires { (trailer_at edition given.now.counts.now + 28 ≤ length out.old) × (count ≡ before_from given.now.counts.now 9) }
+    ensures { out.new ≡ sets out.old 0 (image_of edition given.now.general given.now.counts.now given.now.records) }
 {
     let at = tables_at(edition);
-    put_block(out, g);
-    put_more(out, edition, g);
-    put_records(out, at, figures, codes, rules, count);
-    put_trailer(out, at + layout::RECORD_SIZE * count, counts, edition);
+    put_block(out, given.general);
+    put_more(out, edition, given.general);
+    put_records(out, at, &given.records, count);
+    put_trailer(out, at + layout::RECORD_SIZE * count, given.counts, edition);
 }
 
 // The image of what is not refused, where it fits.
-fn fit(
-    out: &mut [u8],
-    edition: u16,
-    g: General,
-    counts: &[u16; 9],
-    figures: &[f64],
-    codes: &[u8],
-    rules: &[u16],
-) -> Result<u32, Refusal>
-    requires { Sound edition counts.now (runs figures.now codes.now rules.now) }
-    ensures { Left (refusal_of (room_test (image_of edition g counts.now
-        (runs figures.now codes.now rules.now)) out.old))
-        (image_of edition g counts.now (runs figures.now codes.now rules.now))
+fn fit(out: &mut [u8], edition: u16, given: &Given) -> Result<u32, Refusal>
+    ensures { Left (refusal_of (room_test (image_of edition given.now.general given.now.counts.now given.now.records) out.old))
+        (image_of edition given.now.general given.now.counts.now given.now.records)
         out.old out.new result }
 {
-    let count = given::before(counts, layout::TABLES);
+    let count = given::before(given.counts, layout::TABLES);
     let length = tables_at(edition) + layout::RECORD_SIZE * count + layout::TRAILER_SIZE;
     if out.len() < length {
         return Err(Refusal::Rows);
     }
-    put_image(out, edition, g, counts, figures, codes, rules, count);
+    put_image(out, edition, given, count);
     Ok(length as u32)
 }
 
@@ -231,5 +200,15 @@ pub fn write(
 {
     let g = given::general_from(f);
     given::refusal(f.edition, g, counts, figures, codes, rules)?;
-    fit(out, f.edition, g, counts, figures, codes, rules)
+    let records = Records {
+        figures,
+        codes,
+        rules,
+    };
+    let given = Given {
+        general: g,
+        counts,
+        records,
+    };
+    fit(out, f.edition, &given)
 }

@@ -4,4 +4,5 @@ use Rattle.amended.specs.Amended.{amended_to}
 use Rattle.amend.proofs.put_image.Given as goal
 
 abbrev pub invariant-loop-k : goal.invariant-loop-k
-invariant-loop-k l = l.out ≡ amended_to l.image l.list l.day l.k ++ drop (length l.image) l.fn.out
+invariant-loop-k l =
+    l.out ≡ amended_to l.e.of.image.now l.e.of.list.bytes.now l.e.of.day l.k ++ drop (length l.e.of.image.now) l.fn.out

@@ -4,4 +4,6 @@ use Rattle.amended.specs.Latest.{few_records}
 use Rattle.amend.proofs.put_record.Goals as goal
 
 pub counting-requires : goal.counting-requires
-counting-requires c = (c.requires.0, omega (arith, few_records c.args.image.now c.requires.0.whole))
+counting-requires c =
+    let e = c.args.e.now in
+    omega (arith, few_records e.of.image.now e.ready.whole)

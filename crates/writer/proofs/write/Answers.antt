@@ -9,10 +9,11 @@ use Rattle.writer.specs.Write.{image_from}
 use Rattle.writer.specs.Laws.{left_refused, left_next}
 use Rattle.writer.proofs.write.Goals as goal
 
-pub fit-requires : goal.fit-requires
-fit-requires c =
+pub invariant_of-given : goal.invariant_of-given
+invariant_of-given c =
     let a = c.args in
-    sound_of a.f.edition _ a.counts.now (runs a.figures.now a.codes.now a.rules.now) (sym c.refusal.ensures ∙ c.in_ok-refusal.was)
+    let p = sound_of a.f.edition _ a.counts.now (runs a.figures.now a.codes.now a.rules.now) (sym c.refusal.ensures ∙ c.in_ok-refusal.was) in
+    record { held = p.held; few = p.few }
 
 pub returns-in_err-refusal : goal.returns-in_err-refusal
 returns-in_err-refusal c =
