@@ -3,7 +3,7 @@
 // automatic_97_221 and rows; its laws use apart, lists, order and bit_order.
 #![tactic(auto)]
 
-ghost use Rattle.std.specs.Prelude.{◌≡◌, ◌+◌, ◌≤◌, ◌<◌, ℕ, List, Option, length};
+ghost use Rattle.std.specs.Prelude.{◌≡◌, ◌+◌, ◌*◌, ◌≤◌, ◌<◌, ℕ, List, Option, length};
 ghost use Rattle.lists.specs.From.{from as gathered_from};
 ghost use Rattle.profile.specs.Range.{holds_of};
 ghost use Rattle.layout.specs.Form.{Whole};
@@ -14,7 +14,7 @@ ghost use Rattle.dial_rows.specs.Apart.{below_bits, apart_of};
 ghost use Rattle.dial_rows.specs.Class.{Ahead, Past};
 ghost use Rattle.rows.specs.declared.SafeDial.{SafeDial};
 ghost use Rattle.dial_rows.specs.Dials.{request_of, piece_rows, cut, may_use, too_wide, excluded_band};
-ghost use Rattle.dial_rows.specs.Dials.{centre_span, channel_found, channels_open, channel_row, channel_rows_at};
+ghost use Rattle.dial_rows.specs.Dials.{centre_span, some_centre, channel_found, channels_open, channel_row, channel_rows_at};
 ghost use Rattle.dial_rows.specs.Next.{rows_in, cut_next, segment_next, cuts, automatic_in, cut_at, cuts_from, privilege_from, pair_from};
 ghost use Rattle.dial_rows.specs.Next.{behind_of, privileges_from, closed_of, channel_count_of, channels_from, Known, Searched};
 
@@ -99,6 +99,15 @@ pub struct Search {
     pub channel_count: usize,
 }
 
+// A search for the rows of a request in an image, with those of the channels of a band, if it has one.
+pub struct RowSearch<'a> {
+    pub image: &'a Image<'a>,
+    pub request: Request,
+    pub band: Option<Channels>,
+    pub places: Search,
+    pub ghost searched: { Searched image.now request band places },
+}
+
 // The row of a piece.
 #[tactic(auto, unfolding(crate::specs::Dials::piece_rows))]
 fn piece_row(q: Request, band: u8, rule: u16, piece: Range) -> Option<SafeDial>
@@ -114,38 +123,25 @@ fn piece_row(q: Request, band: u8, rule: u16, piece: Range) -> Option<SafeDial>
     })
 }
 
-// The row of a piece inside the automatic segment that begins at a place.
-fn automatic_row(image: &[u8], q: Request, band: u8, piece: Range, at: usize) -> Option<SafeDial>
-    requires { at + 32 ≤ length image.now }
-    ensures { rows_in result ≡ automatic_in q band piece (record_at image.now at) }
+// The row of a piece inside an automatic segment.
+fn automatic_row(q: Request, band: u8, piece: Range, r: Record) -> Option<SafeDial>
+    ensures { rows_in result ≡ automatic_in q band piece r }
 {
-    let inside = profile::intersect(piece, table::span_of(layout::record_at(image, at)))?;
+    let inside = profile::intersect(piece, table::span_of(r))?;
     piece_row(q, band, q.segments_rule, inside)
 }
 
 // The row of a cut of a piece.
 #[tactic(auto, using(layout::specs::Laws::table_within, crate::specs::Next::cut_below, table::specs::Laws::at_in))]
-fn cut_row(
-    image: &[u8],
-    q: Request,
-    w: Search,
-    s: Segment,
-    piece: Range,
-    k: usize,
-) -> Option<SafeDial>
-    requires { (Known image.now q w) × (k < w.cuts) }
-    ensures { rows_in result ≡ cut_at (table_of image.now) q s piece k }
+fn cut_row(x: &RowSearch, s: Segment, piece: Range, k: usize) -> Option<SafeDial>
+    requires { k < x.now.places.cuts }
+    ensures { rows_in result ≡ cut_at (table_of x.now.image.now) x.now.request s piece k }
 {
-    if w.cut {
-        automatic_row(
-            image,
-            q,
-            s.band,
-            piece,
-            w.automatic + layout::RECORD_SIZE * k,
-        )
+    if x.places.cut {
+        let r = x.image.record_at(x.places.automatic + layout::RECORD_SIZE * k);
+        automatic_row(x.request, s.band, piece, r)
     } else {
-        piece_row(q, s.band, s.rule, piece)
+        piece_row(x.request, s.band, s.rule, piece)
     }
 }
 
@@ -170,18 +166,11 @@ fn row_from<F: Fn(usize) -> Option<SafeDial>>(
 
 // The first row of a piece from a cut on.
 #[tactic(auto, unfolding(crate::specs::Next::cuts_from))]
-fn cuts_from(
-    image: &[u8],
-    q: Request,
-    w: Search,
-    s: Segment,
-    piece: Range,
-    from: usize,
-) -> Option<(SafeDial, usize)>
-    requires { Known image.now q w }
-    ensures { cuts_from (table_of image.now) q s piece from ≡ cut_next (cuts_from (table_of image.now) q s piece) result }
+fn cuts_from(x: &RowSearch, s: Segment, piece: Range, from: usize) -> Option<(SafeDial, usize)>
+    ensures { cuts_from (table_of x.now.image.now) x.now.request s piece from
+        ≡ cut_next (cuts_from (table_of x.now.image.now) x.now.request s piece) result }
 {
-    row_from(from, w.cuts, |k| cut_row(image, q, w, s, piece, k))
+    row_from(from, x.places.cuts, |k| cut_row(x, s, piece, k))
 }
 
 // Whether a privilege is the class's and allows data.
@@ -193,20 +182,13 @@ fn may_use(q: Request, p: Privilege) -> bool
 
 // The first row of a segment under one privilege, from a cut on.
 #[tactic(auto, unfolding(crate::specs::Next::privilege_from))]
-fn privilege_from(
-    image: &[u8],
-    q: Request,
-    w: Search,
-    s: Segment,
-    p: Privilege,
-    from: usize,
-) -> Option<(SafeDial, usize)>
-    requires { Known image.now q w }
-    ensures { privilege_from (table_of image.now) q s p from ≡ cut_next (privilege_from (table_of image.now) q s p) result }
+fn privilege_from(x: &RowSearch, s: Segment, p: Privilege, from: usize) -> Option<(SafeDial, usize)>
+    ensures { privilege_from (table_of x.now.image.now) x.now.request s p from
+        ≡ cut_next (privilege_from (table_of x.now.image.now) x.now.request s p) result }
 {
     let piece = profile::intersect(s.range, p.range)?;
-    if may_use(q, p) {
-        cuts_from(image, q, w, s, piece, from)
+    if may_use(x.request, p) {
+        cuts_from(x, s, piece, from)
     } else {
         None
     }
@@ -270,29 +252,24 @@ fn apart(image: &[u8], at: usize, r: Record) -> bool
     below(r.high, layout::low_at(image, at)) || below(layout::high_at(image, at), r.low)
 }
 
-// The same of a segment's record and the privilege that begins at a place: its class and its range's bits are asked before the rest is
-// read.
-#[tactic(auto, using(crate::specs::Apart::apart_nothing), unfolding(crate::specs::Next::privilege_from))]
-fn pair_from(
-    image: &[u8],
-    q: Request,
-    w: Search,
-    r: Record,
-    at: usize,
-    from: usize,
-) -> Option<(SafeDial, usize)>
-    requires { (at + 32 ≤ length image.now) × (Known image.now q w) }
-    ensures { pair_from image.now q r at from ≡ cut_next (pair_from image.now q r at) result }
+// The same of a segment's record and privilege i: its class and its range's bits are asked before the rest is read.
+#[tactic(auto, using(layout::specs::Laws::table_within, crate::specs::Apart::apart_nothing), unfolding(crate::specs::Next::privilege_from))]
+fn pair_from(x: &RowSearch, r: Record, i: usize, from: usize) -> Option<(SafeDial, usize)>
+    requires { i < x.now.places.end }
+    ensures { pair_from x.now.image.now x.now.request r (x.now.places.privileges + 32 * i) from
+        ≡ cut_next (pair_from x.now.image.now x.now.request r (x.now.places.privileges + 32 * i)) result }
 {
-    if layout::class_at(image, at) != q.class {
+    let image = x.image;
+    let at = x.places.privileges + layout::RECORD_SIZE * i;
+    if layout::class_at(image.bytes, at) != x.request.class {
         return None;
     }
-    if apart(image, at, r) {
+    if apart(image.bytes, at, r) {
         return None;
     }
     let s = table::segment_of(r);
-    let p = table::privilege_of(layout::record_at(image, at));
-    privilege_from(image, q, w, s, p, from)
+    let p = table::privilege_of(image.record_at(at));
+    privilege_from(x, s, p, from)
 }
 
 // The place behind a row at cut k − 1 of a privilege.
@@ -312,28 +289,14 @@ fn behind(w: Search, privilege: usize, k: usize) -> Spot
 
 // The first row of a segment's record under the privileges from a place on.
 #[tactic(auto, using(layout::specs::Laws::table_within))]
-pub fn privileges_from(
-    image: &[u8],
-    q: Request,
-    w: Search,
-    r: Record,
-    spot: Spot,
-) -> Option<(SafeDial, Spot)>
-    requires { Known image.now q w }
-    ensures { privileges_from (table_of image.now) q (segment_of r) spot
-        ≡ segment_next (privileges_from (table_of image.now) q (segment_of r)) result }
+pub fn privileges_from(x: &RowSearch, r: Record, spot: Spot) -> Option<(SafeDial, Spot)>
+    ensures { privileges_from (table_of x.now.image.now) x.now.request (segment_of r) spot
+        ≡ segment_next (privileges_from (table_of x.now.image.now) x.now.request (segment_of r)) result }
 {
     let mut from = spot.cut;
-    for i in spot.privilege..w.end {
-        if let Some((x, k)) = pair_from(
-            image,
-            q,
-            w,
-            r,
-            w.privileges + layout::RECORD_SIZE * i,
-            from,
-        ) {
-            return Some((x, behind(w, i, k)));
+    for i in spot.privilege..x.places.end {
+        if let Some((row, k)) = pair_from(x, r, i, from) {
+            return Some((row, behind(x.places, i, k)));
         }
         from = 0;
     }
@@ -341,11 +304,11 @@ pub fn privileges_from(
 }
 
 // Whether a segment's record is passed over: the signal is too wide for it, or kept out of its band.
-pub fn closed(image: &Image, q: Request, r: Record) -> bool
-    ensures { result ≡ closed_of (table_of image.now) q (segment_of r) }
+pub fn closed(x: &RowSearch, r: Record) -> bool
+    ensures { result ≡ closed_of (table_of x.now.image.now) x.now.request (segment_of r) }
 {
     let s = table::segment_of(r);
-    too_wide(q, s) || excluded(image, q, s)
+    too_wide(x.request, s) || excluded(x.image, x.request, s)
 }
 
 // Whether channels are asked for at all.
@@ -366,30 +329,19 @@ fn centre_held(range: Range, r: Record) -> bool
     })
 }
 
+// Whether one channel lies under a privilege, which is the class's and allows data.
+fn some_centre(image: &Image, q: Request, p: Privilege) -> bool
+    ensures { result ≡ some_centre (table_of image.now) q p }
+{
+    may_use(q, p) && table::some_of(image, layout::CHANNELS, |c| centre_held(p.range, c))
+}
+
 // Whether one channel lies under one privilege of the class that allows data.
+#[tactic(auto, unfolding(crate::specs::Dials::channel_found))]
 fn channel_found(image: &Image, q: Request) -> bool
     ensures { result ≡ channel_found (table_of image.now) q }
 {
-    let from = image.start_of(layout::PRIVILEGES);
-    let privileges = image.count_of(layout::PRIVILEGES) as usize;
-    let start = image.start_of(layout::CHANNELS);
-    let channels = image.count_of(layout::CHANNELS) as usize;
-    let mut found = false;
-    'search: for i in 0..privileges {
-        let r = image.record_at(from + layout::RECORD_SIZE * i);
-        let p = table::privilege_of(r);
-        if may_use(q, p) {
-            let range = p.range;
-            for k in 0..channels {
-                let c = image.record_at(start + layout::RECORD_SIZE * k);
-                if centre_held(range, c) {
-                    found = true;
-                    break 'search;
-                }
-            }
-        }
-    }
-    found
+    table::some_of(image, layout::PRIVILEGES, |r| some_centre(image, q, table::privilege_of(r)))
 }
 
 // How many channels are gone through: all, where channels are asked for and one is found.
@@ -422,27 +374,20 @@ fn channel_row(q: Request, c: Channels, center_hz: f64) -> Option<SafeDial>
 
 // The row of channel i.
 #[tactic(auto, using(layout::specs::Laws::table_within, table::specs::Laws::at_in))]
-fn channel_row_at(image: &[u8], q: Request, w: Search, c: Channels, i: usize) -> Option<SafeDial>
-    requires { (Known image.now q w) × (i < w.channel_count) }
-    ensures { rows_in result ≡ channel_rows_at (table_of image.now) q c i }
+fn channel_row_at(x: &RowSearch, c: Channels, i: usize) -> Option<SafeDial>
+    requires { i < x.now.places.channel_count }
+    ensures { rows_in result ≡ channel_rows_at (table_of x.now.image.now) x.now.request c i }
 {
-    let r = layout::record_at(image, w.channels + layout::RECORD_SIZE * i);
-    channel_row(q, c, table::centre_of(r))
+    let r = x.image.record_at(x.places.channels + layout::RECORD_SIZE * i);
+    channel_row(x.request, c, table::centre_of(r))
 }
 
 // The first row of the channels from one on, and the channel after it; or no row.
-pub fn channels_from(
-    image: &[u8],
-    q: Request,
-    w: Search,
-    c: Channels,
-    from: usize,
-) -> Option<(SafeDial, usize)>
-    requires { Known image.now q w }
-    ensures { channels_from (table_of image.now) q c w.channel_count from
-        ≡ cut_next (channels_from (table_of image.now) q c w.channel_count) result }
+pub fn channels_from(x: &RowSearch, c: Channels, from: usize) -> Option<(SafeDial, usize)>
+    ensures { channels_from (table_of x.now.image.now) x.now.request c x.now.places.channel_count from
+        ≡ cut_next (channels_from (table_of x.now.image.now) x.now.request c x.now.places.channel_count) result }
 {
-    row_from(from, w.channel_count, |i| channel_row_at(image, q, w, c, i))
+    row_from(from, x.places.channel_count, |i| channel_row_at(x, c, i))
 }
 
 // 97.221: whether a piece is cut to the automatic segments.
@@ -464,9 +409,11 @@ fn cut_count(image: &Image, q: Request) -> usize
 }
 
 // What a search for rows knows beforehand.
-pub fn search_of(image: &Image, q: Request, band: Option<Channels>) -> Search
+fn places_of(image: &Image, q: Request, band: Option<Channels>) -> Search
     ensures { Searched image.now q band result }
 {
+    // That the image is whole is one of the things known.
+    let _ = &image.bytes;
     Search {
         segments: image.start_of(layout::SEGMENTS),
         segment_count: image.count_of(layout::SEGMENTS) as usize,
@@ -478,5 +425,17 @@ pub fn search_of(image: &Image, q: Request, band: Option<Channels>) -> Search
         cuts: cut_count(image, q),
         channels: image.start_of(layout::CHANNELS),
         channel_count: channel_count(image, q, band),
+    }
+}
+
+// The search for the rows of a request, with those of the channels of a band.
+pub fn search_of<'a>(image: &'a Image<'a>, q: Request, band: Option<Channels>) -> RowSearch<'a>
+    ensures { (result.image.now ≡ image.now) × (result.request ≡ q) × (result.band ≡ band) }
+{
+    RowSearch {
+        image,
+        request: q,
+        band,
+        places: places_of(image, q, band),
     }
 }

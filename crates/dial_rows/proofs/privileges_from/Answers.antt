@@ -8,18 +8,20 @@ use Rattle.dial_rows.proofs.privileges_from.Goals as goal
 pub returns-in-Some : goal.returns-in-Some
 returns-in-Some c =
     let a = c.args in
-    let more = privileges_from (table_of a.image.now) a.q (segment_of a.r) in
+    let x = a.x.now in
+    let more = privileges_from (table_of x.image.now) x.request (segment_of a.r) in
     c.loop-i.invariant
-    ∙ privilege_turn_holds _ _ _ c.requires _ c.loop-i-test.true a.r _ _ c.pair_from.ensures
-    ∙ ap (privilege_turn a.w.cuts c.loop-i.i more) c.in-Some.is
-    ∙ ap (λ s. c.in-Some.x ∷ more s) (sym c.behind.ensures)
+    ∙ privilege_turn_holds _ _ _ x.searched.0 _ c.loop-i-test.true a.r _ _ c.pair_from.ensures
+    ∙ ap (privilege_turn x.places.cuts c.loop-i.i more) c.in-Some.is
+    ∙ ap (λ s. c.in-Some.row ∷ more s) (sym c.behind.ensures)
 
 pub loop-i-preserved : goal.loop-i-preserved
 loop-i-preserved c =
     let a = c.args in
+    let x = a.x.now in
     c.loop-i.invariant
-    ∙ privilege_turn_holds _ _ _ c.requires _ c.loop-i-test.true a.r _ _ c.pair_from.ensures
-    ∙ ap (privilege_turn a.w.cuts c.loop-i.i (privileges_from (table_of a.image.now) a.q (segment_of a.r))) c.in_default.is
+    ∙ privilege_turn_holds _ _ _ x.searched.0 _ c.loop-i-test.true a.r _ _ c.pair_from.ensures
+    ∙ ap (privilege_turn x.places.cuts c.loop-i.i (privileges_from (table_of x.image.now) x.request (segment_of a.r))) c.in_default.is
 
 pub returns : goal.returns
-returns c = c.loop-i.invariant ∙ privileges_end _ _ _ _ _ _ c.requires.past c.loop-i-test.false
+returns c = c.loop-i.invariant ∙ privileges_end _ _ _ _ _ _ c.args.x.now.searched.0.past c.loop-i-test.false

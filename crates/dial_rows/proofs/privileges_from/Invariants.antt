@@ -7,4 +7,4 @@ use Rattle.dial_rows.proofs.privileges_from.Given as goal
 
 abbrev pub invariant-loop-i : goal.invariant-loop-i
 invariant-loop-i l =
-    privileges_from (table_of l.image) l.q (segment_of l.r) (spot_of l.initial.i l.initial.from) ≡ privileges_from (table_of l.image) l.q (segment_of l.r) (spot_of l.i l.from)
+    privileges_from (table_of l.x.image.now) l.x.request (segment_of l.r) (spot_of l.initial.i l.initial.from) ≡ privileges_from (table_of l.x.image.now) l.x.request (segment_of l.r) (spot_of l.i l.from)
