@@ -99,15 +99,6 @@ pub struct Search {
     pub channel_count: usize,
 }
 
-// A search for the rows of a request in an image, with those of the channels of a band, if it has one.
-pub struct RowSearch<'a> {
-    pub image: &'a Image<'a>,
-    pub request: Request,
-    pub band: Option<Channels>,
-    pub places: Search,
-    pub ghost searched: { Searched image.now request band places },
-}
-
 // The row of a piece.
 #[tactic(auto, unfolding(crate::specs::Dials::piece_rows))]
 fn piece_row(q: Request, band: u8, rule: u16, piece: Range) -> Option<SafeDial>
@@ -131,20 +122,6 @@ fn automatic_row(q: Request, band: u8, piece: Range, r: Record) -> Option<SafeDi
     piece_row(q, band, q.segments_rule, inside)
 }
 
-// The row of a cut of a piece.
-#[tactic(auto, using(layout::specs::Laws::table_within, crate::specs::Next::cut_below, table::specs::Laws::at_in))]
-fn cut_row(x: &RowSearch, s: Segment, piece: Range, k: usize) -> Option<SafeDial>
-    requires { k < x.now.places.cuts }
-    ensures { rows_in result ≡ cut_at (table_of x.now.image.now) x.now.request s piece k }
-{
-    if x.places.cut {
-        let r = x.image.record_at(x.places.automatic + layout::RECORD_SIZE * k);
-        automatic_row(x.request, s.band, piece, r)
-    } else {
-        piece_row(x.request, s.band, s.rule, piece)
-    }
-}
-
 // The first row that the indices from one to below end give, and the index after it.
 #[tactic(auto, using(lists::specs::From::from_row, lists::specs::From::from_skip, lists::specs::From::from_end))]
 fn row_from<F: Fn(usize) -> Option<SafeDial>>(
@@ -164,34 +141,11 @@ fn row_from<F: Fn(usize) -> Option<SafeDial>>(
     None
 }
 
-// The first row of a piece from a cut on.
-#[tactic(auto, unfolding(crate::specs::Next::cuts_from))]
-fn cuts_from(x: &RowSearch, s: Segment, piece: Range, from: usize) -> Option<(SafeDial, usize)>
-    ensures { cuts_from (table_of x.now.image.now) x.now.request s piece from
-        ≡ cut_next (cuts_from (table_of x.now.image.now) x.now.request s piece) result }
-{
-    row_from(from, x.places.cuts, |k| cut_row(x, s, piece, k))
-}
-
 // Whether a privilege is the class's and allows data.
 fn may_use(q: Request, p: Privilege) -> bool
     ensures { result ≡ may_use q p }
 {
     p.class == q.class && profile::allows(p.emissions, EmissionKind::Data)
-}
-
-// The first row of a segment under one privilege, from a cut on.
-#[tactic(auto, unfolding(crate::specs::Next::privilege_from))]
-fn privilege_from(x: &RowSearch, s: Segment, p: Privilege, from: usize) -> Option<(SafeDial, usize)>
-    ensures { privilege_from (table_of x.now.image.now) x.now.request s p from
-        ≡ cut_next (privilege_from (table_of x.now.image.now) x.now.request s p) result }
-{
-    let piece = profile::intersect(s.range, p.range)?;
-    if may_use(x.request, p) {
-        cuts_from(x, s, piece, from)
-    } else {
-        None
-    }
 }
 
 // Whether the signal is too wide for a segment.
@@ -252,26 +206,6 @@ fn apart(image: &[u8], at: usize, r: Record) -> bool
     below(r.high, layout::low_at(image, at)) || below(layout::high_at(image, at), r.low)
 }
 
-// The same of a segment's record and privilege i: its class and its range's bits are asked before the rest is read.
-#[tactic(auto, using(layout::specs::Laws::table_within, crate::specs::Apart::apart_nothing), unfolding(crate::specs::Next::privilege_from))]
-fn pair_from(x: &RowSearch, r: Record, i: usize, from: usize) -> Option<(SafeDial, usize)>
-    requires { i < x.now.places.end }
-    ensures { pair_from x.now.image.now x.now.request r (x.now.places.privileges + 32 * i) from
-        ≡ cut_next (pair_from x.now.image.now x.now.request r (x.now.places.privileges + 32 * i)) result }
-{
-    let image = x.image;
-    let at = x.places.privileges + layout::RECORD_SIZE * i;
-    if layout::class_at(image.bytes, at) != x.request.class {
-        return None;
-    }
-    if apart(image.bytes, at, r) {
-        return None;
-    }
-    let s = table::segment_of(r);
-    let p = table::privilege_of(image.record_at(at));
-    privilege_from(x, s, p, from)
-}
-
 // The place behind a row at cut k − 1 of a privilege.
 fn behind(w: Search, privilege: usize, k: usize) -> Spot
     requires { privilege < 0x1_0000 }
@@ -285,30 +219,6 @@ fn behind(w: Search, privilege: usize, k: usize) -> Spot
             cut: 0,
         }
     }
-}
-
-// The first row of a segment's record under the privileges from a place on.
-#[tactic(auto, using(layout::specs::Laws::table_within))]
-pub fn privileges_from(x: &RowSearch, r: Record, spot: Spot) -> Option<(SafeDial, Spot)>
-    ensures { privileges_from (table_of x.now.image.now) x.now.request (segment_of r) spot
-        ≡ segment_next (privileges_from (table_of x.now.image.now) x.now.request (segment_of r)) result }
-{
-    let mut from = spot.cut;
-    for i in spot.privilege..x.places.end {
-        if let Some((row, k)) = pair_from(x, r, i, from) {
-            return Some((row, behind(x.places, i, k)));
-        }
-        from = 0;
-    }
-    None
-}
-
-// Whether a segment's record is passed over: the signal is too wide for it, or kept out of its band.
-pub fn closed(x: &RowSearch, r: Record) -> bool
-    ensures { result ≡ closed_of (table_of x.now.image.now) x.now.request (segment_of r) }
-{
-    let s = table::segment_of(r);
-    too_wide(x.request, s) || excluded(x.image, x.request, s)
 }
 
 // Whether channels are asked for at all.
@@ -341,7 +251,11 @@ fn some_centre(image: &Image, q: Request, p: Privilege) -> bool
 fn channel_found(image: &Image, q: Request) -> bool
     ensures { result ≡ channel_found (table_of image.now) q }
 {
-    table::some_of(image, layout::PRIVILEGES, |r| some_centre(image, q, table::privilege_of(r)))
+    table::some_of(
+        image,
+        layout::PRIVILEGES,
+        |r| some_centre(image, q, table::privilege_of(r)),
+    )
 }
 
 // How many channels are gone through: all, where channels are asked for and one is found.
@@ -370,24 +284,6 @@ fn channel_row(q: Request, c: Channels, center_hz: f64) -> Option<SafeDial>
         dial_low_hz: dial,
         dial_high_hz: dial,
     })
-}
-
-// The row of channel i.
-#[tactic(auto, using(layout::specs::Laws::table_within, table::specs::Laws::at_in))]
-fn channel_row_at(x: &RowSearch, c: Channels, i: usize) -> Option<SafeDial>
-    requires { i < x.now.places.channel_count }
-    ensures { rows_in result ≡ channel_rows_at (table_of x.now.image.now) x.now.request c i }
-{
-    let r = x.image.record_at(x.places.channels + layout::RECORD_SIZE * i);
-    channel_row(x.request, c, table::centre_of(r))
-}
-
-// The first row of the channels from one on, and the channel after it; or no row.
-pub fn channels_from(x: &RowSearch, c: Channels, from: usize) -> Option<(SafeDial, usize)>
-    ensures { channels_from (table_of x.now.image.now) x.now.request c x.now.places.channel_count from
-        ≡ cut_next (channels_from (table_of x.now.image.now) x.now.request c x.now.places.channel_count) result }
-{
-    row_from(from, x.places.channel_count, |i| channel_row_at(x, c, i))
 }
 
 // 97.221: whether a piece is cut to the automatic segments.
@@ -428,14 +324,131 @@ fn places_of(image: &Image, q: Request, band: Option<Channels>) -> Search
     }
 }
 
-// The search for the rows of a request, with those of the channels of a band.
-pub fn search_of<'a>(image: &'a Image<'a>, q: Request, band: Option<Channels>) -> RowSearch<'a>
-    ensures { (result.image.now ≡ image.now) × (result.request ≡ q) × (result.band ≡ band) }
-{
-    RowSearch {
-        image,
-        request: q,
-        band,
-        places: places_of(image, q, band),
+// A search for the rows of a request in an image, with those of the channels of a band, if it has one.
+pub struct RowSearch<'a> {
+    pub image: &'a Image<'a>,
+    pub request: Request,
+    pub band: Option<Channels>,
+    pub places: Search,
+    pub ghost searched: { Searched image.now request band places },
+}
+
+impl<'a> RowSearch<'a> {
+    // The search for the rows of a request, with those of the channels of a band.
+    pub fn of(image: &'a Image<'a>, q: Request, band: Option<Channels>) -> Self
+        ensures { (result.image.now ≡ image.now) × (result.request ≡ q) × (result.band ≡ band) }
+    {
+        RowSearch {
+            image,
+            request: q,
+            band,
+            places: places_of(image, q, band),
+        }
+    }
+
+    // The row of a cut of a piece.
+    #[tactic(auto, using(layout::specs::Laws::table_within, crate::specs::Next::cut_below, table::specs::Laws::at_in))]
+    fn cut_row(&self, s: Segment, piece: Range, k: usize) -> Option<SafeDial>
+        requires { k < self.now.places.cuts }
+        ensures { rows_in result ≡ cut_at (table_of self.now.image.now) self.now.request s piece k }
+    {
+        if self.places.cut {
+            let r = self
+                .image
+                .record_at(self.places.automatic + layout::RECORD_SIZE * k);
+            automatic_row(self.request, s.band, piece, r)
+        } else {
+            piece_row(self.request, s.band, s.rule, piece)
+        }
+    }
+
+    // The first row of a piece from a cut on.
+    #[tactic(auto, unfolding(crate::specs::Next::cuts_from))]
+    fn cuts_from(&self, s: Segment, piece: Range, from: usize) -> Option<(SafeDial, usize)>
+        ensures { cuts_from (table_of self.now.image.now) self.now.request s piece from
+            ≡ cut_next (cuts_from (table_of self.now.image.now) self.now.request s piece) result }
+    {
+        row_from(from, self.places.cuts, |k| self.cut_row(s, piece, k))
+    }
+
+    // The first row of a segment under one privilege, from a cut on.
+    #[tactic(auto, unfolding(crate::specs::Next::privilege_from))]
+    fn privilege_from(&self, s: Segment, p: Privilege, from: usize) -> Option<(SafeDial, usize)>
+        ensures { privilege_from (table_of self.now.image.now) self.now.request s p from
+            ≡ cut_next (privilege_from (table_of self.now.image.now) self.now.request s p) result }
+    {
+        let piece = profile::intersect(s.range, p.range)?;
+        if may_use(self.request, p) {
+            self.cuts_from(s, piece, from)
+        } else {
+            None
+        }
+    }
+
+    // The same of a segment's record and privilege i: its class and its range's bits are asked before the rest is read.
+    #[tactic(auto, using(layout::specs::Laws::table_within, crate::specs::Apart::apart_nothing), unfolding(crate::specs::Next::privilege_from))]
+    fn pair_from(&self, r: Record, i: usize, from: usize) -> Option<(SafeDial, usize)>
+        requires { i < self.now.places.end }
+        ensures { pair_from self.now.image.now self.now.request r (self.now.places.privileges + 32 * i) from
+            ≡ cut_next (pair_from self.now.image.now self.now.request r (self.now.places.privileges + 32 * i)) result }
+    {
+        let image = self.image;
+        let at = self.places.privileges + layout::RECORD_SIZE * i;
+        if layout::class_at(image.bytes, at) != self.request.class {
+            return None;
+        }
+        if apart(image.bytes, at, r) {
+            return None;
+        }
+        let s = table::segment_of(r);
+        let p = table::privilege_of(image.record_at(at));
+        self.privilege_from(s, p, from)
+    }
+
+    // The first row of a segment's record under the privileges from a place on.
+    pub fn privileges_from(&self, r: Record, spot: Spot) -> Option<(SafeDial, Spot)>
+        ensures { privileges_from (table_of self.now.image.now) self.now.request (segment_of r) spot
+            ≡ segment_next (privileges_from (table_of self.now.image.now) self.now.request (segment_of r)) result }
+    {
+        let mut from = spot.cut;
+        for i in spot.privilege..self.places.end {
+            if let Some((row, k)) = self.pair_from(r, i, from) {
+                return Some((row, behind(self.places, i, k)));
+            }
+            from = 0;
+        }
+        None
+    }
+
+    // Whether a segment's record is passed over: the signal is too wide for it, or kept out of its band.
+    pub fn closed(&self, r: Record) -> bool
+        ensures { result ≡ closed_of (table_of self.now.image.now) self.now.request (segment_of r) }
+    {
+        let s = table::segment_of(r);
+        too_wide(self.request, s) || excluded(self.image, self.request, s)
+    }
+
+    // The row of channel i.
+    #[tactic(auto, using(layout::specs::Laws::table_within, table::specs::Laws::at_in))]
+    fn channel_row_at(&self, c: Channels, i: usize) -> Option<SafeDial>
+        requires { i < self.now.places.channel_count }
+        ensures { rows_in result ≡ channel_rows_at (table_of self.now.image.now) self.now.request c i }
+    {
+        let r = self
+            .image
+            .record_at(self.places.channels + layout::RECORD_SIZE * i);
+        channel_row(self.request, c, table::centre_of(r))
+    }
+
+    // The first row of the channels from one on, and the channel after it; or no row.
+    pub fn channels_from(&self, c: Channels, from: usize) -> Option<(SafeDial, usize)>
+        ensures { channels_from (table_of self.now.image.now) self.now.request c self.now.places.channel_count from
+            ≡ cut_next (channels_from (table_of self.now.image.now) self.now.request c self.now.places.channel_count) result }
+    {
+        row_from(
+            from,
+            self.places.channel_count,
+            |i| self.channel_row_at(c, i),
+        )
     }
 }
