@@ -171,7 +171,7 @@ fn class_first(image: &Image, class: u8) -> usize
     let count = image.count_of(layout::PRIVILEGES) as usize;
     scan::first(
         count,
-        |i| layout::class_at(image.bytes, start + layout::RECORD_SIZE * i) == class,
+        |i| image.class_at(start + layout::RECORD_SIZE * i) == class,
     )
     .unwrap_or(count)
 }
@@ -184,7 +184,7 @@ fn class_end(image: &Image, class: u8) -> usize
     let start = image.start_of(layout::PRIVILEGES);
     let count = image.count_of(layout::PRIVILEGES) as usize;
     for i in (0..count).rev() {
-        if layout::class_at(image.bytes, start + layout::RECORD_SIZE * i) == class {
+        if image.class_at(start + layout::RECORD_SIZE * i) == class {
             return i + 1;
         }
     }

@@ -234,10 +234,10 @@ fn rough_from(s: &[u8], t: usize, start: usize, count: usize) -> bool
 pub fn is_rough(s: &Image) -> bool
     ensures { result ≡ is_rough s.now }
 {
-    let mut start = layout::tables_from(s.bytes);
+    let mut start = s.tables_from();
     for t in 0..layout::TABLES {
         let count = s.count_of(t) as usize;
-        if rough_from(s, t, start, count) {
+        if rough_from(s.bytes, t, start, count) {
             return true;
         }
         start += layout::RECORD_SIZE * count;
@@ -250,8 +250,8 @@ fn held_by(s: &Image, j: usize, low: u64, high: u64) -> bool
     requires { j < count_of s.now 0 }
     ensures { result ≡ held_bits s.now low high j }
 {
-    let at = layout::tables_from(s.bytes) + layout::RECORD_SIZE * j;
-    layout::low_at(s.bytes, at) <= low && high <= layout::high_at(s.bytes, at)
+    let at = s.tables_from() + layout::RECORD_SIZE * j;
+    s.low_at(at) <= low && high <= s.high_at(at)
 }
 
 // The first band that does.
@@ -291,12 +291,7 @@ pub fn is_homeless(s: &Image) -> bool
     let mut near: usize = 0;
     for i in 0..count {
         let at = start + layout::RECORD_SIZE * i;
-        match home_near(
-            s,
-            near,
-            layout::low_at(s.bytes, at),
-            layout::high_at(s.bytes, at),
-        ) {
+        match home_near(s, near, s.low_at(at), s.high_at(at)) {
             Some(k) => {
                 near = k;
             }

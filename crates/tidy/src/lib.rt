@@ -25,12 +25,12 @@ fn pair_question(classes: bool, r: Record) -> Question
 }
 
 // Whether record j of a table that begins at a place shares a stretch with an earlier one.
-fn shares_earlier(s: &[u8], start: usize, j: usize, classes: bool) -> bool
+fn shares_earlier(s: &Image, start: usize, j: usize, classes: bool) -> bool
     requires { start + 32 * j + 32 ≤ length s.now }
     ensures { result ≡ some (λ i. asks (pair_question classes (record_at s.now (start + 32 * j))) (record_at s.now (start + 32 * i))) j }
 {
-    let r = layout::record_at(s, start + layout::RECORD_SIZE * j);
-    find::find_from(s, start, j, pair_question(classes, r)).is_some()
+    let r = s.record_at(start + layout::RECORD_SIZE * j);
+    find::find_from(s.bytes, start, j, pair_question(classes, r)).is_some()
 }
 
 // Whether two records of table t share a stretch of positive length; with classes, two of one class.

@@ -4,11 +4,12 @@
 
 ghost use Rattle.std.specs.Prelude.{◌≡◌, ◌≤◌, ◌<◌, ◌*◌, ◌+◌, length, ℕ, List};
 ghost use Rattle.layout.specs.Form.{Whole};
-ghost use Rattle.layout.specs.Layout.{general_of, count_of, start_of, record_at};
+ghost use Rattle.layout.specs.Layout.{general_of, count_of, start_of, tables_from, record_at};
 
 use layout::{General, Record};
 use std::marker::Model;
 
+#[derive(Drop)]
 pub struct Image<'a> {
     pub bytes: &'a [u8],
     pub general: General,
@@ -54,11 +55,41 @@ impl<'a> Image<'a> {
         layout::start_of(self.bytes, t)
     }
 
+    // Where the first table begins, that of the bands.
+    #[tactic(auto, using(layout::specs::Laws::table_within, layout::specs::Laws::first_table))]
+    pub fn tables_from(&self) -> usize
+        ensures gives { result ≡ tables_from self.now }
+        ensures lies { (result + 32 * count_of self.now 0 + 28 ≤ length self.now) × (length self.now ≤ 65552) }
+    {
+        layout::tables_from(self.bytes)
+    }
+
     // The record that begins at a place.
     pub fn record_at(&self, at: usize) -> Record
         requires { at + 32 ≤ length self.now }
         ensures { result ≡ record_at self.now at }
     {
         layout::record_at(self.bytes, at)
+    }
+    // Parts of it: the bits of its low and its high end, and its class.
+    pub fn low_at(&self, at: usize) -> u64
+        requires { at + 32 ≤ length self.now }
+        ensures { result ≡ (record_at self.now at).low }
+    {
+        layout::low_at(self.bytes, at)
+    }
+
+    pub fn high_at(&self, at: usize) -> u64
+        requires { at + 32 ≤ length self.now }
+        ensures { result ≡ (record_at self.now at).high }
+    {
+        layout::high_at(self.bytes, at)
+    }
+
+    pub fn class_at(&self, at: usize) -> u8
+        requires { at + 32 ≤ length self.now }
+        ensures { result ≡ (record_at self.now at).class }
+    {
+        layout::class_at(self.bytes, at)
     }
 }

@@ -28,7 +28,7 @@ returns-then-count_of-eq0 c =
     c.args.t
     (count_in_holds c.args.s.now
     c.args.t
-    c.requires.1 ∙ sym c.count_of.ensures ∙ c.if-count_of-eq0.true))
+    c.requires.1 ∙ sym c.count_of.ensures.gives ∙ c.if-count_of-eq0.true))
 
 pub returns : goal.returns
 returns c =
@@ -41,4 +41,4 @@ returns c =
     ∙ not-false _ c.if-not-is_absent.false-raw)
     (rw (count_in_holds c.args.s.now
     c.args.t
-    c.requires.1) (rw (← c.count_of.ensures) (omega arith))))
+    c.requires.1) (rw (← c.count_of.ensures.gives) (omega arith))))

@@ -4,10 +4,7 @@ use Rattle.image.specs.Short.{plain_smooth, plain_left}
 use Rattle.image.proofs.content.Goals as goal
 
 pub left-requires : goal.left-requires
-left-requires c = (
-  c.requires,
-  plain_smooth c.args.s.now (sym c.is_plain.ensures ∙ c.if-is_plain.true),
-)
+left-requires c = plain_smooth c.args.s.now (sym c.is_plain.ensures ∙ c.if-is_plain.true)
 
 pub returns-then-is_plain : goal.returns-then-is_plain
 returns-then-is_plain c = c.left.ensures ∙ sym (plain_left c.args.s.now

@@ -13,9 +13,9 @@ use Rattle.tidy.proofs.two_share.Goals as goal
 pub returns : goal.returns
 unfolding two_share
 returns c =
-    rw (count_in_holds c.args.s.now c.args.t c.requires.1)
-    (rw (← c.count_of.ensures)
+    rw (count_in_holds c.args.s.now c.args.t c.requires)
+    (rw (← c.count_of.ensures.gives)
     (c.some.ensures (shares_earlier (table_of c.args.s.now) c.args.t c.args.classes)
     (λ j b h q.
     let own : b ≡ some (λ i. asks (pair_question c.args.classes (record_at c.args.s.now (c.start_of-start.result + record_size * j))) (record_at c.args.s.now (c.start_of-start.result + record_size * i))) j = search rules in
-    own ∙ earlier_in c.args.s.now c.args.t c.args.classes j _ c.requires.1 (omega (arith, c.count_of.ensures)) c.start_of-start.ensures)))
+    own ∙ earlier_in c.args.s.now c.args.t c.args.classes j _ c.requires (omega (arith, c.count_of.ensures.gives)) c.start_of-start.ensures.gives)))
