@@ -1,14 +1,13 @@
 // The rows of a dial list, segment by segment, privilege by privilege, automatic segment by automatic segment, and then the 60 m
-// channels: searches that give one row after the other. It uses codes, profile, air, scan, layout, table, find,
+// channels: searches that give one row after the other. It uses codes, profile, air, scan, layout, whole, table, find,
 // automatic_97_221 and rows; its laws use apart, lists, order and bit_order.
 #![tactic(auto)]
 
 ghost use Rattle.std.specs.Prelude.{◌≡◌, ◌+◌, ◌*◌, ◌≤◌, ◌<◌, ℕ, List, Option, length};
 ghost use Rattle.lists.specs.From.{from as gathered_from};
 ghost use Rattle.profile.specs.Range.{holds_of};
-ghost use Rattle.layout.specs.Form.{Whole};
 ghost use Rattle.table.specs.Table.{table_of};
-ghost use Rattle.layout.specs.Layout.{channels, count_of, record_at, start_of};
+ghost use Rattle.layout.specs.Layout.{record_at};
 ghost use Rattle.table.specs.Parts.{segment_of};
 ghost use Rattle.dial_rows.specs.Apart.{below_bits, apart_of};
 ghost use Rattle.dial_rows.specs.Class.{Ahead, Past};
@@ -16,7 +15,7 @@ ghost use Rattle.rows.specs.declared.SafeDial.{SafeDial};
 ghost use Rattle.dial_rows.specs.Dials.{request_of, piece_rows, cut, may_use, too_wide, excluded_band};
 ghost use Rattle.dial_rows.specs.Dials.{centre_span, some_centre, channel_found, channels_open, channel_row, channel_rows_at};
 ghost use Rattle.dial_rows.specs.Next.{rows_in, cut_next, segment_next, cuts, automatic_in, cut_at, cuts_from, privilege_from, pair_from};
-ghost use Rattle.dial_rows.specs.Next.{behind_of, privileges_from, closed_of, channel_count_of, channels_from, Known, Searched};
+ghost use Rattle.dial_rows.specs.Next.{behind_of, privileges_from, closed_of, channel_count_of, channels_from, Searched};
 
 use air::Margins;
 use codes::{ControlMode, Direction, EmissionKind, LicenseClass, Sideband};
@@ -199,11 +198,11 @@ fn below(high: u64, low: u64) -> bool
 }
 
 // Whether a record's range lies apart from that of the record which begins at a place, by their bits.
-fn apart(image: &[u8], at: usize, r: Record) -> bool
+fn apart(image: &Image, at: usize, r: Record) -> bool
     requires { at + 32 ≤ length image.now }
     ensures { result ≡ apart_of r (record_at image.now at) }
 {
-    below(r.high, layout::low_at(image, at)) || below(layout::high_at(image, at), r.low)
+    below(r.high, image.low_at(at)) || below(image.high_at(at), r.low)
 }
 
 // The place behind a row at cut k − 1 of a privilege.
@@ -394,10 +393,10 @@ impl<'a> RowSearch<'a> {
     {
         let image = self.image;
         let at = self.places.privileges + layout::RECORD_SIZE * i;
-        if layout::class_at(image.bytes, at) != self.request.class {
+        if image.class_at(at) != self.request.class {
             return None;
         }
-        if apart(image.bytes, at, r) {
+        if apart(image, at, r) {
             return None;
         }
         let s = table::segment_of(r);
