@@ -324,6 +324,7 @@ fn places_of(image: &Image, q: Request, band: Option<Channels>) -> Search
 }
 
 // A search for the rows of a request in an image, with those of the channels of a band, if it has one.
+#[derive(Drop)]
 pub struct RowSearch<'a> {
     pub image: &'a Image<'a>,
     pub request: Request,
