@@ -32,24 +32,25 @@ overlaps_all l t n h e = rw (count_in_holds l t h ∙ sym e) (from_all n (pair_r
 
 -- ---- gaps
 
-module _ (l : List ℕ) (m n : ℕ) (e : m ≡ count_of l privileges) (f : n ≡ count_of l segments) where
-  pub gaps_all : (class : ℕ) → from n (gaps_at (table_of l) class) 0 ≡ gap_rows (table_of l) class
-  unfolding gap_rows
-  gaps_all class = rw (count_in_holds l segments (omega arith) ∙ sym f) (from_all n (gaps_at (table_of l) class))
+pub gaps_all : (l : List ℕ) (n : ℕ) → n ≡ count_of l segments → (class : ℕ) → from n (gaps_at (table_of l) class) 0 ≡ gap_rows (table_of l) class
+unfolding gap_rows
+gaps_all l n e class = rw (count_in_holds l segments (omega arith) ∙ sym e) (from_all n (gaps_at (table_of l) class))
 
+-- of segment i, by what was asked of it
+module _ (l : List ℕ) (n : ℕ) (e : n ≡ count_of l privileges) where
   pub gaps_read :
       (class i : ℕ) (r : Record) (x : Range) → r ≡ (table_of l).at segments i → x ≡ span_of r
-      → map (gap_row class i) (of_part (left_from ((table_of l).at privileges) (Some class) (m - 0) 0) x) ≡ gaps_at (table_of l) class i
+      → map (gap_row class i) (of_part (left_from ((table_of l).at privileges) (Some class) (n - 0) 0) x) ≡ gaps_at (table_of l) class i
   unfolding gaps_in
   gaps_read class i r x q p =
-      let c : m - 0 ≡ (table_of l).count privileges = omega (arith, count_in_holds l privileges (omega arith)) in
-      ap (λ (n : ℕ). map (gap_row class i) (of_part (left_from ((table_of l).at privileges) (Some class) n 0) x)) c
+      let c : n - 0 ≡ (table_of l).count privileges = omega (arith, count_in_holds l privileges (omega arith)) in
+      ap (λ (k : ℕ). map (gap_row class i) (of_part (left_from ((table_of l).at privileges) (Some class) k 0) x)) c
       ∙ ap (λ (y : Range). map (gap_row class i) (of_part (left_from ((table_of l).at privileges) (Some class) ((table_of l).count privileges) 0) y))
       (p ∙ ap span_of q)
 
   pub gaps_long :
       (class i : ℕ) (r : Record) (x : Range) → r ≡ (table_of l).at segments i → x ≡ span_of r
-      → length (of_part (left_from ((table_of l).at privileges) (Some class) (m - 0) 0) x) ≡ length (gaps_at (table_of l) class i)
+      → length (of_part (left_from ((table_of l).at privileges) (Some class) (n - 0) 0) x) ≡ length (gaps_at (table_of l) class i)
   gaps_long class i r x q p =
-      sym (length-map (of_part (left_from ((table_of l).at privileges) (Some class) (m - 0) 0) x) (gap_row class i)) ∙ ap length
+      sym (length-map (of_part (left_from ((table_of l).at privileges) (Some class) (n - 0) 0) x) (gap_row class i)) ∙ ap length
       (gaps_read class i r x q p)

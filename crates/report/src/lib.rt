@@ -141,6 +141,8 @@ fn gap_rows(image: &Image, rows: &mut [u8], class: u8, before: usize) -> usize
 fn gather(image: &Image, rows: &mut [u8], class: u8) -> usize
     ensures { Poured offer_at rows.old 0 rows.new result (report_rows (table_of image.now) class) }
 {
+    // That the image is whole bounds the rows.
+    let _ = &image.bytes;
     let a = overlap_rows(image, rows, layout::BANDS, 0);
     let b = overlap_rows(image, rows, layout::SEGMENTS, a);
     let c = overlap_rows(image, rows, layout::PRIVILEGES, b);

@@ -1,6 +1,6 @@
 -- `report::pair_rows` meets its contract: what the sweep finds is the next row to offer.
 use Rattle.std.proofs.Common.{ap, arith, length, sym}
-use Rattle.lists.specs.Pour.{pouring_none, pouring_step, pouring_done}
+use Rattle.lists.specs.Pour.{pouring_step, pouring_done}
 use Rattle.table.specs.Table.{table_of}
 use Rattle.sweep.specs.Laws.{swept_more, swept_none}
 use Rattle.report.specs.Report.{overlap_row}

@@ -3,4 +3,4 @@ use Rattle.report.specs.Answer.{poured}
 use Rattle.report.proofs.settle.Goals as goal
 
 pub returns : goal.returns
-returns c = poured _ _ _ _ _ c.requires.2 c.requires.3 c.gather.ensures
+returns c = poured _ _ _ _ _ c.requires.1 c.requires.2 c.gather.ensures
