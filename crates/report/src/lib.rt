@@ -8,8 +8,8 @@ ghost use Rattle.lists.specs.Pour.{Poured};
 ghost use Rattle.table.specs.Table.{table_of};
 ghost use Rattle.report_rows.specs.Rows.{encode_all, offer_at};
 ghost use Rattle.report.specs.Gaps.{of_part, left_from};
-ghost use Rattle.report.specs.Report.{pair_members, overlap_row, pair_rows_at, overlap_rows};
-ghost use Rattle.report.specs.Report.{gap_row, gaps_in, gap_rows, report_rows, Begun, Filled, Reported};
+ghost use Rattle.report.specs.Report.{pair_members, pair_rows_at, overlap_rows};
+ghost use Rattle.report.specs.Report.{gap_row, gap_rows, report_rows, Begun, Filled, Reported};
 
 use codes::Refusal;
 use layout::Record;
