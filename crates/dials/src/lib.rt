@@ -1,5 +1,5 @@
 // The dial list: the dials that keep a signal inside the rules, as rows in lent bytes. A public call. It uses codes, occupancy, air, station,
-// layout, table, entry, byte_writes, rows, nearest_rows and dial_rows; its laws use lists.
+// layout, whole, table, entry, fill, rows, nearest_rows and dial_rows; its laws use lists.
 #![tactic(auto)]
 
 ghost use Rattle.std.specs.Prelude.{◌++◌, ◌≡◌, ◌+◌, ◌*◌, ◌≤◌, length, drop};
@@ -9,7 +9,7 @@ ghost use Rattle.table.specs.Parts.{segment_of};
 ghost use Rattle.rows.specs.Pour.{Poured};
 ghost use Rattle.nearest_rows.specs.Over.{nearest_over};
 ghost use Rattle.dial_rows.specs.Dials.{privileges_rows, segment_rows, data_rows, band_rows, searched_rows};
-ghost use Rattle.dials.specs.List.{situation_rows, Begun, Filled, SafeDials};
+ghost use Rattle.dials.specs.List.{situation_rows, Filled, SafeDials};
 
 use codes::{Direction, Refusal};
 use dial_rows::{RowSearch, Spot};
@@ -141,41 +141,18 @@ fn gather(search: &RowSearch, rows: &mut [u8]) -> usize
     }
 }
 
-// Writes the rows, which fit: from the bytes that they were counted on, where these had room for all, and else by one more pass.
-#[tactic(auto, using(dial_rows::specs::Laws::gathered_low, crate::specs::Answer::copied, crate::specs::Answer::poured_whole))]
-fn settle(search: &RowSearch, rows: &mut [u8], own: &[u8], count: usize)
-    requires { (Begun (searched_rows (table_of search.now.image.now) search.now.request search.now.band) own.now)
-        × (count ≡ length (searched_rows (table_of search.now.image.now) search.now.request search.now.band)) × (count * 36 ≤ length rows.old) }
-    ensures { rows.new ≡ encode_all (sorted (searched_rows (table_of search.now.image.now) search.now.request search.now.band))
-        ++ drop (count * 36) rows.old }
-{
-    let room = count * rows::ROW_SIZE;
-    if room <= own.len() {
-        byte_writes::copy(rows, own, room);
-    } else {
-        gather(search, &mut rows[..room]);
-    }
-}
-
-// Counts the rows on bytes of their own, refuses a list longer than the whole rows lent, and writes the rows where they fit.
-#[tactic(auto, using(dial_rows::specs::Laws::gathered_low, crate::specs::Answer::begun, crate::specs::Answer::filled_long, crate::specs::Answer::filled_fit))]
-fn fill_from(search: &RowSearch, rows: &mut [u8], own: &mut [u8]) -> Result<usize, Refusal>
-    ensures { Filled (searched_rows (table_of search.now.image.now) search.now.request search.now.band) rows.old rows.new result }
-{
-    let count = gather(search, own);
-    if rows.len() / rows::ROW_SIZE < count {
-        return Err(Refusal::Rows);
-    }
-    settle(search, rows, own, count);
-    Ok(count)
-}
-
-// The same with bytes made for it.
-fn fill(search: &RowSearch, rows: &mut [u8]) -> Result<usize, Refusal>
+// Fills the bytes with them, in their order.
+fn fill_rows(search: &RowSearch, rows: &mut [u8]) -> Result<usize, Refusal>
     ensures { Filled (searched_rows (table_of search.now.image.now) search.now.request search.now.band) rows.old rows.new result }
 {
     let mut own = [0u8; OWN];
-    fill_from(search, rows, &mut own)
+    fill::fill(
+        rows,
+        &mut own,
+        rows::ROW_SIZE,
+        Refusal::Rows,
+        |out| gather(search, out),
+    )
 }
 
 // The list for a station and edges as they are read, under Rules.
@@ -195,7 +172,7 @@ fn situation_list(
     let g = image.general;
     let audio = e.range(table::reading_of(g));
     let q = dial_rows::request_of(g, license, sideband, control, direction, s.margin, audio);
-    fill(&RowSearch::of(image, q, table::channels_of(g)), rows)
+    fill_rows(&RowSearch::of(image, q, table::channels_of(g)), rows)
 }
 
 // The dials that keep a signal of these edges inside the rules, with the margins to spare, in a stable order by lower dial.

@@ -1,6 +1,6 @@
 // The trustee's table report: the pairs of bands, of data segments and of privileges of one class that share a stretch, and the stretches
 // of the data segments that no privilege of a class covers, as rows in lent bytes. A public call. It uses codes, profile, layout, whole,
-// table, image, sweep, byte_writes and report_rows; its laws use lists and order.
+// table, image, sweep, fill and report_rows; its laws use lists and order.
 #![tactic(auto)]
 
 ghost use Rattle.std.specs.Prelude.{Some, ◌≡◌, ◌++◌, map, ◌+◌, ◌*◌, ◌-◌, ◌≤◌, ◌<◌, length, drop};
@@ -9,7 +9,7 @@ ghost use Rattle.table.specs.Table.{table_of};
 ghost use Rattle.report_rows.specs.Rows.{encode_all, offer_at};
 ghost use Rattle.report.specs.Gaps.{of_part, left_from};
 ghost use Rattle.report.specs.Report.{pair_members, pair_rows_at, overlap_rows};
-ghost use Rattle.report.specs.Report.{gap_row, gap_rows, report_rows, Begun, Filled, Reported};
+ghost use Rattle.report.specs.Report.{gap_row, gap_rows, report_rows, Filled, Reported};
 
 use codes::Refusal;
 use layout::Record;
@@ -149,40 +149,18 @@ fn gather(image: &Image, rows: &mut [u8], class: u8) -> usize
     gap_rows(image, rows, class, c)
 }
 
-// Writes the rows, which fit: from the bytes that they were counted on, where these had room for all, and else by one more pass.
-#[tactic(auto, using(crate::specs::Answer::copied))]
-fn settle(image: &Image, rows: &mut [u8], class: u8, own: &[u8], count: usize)
-    requires { (Begun (report_rows (table_of image.now) class) own.now)
-        × (count ≡ length (report_rows (table_of image.now) class)) × (count * 24 ≤ length rows.old) }
-    ensures { rows.new ≡ encode_all (report_rows (table_of image.now) class) ++ drop (count * 24) rows.old }
-{
-    let room = count * report_rows::ROW_SIZE;
-    if room <= own.len() {
-        byte_writes::copy(rows, own, room);
-        return;
-    }
-    gather(image, rows, class);
-}
-
-// Counts the rows on bytes of their own, refuses where too few whole rows are lent, and writes them where they fit.
-#[tactic(auto, using(crate::specs::Answer::begun, crate::specs::Answer::filled_long, crate::specs::Answer::filled_fit))]
-fn fill_from(image: &Image, class: u8, rows: &mut [u8], own: &mut [u8]) -> Result<usize, Refusal>
-    ensures { Filled (report_rows (table_of image.now) class) rows.old rows.new result }
-{
-    let count = gather(image, own, class);
-    if rows.len() / report_rows::ROW_SIZE < count {
-        return Err(Refusal::Report);
-    }
-    settle(image, rows, class, own, count);
-    Ok(count)
-}
-
-// The same with bytes made for it.
-fn fill(image: &Image, class: u8, rows: &mut [u8]) -> Result<usize, Refusal>
+// Fills the bytes with them.
+fn fill_rows(image: &Image, class: u8, rows: &mut [u8]) -> Result<usize, Refusal>
     ensures { Filled (report_rows (table_of image.now) class) rows.old rows.new result }
 {
     let mut own = [0u8; OWN];
-    fill_from(image, class, rows, &mut own)
+    fill::fill(
+        rows,
+        &mut own,
+        report_rows::ROW_SIZE,
+        Refusal::Report,
+        |out| gather(image, out, class),
+    )
 }
 
 // The overlaps and gaps of an image's table, for a licence class, as rows of 24 bytes.
@@ -193,5 +171,5 @@ pub fn report_of(image: &[u8], class: u8, rows: &mut [u8]) -> Result<usize, Refu
         return Err(Refusal::StationCode);
     }
     image::check(image)?;
-    fill(&Image::of(image), class, rows)
+    fill_rows(&Image::of(image), class, rows)
 }

@@ -17,4 +17,4 @@ of-requires c = accepted_whole _ (sym c.check.ensures ∙ c.in_ok-check.was)
 pub returns : goal.returns
 returns c =
     let a = c.args in
-    reported_rows a.image.now a.class a.rows.now _ _ c.if-class-gt4.false (sym c.in_ok-check.was ∙ c.check.ensures) (rw c.of.ensures at c.fill.ensures)
+    reported_rows a.image.now a.class a.rows.now _ _ c.if-class-gt4.false (sym c.in_ok-check.was ∙ c.check.ensures) (rw c.of.ensures at c.fill_rows.ensures)
