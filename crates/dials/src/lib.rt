@@ -2,8 +2,7 @@
 // layout, whole, table, entry, fill, rows, nearest_rows and dial_rows; its laws use lists.
 #![tactic(auto)]
 
-ghost use Rattle.std.specs.Prelude.{◌++◌, ◌≡◌, ◌+◌, ◌*◌, ◌≤◌, length, drop};
-ghost use Rattle.rows.specs.Rows.{sorted, encode_all};
+ghost use Rattle.std.specs.Prelude.{◌≡◌, ◌+◌, ◌≤◌};
 ghost use Rattle.table.specs.Table.{table_of};
 ghost use Rattle.table.specs.Parts.{segment_of};
 ghost use Rattle.rows.specs.Pour.{Poured};

@@ -3,10 +3,10 @@
 // table, image, sweep, fill and report_rows; its laws use lists and order.
 #![tactic(auto)]
 
-ghost use Rattle.std.specs.Prelude.{Some, ◌≡◌, ◌++◌, map, ◌+◌, ◌*◌, ◌-◌, ◌≤◌, ◌<◌, length, drop};
+ghost use Rattle.std.specs.Prelude.{Some, ◌≡◌, map, ◌+◌, ◌-◌, ◌≤◌, ◌<◌, length};
 ghost use Rattle.lists.specs.Pour.{Poured};
 ghost use Rattle.table.specs.Table.{table_of};
-ghost use Rattle.report_rows.specs.Rows.{encode_all, offer_at};
+ghost use Rattle.report_rows.specs.Rows.{offer_at};
 ghost use Rattle.report.specs.Gaps.{of_part, left_from};
 ghost use Rattle.report.specs.Report.{pair_members, pair_rows_at, overlap_rows};
 ghost use Rattle.report.specs.Report.{gap_row, gap_rows, report_rows, Filled, Reported};
