@@ -181,6 +181,10 @@ band_rows table q None = []
 
 -- ---- the whole list
 
+-- every row that is searched for: the data segments, then the channels of a band
+abbrev pub searched_rows : Table → Request → Option Channels → List SafeDial
+searched_rows table q band = data_rows table q ++ band_rows table q band
+
 -- every row, in the order of the Rust before it sorts: the data segments, then the channels
 unfoldable pub rows_of : Table → Request → List SafeDial
 rows_of table q = data_rows table q ++ band_rows table q (channels_of table.general)

@@ -1,22 +1,21 @@
 // The rows of a dial list, segment by segment, privilege by privilege, automatic segment by automatic segment, and then the 60 m
-// channels: searches that give one row after the other. It uses codes, profile, air, scan, layout, table, find,
+// channels: searches that give one row after the other. It uses codes, profile, air, scan, layout, whole, table, find,
 // automatic_97_221 and rows; its laws use apart, lists, order and bit_order.
 #![tactic(auto)]
 
-ghost use Rattle.std.specs.Prelude.{◌≡◌, ◌+◌, ◌≤◌, ◌<◌, ℕ, List, Option, length};
+ghost use Rattle.std.specs.Prelude.{◌≡◌, ◌+◌, ◌*◌, ◌≤◌, ◌<◌, ℕ, List, Option, length};
 ghost use Rattle.lists.specs.From.{from as gathered_from};
 ghost use Rattle.profile.specs.Range.{holds_of};
-ghost use Rattle.layout.specs.Form.{Whole};
 ghost use Rattle.table.specs.Table.{table_of};
-ghost use Rattle.layout.specs.Layout.{channels, count_of, record_at, start_of};
+ghost use Rattle.layout.specs.Layout.{record_at};
 ghost use Rattle.table.specs.Parts.{segment_of};
 ghost use Rattle.dial_rows.specs.Apart.{below_bits, apart_of};
 ghost use Rattle.dial_rows.specs.Class.{Ahead, Past};
 ghost use Rattle.rows.specs.declared.SafeDial.{SafeDial};
 ghost use Rattle.dial_rows.specs.Dials.{request_of, piece_rows, cut, may_use, too_wide, excluded_band};
-ghost use Rattle.dial_rows.specs.Dials.{centre_span, channel_found, channels_open, channel_row, channel_rows_at};
+ghost use Rattle.dial_rows.specs.Dials.{centre_span, some_centre, channel_found, channels_open, channel_row, channel_rows_at};
 ghost use Rattle.dial_rows.specs.Next.{rows_in, cut_next, segment_next, cuts, automatic_in, cut_at, cuts_from, privilege_from, pair_from};
-ghost use Rattle.dial_rows.specs.Next.{behind_of, privileges_from, closed_of, channel_count_of, channels_from, Known, Searched};
+ghost use Rattle.dial_rows.specs.Next.{behind_of, privileges_from, closed_of, channel_count_of, channels_from, Searched};
 
 use air::Margins;
 use codes::{ControlMode, Direction, EmissionKind, LicenseClass, Sideband};
@@ -114,39 +113,12 @@ fn piece_row(q: Request, band: u8, rule: u16, piece: Range) -> Option<SafeDial>
     })
 }
 
-// The row of a piece inside the automatic segment that begins at a place.
-fn automatic_row(image: &[u8], q: Request, band: u8, piece: Range, at: usize) -> Option<SafeDial>
-    requires { at + 32 ≤ length image.now }
-    ensures { rows_in result ≡ automatic_in q band piece (record_at image.now at) }
+// The row of a piece inside an automatic segment.
+fn automatic_row(q: Request, band: u8, piece: Range, r: Record) -> Option<SafeDial>
+    ensures { rows_in result ≡ automatic_in q band piece r }
 {
-    let inside = profile::intersect(piece, table::span_of(layout::record_at(image, at)))?;
+    let inside = profile::intersect(piece, table::span_of(r))?;
     piece_row(q, band, q.segments_rule, inside)
-}
-
-// The row of a cut of a piece.
-#[tactic(auto, using(layout::specs::Laws::table_within, crate::specs::Next::cut_below, table::specs::Laws::at_in))]
-fn cut_row(
-    image: &[u8],
-    q: Request,
-    w: Search,
-    s: Segment,
-    piece: Range,
-    k: usize,
-) -> Option<SafeDial>
-    requires { (Known image.now q w) × (k < w.cuts) }
-    ensures { rows_in result ≡ cut_at (table_of image.now) q s piece k }
-{
-    if w.cut {
-        automatic_row(
-            image,
-            q,
-            s.band,
-            piece,
-            w.automatic + layout::RECORD_SIZE * k,
-        )
-    } else {
-        piece_row(q, s.band, s.rule, piece)
-    }
 }
 
 // The first row that the indices from one to below end give, and the index after it.
@@ -168,48 +140,11 @@ fn row_from<F: Fn(usize) -> Option<SafeDial>>(
     None
 }
 
-// The first row of a piece from a cut on.
-#[tactic(auto, unfolding(crate::specs::Next::cuts_from))]
-fn cuts_from(
-    image: &[u8],
-    q: Request,
-    w: Search,
-    s: Segment,
-    piece: Range,
-    from: usize,
-) -> Option<(SafeDial, usize)>
-    requires { Known image.now q w }
-    ensures { cuts_from (table_of image.now) q s piece from ≡ cut_next (cuts_from (table_of image.now) q s piece) result }
-{
-    row_from(from, w.cuts, |k| cut_row(image, q, w, s, piece, k))
-}
-
 // Whether a privilege is the class's and allows data.
 fn may_use(q: Request, p: Privilege) -> bool
     ensures { result ≡ may_use q p }
 {
     p.class == q.class && profile::allows(p.emissions, EmissionKind::Data)
-}
-
-// The first row of a segment under one privilege, from a cut on.
-#[tactic(auto, unfolding(crate::specs::Next::privilege_from))]
-fn privilege_from(
-    image: &[u8],
-    q: Request,
-    w: Search,
-    s: Segment,
-    p: Privilege,
-    from: usize,
-) -> Option<(SafeDial, usize)>
-    requires { Known image.now q w }
-    ensures { privilege_from (table_of image.now) q s p from ≡ cut_next (privilege_from (table_of image.now) q s p) result }
-{
-    let piece = profile::intersect(s.range, p.range)?;
-    if may_use(q, p) {
-        cuts_from(image, q, w, s, piece, from)
-    } else {
-        None
-    }
 }
 
 // Whether the signal is too wide for a segment.
@@ -263,36 +198,11 @@ fn below(high: u64, low: u64) -> bool
 }
 
 // Whether a record's range lies apart from that of the record which begins at a place, by their bits.
-fn apart(image: &[u8], at: usize, r: Record) -> bool
+fn apart(image: &Image, at: usize, r: Record) -> bool
     requires { at + 32 ≤ length image.now }
     ensures { result ≡ apart_of r (record_at image.now at) }
 {
-    below(r.high, layout::low_at(image, at)) || below(layout::high_at(image, at), r.low)
-}
-
-// The same of a segment's record and the privilege that begins at a place: its class and its range's bits are asked before the rest is
-// read.
-#[tactic(auto, using(crate::specs::Apart::apart_nothing), unfolding(crate::specs::Next::privilege_from))]
-fn pair_from(
-    image: &[u8],
-    q: Request,
-    w: Search,
-    r: Record,
-    at: usize,
-    from: usize,
-) -> Option<(SafeDial, usize)>
-    requires { (at + 32 ≤ length image.now) × (Known image.now q w) }
-    ensures { pair_from image.now q r at from ≡ cut_next (pair_from image.now q r at) result }
-{
-    if layout::class_at(image, at) != q.class {
-        return None;
-    }
-    if apart(image, at, r) {
-        return None;
-    }
-    let s = table::segment_of(r);
-    let p = table::privilege_of(layout::record_at(image, at));
-    privilege_from(image, q, w, s, p, from)
+    below(r.high, image.low_at(at)) || below(image.high_at(at), r.low)
 }
 
 // The place behind a row at cut k − 1 of a privilege.
@@ -308,44 +218,6 @@ fn behind(w: Search, privilege: usize, k: usize) -> Spot
             cut: 0,
         }
     }
-}
-
-// The first row of a segment's record under the privileges from a place on.
-#[tactic(auto, using(layout::specs::Laws::table_within))]
-pub fn privileges_from(
-    image: &[u8],
-    q: Request,
-    w: Search,
-    r: Record,
-    spot: Spot,
-) -> Option<(SafeDial, Spot)>
-    requires { Known image.now q w }
-    ensures { privileges_from (table_of image.now) q (segment_of r) spot
-        ≡ segment_next (privileges_from (table_of image.now) q (segment_of r)) result }
-{
-    let mut from = spot.cut;
-    for i in spot.privilege..w.end {
-        if let Some((x, k)) = pair_from(
-            image,
-            q,
-            w,
-            r,
-            w.privileges + layout::RECORD_SIZE * i,
-            from,
-        ) {
-            return Some((x, behind(w, i, k)));
-        }
-        from = 0;
-    }
-    None
-}
-
-// Whether a segment's record is passed over: the signal is too wide for it, or kept out of its band.
-pub fn closed(image: &Image, q: Request, r: Record) -> bool
-    ensures { result ≡ closed_of (table_of image.now) q (segment_of r) }
-{
-    let s = table::segment_of(r);
-    too_wide(q, s) || excluded(image, q, s)
 }
 
 // Whether channels are asked for at all.
@@ -366,30 +238,23 @@ fn centre_held(range: Range, r: Record) -> bool
     })
 }
 
+// Whether one channel lies under a privilege, which is the class's and allows data.
+fn some_centre(image: &Image, q: Request, p: Privilege) -> bool
+    ensures { result ≡ some_centre (table_of image.now) q p }
+{
+    may_use(q, p) && table::some_of(image, layout::CHANNELS, |c| centre_held(p.range, c))
+}
+
 // Whether one channel lies under one privilege of the class that allows data.
+#[tactic(auto, unfolding(crate::specs::Dials::channel_found))]
 fn channel_found(image: &Image, q: Request) -> bool
     ensures { result ≡ channel_found (table_of image.now) q }
 {
-    let from = image.start_of(layout::PRIVILEGES);
-    let privileges = image.count_of(layout::PRIVILEGES) as usize;
-    let start = image.start_of(layout::CHANNELS);
-    let channels = image.count_of(layout::CHANNELS) as usize;
-    let mut found = false;
-    'search: for i in 0..privileges {
-        let r = image.record_at(from + layout::RECORD_SIZE * i);
-        let p = table::privilege_of(r);
-        if may_use(q, p) {
-            let range = p.range;
-            for k in 0..channels {
-                let c = image.record_at(start + layout::RECORD_SIZE * k);
-                if centre_held(range, c) {
-                    found = true;
-                    break 'search;
-                }
-            }
-        }
-    }
-    found
+    table::some_of(
+        image,
+        layout::PRIVILEGES,
+        |r| some_centre(image, q, table::privilege_of(r)),
+    )
 }
 
 // How many channels are gone through: all, where channels are asked for and one is found.
@@ -420,31 +285,6 @@ fn channel_row(q: Request, c: Channels, center_hz: f64) -> Option<SafeDial>
     })
 }
 
-// The row of channel i.
-#[tactic(auto, using(layout::specs::Laws::table_within, table::specs::Laws::at_in))]
-fn channel_row_at(image: &[u8], q: Request, w: Search, c: Channels, i: usize) -> Option<SafeDial>
-    requires { (Known image.now q w) × (i < w.channel_count) }
-    ensures { rows_in result ≡ channel_rows_at (table_of image.now) q c i }
-{
-    let r = layout::record_at(image, w.channels + layout::RECORD_SIZE * i);
-    channel_row(q, c, table::centre_of(r))
-}
-
-// The first row of the channels from one on, and the channel after it; or no row.
-pub fn channels_from(
-    image: &[u8],
-    q: Request,
-    w: Search,
-    c: Channels,
-    from: usize,
-) -> Option<(SafeDial, usize)>
-    requires { Known image.now q w }
-    ensures { channels_from (table_of image.now) q c w.channel_count from
-        ≡ cut_next (channels_from (table_of image.now) q c w.channel_count) result }
-{
-    row_from(from, w.channel_count, |i| channel_row_at(image, q, w, c, i))
-}
-
 // 97.221: whether a piece is cut to the automatic segments.
 fn is_cut(q: Request) -> bool
     ensures { result ≡ cut q }
@@ -464,9 +304,11 @@ fn cut_count(image: &Image, q: Request) -> usize
 }
 
 // What a search for rows knows beforehand.
-pub fn search_of(image: &Image, q: Request, band: Option<Channels>) -> Search
+fn places_of(image: &Image, q: Request, band: Option<Channels>) -> Search
     ensures { Searched image.now q band result }
 {
+    // That the image is whole is one of the things known.
+    let _ = &image.bytes;
     Search {
         segments: image.start_of(layout::SEGMENTS),
         segment_count: image.count_of(layout::SEGMENTS) as usize,
@@ -478,5 +320,135 @@ pub fn search_of(image: &Image, q: Request, band: Option<Channels>) -> Search
         cuts: cut_count(image, q),
         channels: image.start_of(layout::CHANNELS),
         channel_count: channel_count(image, q, band),
+    }
+}
+
+// A search for the rows of a request in an image, with those of the channels of a band, if it has one.
+#[derive(Drop)]
+pub struct RowSearch<'a> {
+    pub image: &'a Image<'a>,
+    pub request: Request,
+    pub band: Option<Channels>,
+    pub places: Search,
+    pub ghost searched: { Searched image.now request band places },
+}
+
+impl<'a> RowSearch<'a> {
+    // The search for the rows of a request, with those of the channels of a band.
+    pub fn of(image: &'a Image<'a>, q: Request, band: Option<Channels>) -> Self
+        ensures { (result.image.now ≡ image.now) × (result.request ≡ q) × (result.band ≡ band) }
+    {
+        RowSearch {
+            image,
+            request: q,
+            band,
+            places: places_of(image, q, band),
+        }
+    }
+
+    // The row of a cut of a piece.
+    #[tactic(auto, using(layout::specs::Laws::table_within, crate::specs::Next::cut_below, table::specs::Laws::at_in))]
+    fn cut_row(&self, s: Segment, piece: Range, k: usize) -> Option<SafeDial>
+        requires { k < self.now.places.cuts }
+        ensures { rows_in result ≡ cut_at (table_of self.now.image.now) self.now.request s piece k }
+    {
+        if self.places.cut {
+            let r = self
+                .image
+                .record_at(self.places.automatic + layout::RECORD_SIZE * k);
+            automatic_row(self.request, s.band, piece, r)
+        } else {
+            piece_row(self.request, s.band, s.rule, piece)
+        }
+    }
+
+    // The first row of a piece from a cut on.
+    #[tactic(auto, unfolding(crate::specs::Next::cuts_from))]
+    fn cuts_from(&self, s: Segment, piece: Range, from: usize) -> Option<(SafeDial, usize)>
+        ensures { cuts_from (table_of self.now.image.now) self.now.request s piece from
+            ≡ cut_next (cuts_from (table_of self.now.image.now) self.now.request s piece) result }
+    {
+        row_from(from, self.places.cuts, |k| self.cut_row(s, piece, k))
+    }
+
+    // The first row of a segment under one privilege, from a cut on.
+    #[tactic(auto, unfolding(crate::specs::Next::privilege_from))]
+    fn privilege_from(&self, s: Segment, p: Privilege, from: usize) -> Option<(SafeDial, usize)>
+        ensures { privilege_from (table_of self.now.image.now) self.now.request s p from
+            ≡ cut_next (privilege_from (table_of self.now.image.now) self.now.request s p) result }
+    {
+        let piece = profile::intersect(s.range, p.range)?;
+        if may_use(self.request, p) {
+            self.cuts_from(s, piece, from)
+        } else {
+            None
+        }
+    }
+
+    // The same of a segment's record and privilege i: its class and its range's bits are asked before the rest is read.
+    #[tactic(auto, using(layout::specs::Laws::table_within, crate::specs::Apart::apart_nothing), unfolding(crate::specs::Next::privilege_from))]
+    fn pair_from(&self, r: Record, i: usize, from: usize) -> Option<(SafeDial, usize)>
+        requires { i < self.now.places.end }
+        ensures { pair_from self.now.image.now self.now.request r (self.now.places.privileges + 32 * i) from
+            ≡ cut_next (pair_from self.now.image.now self.now.request r (self.now.places.privileges + 32 * i)) result }
+    {
+        let image = self.image;
+        let at = self.places.privileges + layout::RECORD_SIZE * i;
+        if image.class_at(at) != self.request.class {
+            return None;
+        }
+        if apart(image, at, r) {
+            return None;
+        }
+        let s = table::segment_of(r);
+        let p = table::privilege_of(image.record_at(at));
+        self.privilege_from(s, p, from)
+    }
+
+    // The first row of a segment's record under the privileges from a place on.
+    pub fn privileges_from(&self, r: Record, spot: Spot) -> Option<(SafeDial, Spot)>
+        ensures { privileges_from (table_of self.now.image.now) self.now.request (segment_of r) spot
+            ≡ segment_next (privileges_from (table_of self.now.image.now) self.now.request (segment_of r)) result }
+    {
+        let mut from = spot.cut;
+        for i in spot.privilege..self.places.end {
+            if let Some((row, k)) = self.pair_from(r, i, from) {
+                return Some((row, behind(self.places, i, k)));
+            }
+            from = 0;
+        }
+        None
+    }
+
+    // Whether a segment's record is passed over: the signal is too wide for it, or kept out of its band.
+    pub fn closed(&self, r: Record) -> bool
+        ensures { result ≡ closed_of (table_of self.now.image.now) self.now.request (segment_of r) }
+    {
+        let s = table::segment_of(r);
+        too_wide(self.request, s) || excluded(self.image, self.request, s)
+    }
+
+    // The row of channel i.
+    #[tactic(auto, using(layout::specs::Laws::table_within, table::specs::Laws::at_in))]
+    fn channel_row_at(&self, c: Channels, i: usize) -> Option<SafeDial>
+        requires { i < self.now.places.channel_count }
+        ensures { rows_in result ≡ channel_rows_at (table_of self.now.image.now) self.now.request c i }
+    {
+        let r = self
+            .image
+            .record_at(self.places.channels + layout::RECORD_SIZE * i);
+        channel_row(self.request, c, table::centre_of(r))
+    }
+
+    // The first row of the channels from one on, and the channel after it; or no row.
+    pub fn channels_from(&self, c: Channels, from: usize) -> Option<(SafeDial, usize)>
+        ensures { channels_from (table_of self.now.image.now) self.now.request c self.now.places.channel_count from
+            ≡ cut_next (channels_from (table_of self.now.image.now) self.now.request c self.now.places.channel_count) result }
+    {
+        row_from(
+            from,
+            self.places.channel_count,
+            |i| self.channel_row_at(c, i),
+        )
     }
 }

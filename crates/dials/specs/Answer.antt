@@ -1,12 +1,11 @@
 -- The answer case by case, as the code comes to it.
-use Rattle.std.specs.Prelude.{ℕ, ◌+◌, ◌*◌, ◌/◌, ◌<◌, ◌≤◌, Bool, true, false, not, List, [], ◌∷◌, ◌++◌, ◌≡◌, length, take, drop, Some, None, Result, Ok, Err}
+use Rattle.std.specs.Prelude.{ℕ, ◌/◌, Bool, true, false, not, List, [], ◌∷◌, ◌≡◌, length, Some, None, Result, Ok, Err}
 use Rattle.codes.specs.declared.Refusal.TheVariants as refusal
 use Rattle.codes.specs.Refusal.{Checked, Test, test, refusal_of}
 use Rattle.codes.specs.declared.Refusal.{Refusal}
 use Rattle.std.proofs.Math.Bool.{cond}
-use Rattle.std.proofs.Common.{append-nil, sym, ◌∙◌, arith, length-take-le, take_at, lt-ltb, le-ltb}
+use Rattle.std.proofs.Common.{sym, ◌∙◌, arith, le-ltb}
 use Rattle.std.proofs.Math.Path.{refl, ap}
-use Rattle.std.proofs.Math.Seq.{drop-length, paste}
 use Rattle.codes.specs.Read.{direction_valid, direction_of}
 use Rattle.codes.specs.Laws.{refusal_next, refusal_stays}
 use Rattle.codes.specs.declared.LicenseClass.{LicenseClass}
@@ -21,12 +20,13 @@ use Rattle.table.specs.Table.{Table, table_of}
 use Rattle.entry.specs.Entry.{entry_tests, entry_of, edges_valid, edges_read}
 use Rattle.lists.specs.Laws.{Every}
 use Rattle.rows.specs.Rows.{row_size, insert_all, sorted, encode_all}
-use Rattle.rows.specs.Pour.{pour}
-use Rattle.rows.specs.Back.{LowNumber, length_encode, pour_all}
-use Rattle.rows.specs.Order.{length_sorted}
+use Rattle.rows.specs.Pour.{Poured}
+use Rattle.rows.specs.Back.{LowNumber, pour_all}
+use Rattle.fill.specs.Fill.{Gathered}
+use Rattle.fill.specs.Fill as filling
 use Rattle.rows.specs.declared.SafeDial.{SafeDial}
 use Rattle.dials.specs.List.{rows_with_sideband, rows_with_license, rows_with_control, known_rows, situation_rows}
-use Rattle.dials.specs.List.{list_rows, lent_tests, list_tests, Listed, Begun, Filled, SafeDials}
+use Rattle.dials.specs.List.{list_rows, lent_tests, list_tests, Listed, Filled, SafeDials}
 
 listed_as :
     (c d : Checked) (xs ys : List SafeDial) (lent left : List ℕ) (a : Result ℕ Refusal) → c ≡ d → xs ≡ ys → Listed d ys lent left a
@@ -43,56 +43,20 @@ filled_none lent =
     refl
     (record { answered = refl; bytes = refl })
 
-pub filled_long : (xs : List SafeDial) (lent left : List ℕ) → left ≡ lent → length lent / row_size < length xs → Filled xs lent left (Err refusal.Rows)
-filled_long xs lent left e h =
-    listed_as (refusal_of (lent_tests xs lent)) (Err refusal.Rows) xs xs lent left (Err refusal.Rows)
-    (rw (lt-ltb (length lent / row_size) (length xs) h))
-    refl
-    (record { answered = refl; bytes = e })
+-- rows offered one after the other, with room or without
+pub gathered :
+    (xs : List SafeDial) (l l' : List ℕ) (k : ℕ) → Every LowNumber xs → Poured l 0 l' k xs
+    → Gathered (length xs) row_size (encode_all (sorted xs)) l k l'
+gathered xs l l' k f p = record { counted = omega (arith, p.counted); written = λ h. p.written ∙ pour_all l xs f h }
 
-pub filled_fit :
-    (xs : List SafeDial) (lent left : List ℕ) (n : ℕ) → n ≡ length xs → n ≤ length lent / row_size
-    → left ≡ encode_all (sorted xs) ++ drop (n * row_size) lent → Filled xs lent left (Ok n)
-filled_fit xs lent left n e h p =
-    listed_as (refusal_of (lent_tests xs lent)) (Ok tt) xs xs lent left (Ok n)
-    (rw (le-ltb (length lent / row_size) (length xs) (omega arith)))
-    refl
-    (record {
-      answered = ap Ok e;
-      bytes = p ∙ ap (λ (i : ℕ). encode_all (sorted xs) ++ drop (i * row_size) lent) e;
-    })
-
--- rows poured into bytes, with room or without
-pub begun : (xs : List SafeDial) (l own : List ℕ) → Every LowNumber xs → length own ≡ length l → own ≡ pour l 0 xs → Begun xs own
-begun xs l own f s p h =
-    let a : length (encode_all (sorted xs)) ≡ length (sorted xs) * row_size = length_encode (sorted xs) in
-    let b : length (sorted xs) ≡ length xs = length_sorted xs in
-    ap (λ (m : List ℕ). take (length xs * row_size) m) (p ∙ pour_all l xs f (omega arith))
-    ∙ take_at (encode_all (sorted xs)) (drop (length xs * row_size) l) (length xs * row_size) (omega arith)
-
--- and copied from there
-pub copied :
-    (xs : List SafeDial) (lent own : List ℕ) (n : ℕ) → Begun xs own → n ≡ length xs → n * row_size ≤ length own
-    → paste lent 0 own (n * row_size) ≡ encode_all (sorted xs) ++ drop (n * row_size) lent
-copied xs lent own n b e h =
-    let z : 0 + n * row_size ≡ n * row_size = omega arith in
-    let k : length xs * row_size ≡ n * row_size = omega arith in
-    let t : take (n * row_size) own ≡ encode_all (sorted xs) = rw k at (b (omega arith)) in
-    rw z (ap (λ (m : List ℕ). m ++ drop (n * row_size) lent) t)
-
--- rows poured into as many bytes as they need
-pub poured_whole :
-    (xs : List SafeDial) (lent part : List ℕ) (n : ℕ) → Every LowNumber xs → n ≡ length xs → n * row_size ≤ length lent
-    → part ≡ pour (take (n * row_size) lent) 0 xs → part ++ drop (n * row_size) lent ≡ encode_all (sorted xs) ++ drop (n * row_size) lent
-poured_whole xs lent part n f e room p =
-    let t : length (take (n * row_size) lent) ≡ n * row_size = length-take-le (n * row_size) lent room in
-    let k : length xs * row_size ≡ length (take (n * row_size) lent) = omega arith in
-    let w : part ≡ encode_all (sorted xs) =
-    p ∙ pour_all (take (n * row_size) lent) xs f (omega arith)
-    ∙ ap (λ (i : ℕ). encode_all (sorted xs) ++ drop i (take (n * row_size) lent)) k
-    ∙ ap (λ (m : List ℕ). encode_all (sorted xs) ++ m) (drop-length (take (n * row_size) lent))
-    ∙ append-nil (encode_all (sorted xs)) in
-    ap (λ (m : List ℕ). m ++ drop (n * row_size) lent) w
+pub filled :
+    (xs : List SafeDial) (lent left : List ℕ) (a : Result ℕ Refusal)
+    → filling.Filled refusal.Rows (length xs) row_size (encode_all (sorted xs)) lent left a → Filled xs lent left a
+filled xs lent left a f = go (filling.too_few (length xs) row_size lent) refl
+  where
+    go : (b : Bool) → filling.too_few (length xs) row_size lent ≡ b → Filled xs lent left a
+    go true e = record { answered = rw e (rw e at f.answered); bytes = rw e (rw e at f.bytes) }
+    go false e = record { answered = rw e (rw e at f.answered); bytes = rw e (rw e at f.bytes) }
 
 -- ---- a station as it is read
 

@@ -1,5 +1,5 @@
 -- What the list call answers, and what it leaves in the lent bytes.
-use Rattle.std.specs.Prelude.{ℕ, ◌*◌, ◌/◌, ◌≤◌, not, cond, List, [], ◌∷◌, ◌++◌, ◌≡◌, ltb, length, take, drop, Option, Some, None, Result, Ok, Err}
+use Rattle.std.specs.Prelude.{ℕ, ◌*◌, ◌/◌, not, cond, List, [], ◌∷◌, ◌++◌, ◌≡◌, ltb, length, drop, Option, Some, None, Result, Ok, Err}
 use Rattle.codes.specs.declared.Refusal.TheVariants as refusal
 use Rattle.codes.specs.Refusal.{Checked, Test, test, refusal_of}
 use Rattle.codes.specs.declared.Refusal.{Refusal}
@@ -72,10 +72,6 @@ bytes_of (Err n) xs lent = lent
 pub record Listed (c : Checked) (xs : List SafeDial) (lent left : List ℕ) (answer : Result ℕ Refusal) : Type 0 where
   pub answered : answer ≡ answer_of c xs
   pub bytes : left ≡ bytes_of c xs lent
-
--- bytes with room for all the rows begin with them, in their order
-abbrev pub Begun : List SafeDial → List ℕ → Type 0
-Begun xs own = length xs * row_size ≤ length own → take (length xs * row_size) own ≡ encode_all (sorted xs)
 
 -- rows that have only their length against them
 abbrev pub Filled : List SafeDial → List ℕ → List ℕ → Result ℕ Refusal → Type 0

@@ -1,20 +1,17 @@
 // The dial list: the dials that keep a signal inside the rules, as rows in lent bytes. A public call. It uses codes, occupancy, air, station,
-// layout, table, entry, byte_writes, rows, nearest_rows and dial_rows; its laws use lists.
+// layout, whole, table, entry, fill, rows, nearest_rows and dial_rows; its laws use lists.
 #![tactic(auto)]
 
-ghost use Rattle.std.specs.Prelude.{◌++◌, ◌≡◌, ◌+◌, ◌*◌, ◌≤◌, length, drop};
-ghost use Rattle.rows.specs.Rows.{sorted, encode_all};
-ghost use Rattle.layout.specs.Form.{Whole};
+ghost use Rattle.std.specs.Prelude.{◌≡◌, ◌+◌, ◌≤◌};
 ghost use Rattle.table.specs.Table.{table_of};
 ghost use Rattle.table.specs.Parts.{segment_of};
 ghost use Rattle.rows.specs.Pour.{Poured};
 ghost use Rattle.nearest_rows.specs.Over.{nearest_over};
-ghost use Rattle.dial_rows.specs.Dials.{privileges_rows, segment_rows, data_rows, band_rows};
-ghost use Rattle.dial_rows.specs.Next.{Known, Searched};
-ghost use Rattle.dials.specs.List.{situation_rows, Begun, Filled, SafeDials};
+ghost use Rattle.dial_rows.specs.Dials.{privileges_rows, segment_rows, data_rows, band_rows, searched_rows};
+ghost use Rattle.dials.specs.List.{situation_rows, Filled, SafeDials};
 
 use codes::{Direction, Refusal};
-use dial_rows::{Request, Search, Spot};
+use dial_rows::{RowSearch, Spot};
 use layout::Record;
 use nearest_rows::Here;
 use occupancy::Edges;
@@ -35,28 +32,21 @@ const OWN: usize = 2304;
 // The rows of a segment's record under every privilege, one after the other, into bytes that may have room for them or not, and held against
 // a dial. Each of these functions takes the tally so far and returns it with its own.
 #[tactic(auto, using(rows::specs::Pour::pouring_none, rows::specs::Pour::pouring_step, rows::specs::Pour::pouring_done, dial_rows::specs::Next::privileges_all, dial_rows::specs::Laws::privileges_few, nearest_rows::specs::Laws::over_row, nearest_rows::specs::Laws::over_none))]
-fn privileges_rows(
-    image: &[u8],
-    rows: &mut [u8],
-    q: Request,
-    w: Search,
-    r: Record,
-    h: Here,
-    before: Tally,
-) -> Tally
-    requires { (Known image.now q w) × (before.count + 65536 ≤ 0x1_0000_0000) }
-    ensures { (Poured rows.old before.count rows.new result.count (privileges_rows (table_of image.now) q (segment_of r)))
-        × (result.best ≡ nearest_over h.dial_hz h.flags h.channel_band before.best (privileges_rows (table_of image.now) q (segment_of r))) }
+fn privileges_rows(search: &RowSearch, rows: &mut [u8], r: Record, h: Here, before: Tally) -> Tally
+    requires { before.count + 65536 ≤ 0x1_0000_0000 }
+    ensures { (Poured rows.old before.count rows.new result.count (privileges_rows (table_of search.now.image.now) search.now.request (segment_of r)))
+        × (result.best ≡ nearest_over h.dial_hz h.flags h.channel_band before.best
+        (privileges_rows (table_of search.now.image.now) search.now.request (segment_of r))) }
 {
     let mut spot = Spot {
-        privilege: w.first,
+        privilege: search.places.first,
         cut: 0,
     };
     let Tally {
         mut count,
         mut best,
     } = before;
-    while let Some((x, behind)) = dial_rows::privileges_from(image, q, w, r, spot) {
+    while let Some((x, behind)) = search.privileges_from(r, spot) {
         rows::offer(
             rows,
             count,
@@ -76,60 +66,47 @@ fn privileges_rows(
 
 // The rows of a segment's record: none where it is passed over.
 #[tactic(auto, using(rows::specs::Pour::poured_none, dial_rows::specs::Next::segment_closed, dial_rows::specs::Next::segment_open, nearest_rows::specs::Laws::over_none))]
-fn segment_rows(
-    image: &[u8],
-    rows: &mut [u8],
-    q: Request,
-    w: Search,
-    r: Record,
-    h: Here,
-    before: Tally,
-) -> Tally
-    requires { (Known image.now q w) × (before.count + 65536 ≤ 0x1_0000_0000) }
-    ensures { (Poured rows.old before.count rows.new result.count (segment_rows (table_of image.now) q (segment_of r)))
-        × (result.best ≡ nearest_over h.dial_hz h.flags h.channel_band before.best (segment_rows (table_of image.now) q (segment_of r))) }
+fn segment_rows(search: &RowSearch, rows: &mut [u8], r: Record, h: Here, before: Tally) -> Tally
+    requires { before.count + 65536 ≤ 0x1_0000_0000 }
+    ensures { (Poured rows.old before.count rows.new result.count (segment_rows (table_of search.now.image.now) search.now.request (segment_of r)))
+        × (result.best ≡ nearest_over h.dial_hz h.flags h.channel_band before.best
+        (segment_rows (table_of search.now.image.now) search.now.request (segment_of r))) }
 {
-    if dial_rows::closed(image, q, r) {
+    if search.closed(r) {
         before
     } else {
-        privileges_rows(image, rows, q, w, r, h, before)
+        privileges_rows(search, rows, r, h, before)
     }
 }
 
 // The rows of every data segment.
 #[tactic(auto, using(layout::specs::Laws::table_within, dial_rows::specs::Next::data_all, dial_rows::specs::Laws::data_few, rows::specs::Pour::pouring_none, rows::specs::Pour::pouring_more, rows::specs::Pour::pouring_done, lists::specs::From::from_step, lists::specs::From::from_end, table::specs::Laws::at_in, nearest_rows::specs::Laws::over_append, nearest_rows::specs::Laws::over_none))]
-pub fn data_rows(image: &[u8], rows: &mut [u8], q: Request, w: Search, h: Here) -> Tally
-    requires { Known image.now q w }
-    ensures { (Poured rows.old 0 rows.new result.count (data_rows (table_of image.now) q))
-        × (result.best ≡ nearest_over h.dial_hz h.flags h.channel_band None (data_rows (table_of image.now) q)) }
+pub fn data_rows(search: &RowSearch, rows: &mut [u8], h: Here) -> Tally
+    ensures { (Poured rows.old 0 rows.new result.count (data_rows (table_of search.now.image.now) search.now.request))
+        × (result.best ≡ nearest_over h.dial_hz h.flags h.channel_band None (data_rows (table_of search.now.image.now) search.now.request)) }
 {
     let mut t = Tally {
         count: 0,
         best: None,
     };
-    for i in 0..w.segment_count {
-        let r = layout::record_at(image, w.segments + layout::RECORD_SIZE * i);
-        t = segment_rows(image, rows, q, w, r, h, t);
+    for i in 0..search.places.segment_count {
+        let r = search
+            .image
+            .record_at(search.places.segments + layout::RECORD_SIZE * i);
+        t = segment_rows(search, rows, r, h, t);
     }
     t
 }
 
 // The rows of the channels.
 #[tactic(auto, using(rows::specs::Pour::pouring_none, rows::specs::Pour::pouring_step, rows::specs::Pour::pouring_done, dial_rows::specs::Next::band_all, dial_rows::specs::Laws::open_few))]
-fn channel_rows(
-    image: &[u8],
-    rows: &mut [u8],
-    q: Request,
-    w: Search,
-    c: Channels,
-    before: usize,
-) -> usize
-    requires { (Searched image.now q (Some c) w) × (before + 256 ≤ 0x1_0000_0000) }
-    ensures { Poured rows.old before rows.new result (band_rows (table_of image.now) q (Some c)) }
+fn channel_rows(search: &RowSearch, rows: &mut [u8], c: Channels, before: usize) -> usize
+    requires { (search.now.band ≡ Some c) × (before + 256 ≤ 0x1_0000_0000) }
+    ensures { Poured rows.old before rows.new result (band_rows (table_of search.now.image.now) search.now.request (Some c)) }
 {
     let mut from = 0;
     let mut count = before;
-    while let Some((x, behind)) = dial_rows::channels_from(image, q, w, c, from) {
+    while let Some((x, behind)) = search.channels_from(c, from) {
         rows::offer(
             rows,
             count,
@@ -148,83 +125,33 @@ fn channel_rows(
 
 // Every row; and their count.
 #[tactic(auto, using(rows::specs::Pour::poured_none, rows::specs::Pour::poured_more, dial_rows::specs::Laws::data_few))]
-fn gather(image: &[u8], rows: &mut [u8], q: Request, w: Search, band: Option<Channels>) -> usize
-    requires { Searched image.now q band w }
-    ensures { Poured rows.old 0 rows.new result
-        (data_rows (table_of image.now) q ++ band_rows (table_of image.now) q band) }
+fn gather(search: &RowSearch, rows: &mut [u8]) -> usize
+    ensures { Poured rows.old 0 rows.new result (searched_rows (table_of search.now.image.now) search.now.request search.now.band) }
 {
     let h = Here {
         dial_hz: 0.0,
         flags: 0,
         channel_band: 0,
     };
-    let count = data_rows(image, rows, q, w, h).count;
-    match band {
-        Some(c) => channel_rows(image, rows, q, w, c, count),
+    let count = data_rows(search, rows, h).count;
+    match search.band {
+        Some(c) => channel_rows(search, rows, c, count),
         None => count,
     }
 }
 
-// Writes the rows, which fit: from the bytes that they were counted on, where these had room for all, and else by one more pass.
-#[tactic(auto, using(dial_rows::specs::Laws::gathered_low, crate::specs::Answer::copied, crate::specs::Answer::poured_whole))]
-fn settle(
-    image: &[u8],
-    rows: &mut [u8],
-    q: Request,
-    w: Search,
-    band: Option<Channels>,
-    own: &[u8],
-    count: usize,
-)
-    requires { (Searched image.now q band w)
-        × (Begun (data_rows (table_of image.now) q ++ band_rows (table_of image.now) q band) own.now) × (count
-        ≡ length (data_rows (table_of image.now) q ++ band_rows (table_of image.now) q band)) × (count * 36 ≤ length rows.old) }
-    ensures { rows.new ≡ encode_all (sorted (data_rows (table_of image.now) q
-        ++ band_rows (table_of image.now) q band)) ++ drop (count * 36) rows.old }
+// Fills the bytes with them, in their order.
+fn fill_rows(search: &RowSearch, rows: &mut [u8]) -> Result<usize, Refusal>
+    ensures { Filled (searched_rows (table_of search.now.image.now) search.now.request search.now.band) rows.old rows.new result }
 {
-    let room = count * rows::ROW_SIZE;
-    if room <= own.len() {
-        byte_writes::copy(rows, own, room);
-    } else {
-        gather(image, &mut rows[..room], q, w, band);
-    }
-}
-
-// Counts the rows on bytes of their own, refuses a list longer than the whole rows lent, and writes the rows where they fit.
-#[tactic(auto, using(dial_rows::specs::Laws::gathered_low, crate::specs::Answer::begun, crate::specs::Answer::filled_long, crate::specs::Answer::filled_fit))]
-fn fill_from(
-    image: &[u8],
-    rows: &mut [u8],
-    own: &mut [u8],
-    q: Request,
-    w: Search,
-    band: Option<Channels>,
-) -> Result<usize, Refusal>
-    requires { Searched image.now q band w }
-    ensures { Filled (data_rows (table_of image.now) q ++ band_rows (table_of image.now) q band)
-        rows.old rows.new result }
-{
-    let count = gather(image, own, q, w, band);
-    if rows.len() / rows::ROW_SIZE < count {
-        return Err(Refusal::Rows);
-    }
-    settle(image, rows, q, w, band, own, count);
-    Ok(count)
-}
-
-// The same with bytes made for it.
-fn fill(
-    image: &Image,
-    rows: &mut [u8],
-    q: Request,
-    band: Option<Channels>,
-) -> Result<usize, Refusal>
-    ensures { Filled (data_rows (table_of image.now) q ++ band_rows (table_of image.now) q band)
-        rows.old rows.new result }
-{
-    let w = dial_rows::search_of(image, q, band);
     let mut own = [0u8; OWN];
-    fill_from(image, rows, &mut own, q, w, band)
+    fill::fill(
+        rows,
+        &mut own,
+        rows::ROW_SIZE,
+        Refusal::Rows,
+        |out| gather(search, out),
+    )
 }
 
 // The list for a station and edges as they are read, under Rules.
@@ -244,7 +171,7 @@ fn situation_list(
     let g = image.general;
     let audio = e.range(table::reading_of(g));
     let q = dial_rows::request_of(g, license, sideband, control, direction, s.margin, audio);
-    fill(image, rows, q, table::channels_of(g))
+    fill_rows(&RowSearch::of(image, q, table::channels_of(g)), rows)
 }
 
 // The dials that keep a signal of these edges inside the rules, with the margins to spare, in a stable order by lower dial.

@@ -1,11 +1,10 @@
 -- What the call knows on each way to an answer.
-use Rattle.std.specs.Prelude.{ℕ, ◌+◌, ◌*◌, ◌/◌, ◌≤◌, ◌<◌, List, [], ◌∷◌, ◌++◌, ◌≡◌, ltb, length, take, drop, Result, Ok, Err}
+use Rattle.std.specs.Prelude.{ℕ, ◌≤◌, Bool, true, false, List, [], ◌∷◌, ◌++◌, ◌≡◌, ltb, length, Result, Ok, Err}
 use Rattle.codes.specs.declared.Refusal.TheVariants as refusal
 use Rattle.codes.specs.Refusal.{Checked, test, refusal_of}
 use Rattle.codes.specs.declared.Refusal.{Refusal}
 use Rattle.std.proofs.Math.Path.{refl}
-use Rattle.std.proofs.Common.{sym, ap, ◌∙◌, arith, take_at, lt-ltb, le-ltb}
-use Rattle.std.proofs.Math.Seq.{paste}
+use Rattle.std.proofs.Common.{sym, ◌∙◌, arith, le-ltb}
 use Rattle.codes.specs.Laws.{refusal_stays, refusal_next, refusal_both}
 use Rattle.lists.specs.Pour.{Poured}
 use Rattle.layout.specs.Form.{Whole}
@@ -13,9 +12,11 @@ use Rattle.table.specs.Table.{table_of}
 use Rattle.image.specs.Check.{check_tests, check_of}
 use Rattle.image.specs.Laws.{accepted_whole}
 use Rattle.report_rows.specs.Rows.{row_size, encode_all, offer_at}
-use Rattle.report_rows.specs.Laws.{length_all, pour_all}
+use Rattle.report_rows.specs.Laws.{pour_all}
+use Rattle.fill.specs.Fill.{Gathered}
+use Rattle.fill.specs.Fill as filling
 use Rattle.report_rows.specs.declared.ReportRow.{ReportRow}
-use Rattle.report.specs.Report.{report_rows, lent_tests, report_tests, answer_of, Begun, Answered, Filled, Reported}
+use Rattle.report.specs.Report.{report_rows, lent_tests, report_tests, answer_of, Answered, Filled, Reported}
 use Rattle.report.specs.Few.{report_few}
 
 answered_as : (c d : Checked) (xs : List ReportRow) (lent left : List ℕ) (a : Result ℕ Refusal) → c ≡ d → Answered d xs lent left a → Answered c xs lent left a
@@ -23,39 +24,19 @@ answered_as c d xs lent left a e h = rw e h
 
 -- ---- rows counted, and then refused or written
 
-pub filled_long : (xs : List ReportRow) (lent left : List ℕ) → left ≡ lent → length lent / row_size < length xs → Filled xs lent left (Err refusal.Report)
-filled_long xs lent left e h =
-    answered_as (refusal_of (lent_tests xs lent)) (Err refusal.Report) xs lent left (Err refusal.Report) (rw (lt-ltb (length lent / row_size) (length xs) h))
-    (record { answered = refl; bytes = e })
+-- rows offered one after the other, with room or without
+pub gathered :
+    (xs : List ReportRow) (l l' : List ℕ) (k : ℕ) → Poured offer_at l 0 l' k xs → Gathered (length xs) row_size (encode_all xs) l k l'
+gathered xs l l' k p = record { counted = omega (arith, p.counted); written = λ h. p.written ∙ pour_all l xs h }
 
-pub filled_fit :
-    (xs : List ReportRow) (lent left : List ℕ) (n : ℕ) → n ≡ length xs → n ≤ length lent / row_size
-    → left ≡ encode_all xs ++ drop (n * row_size) lent → Filled xs lent left (Ok n)
-filled_fit xs lent left n e h p =
-    answered_as (refusal_of (lent_tests xs lent)) (Ok tt) xs lent left (Ok n) (rw (le-ltb (length lent / row_size) (length xs) (omega arith)))
-    (record { answered = ap Ok e; bytes = p ∙ ap (λ (i : ℕ). encode_all xs ++ drop (i * row_size) lent) e })
-
--- rows poured into bytes, with room or without
-pub begun : (xs : List ReportRow) (l own : List ℕ) (k : ℕ) → length own ≡ length l → Poured offer_at l 0 own k xs → Begun xs own
-begun xs l own k s p h =
-    ap (λ (m : List ℕ). take (length xs * row_size) m) (p.written ∙ pour_all l xs (omega arith))
-    ∙ take_at (encode_all xs) (drop (length xs * row_size) l) (length xs * row_size) (length_all xs)
-
--- and copied from there
-pub copied :
-    (xs : List ReportRow) (lent own : List ℕ) (n : ℕ) → Begun xs own → n ≡ length xs → n * row_size ≤ length own
-    → paste lent 0 own (n * row_size) ≡ encode_all xs ++ drop (n * row_size) lent
-copied xs lent own n b e h =
-    let z : 0 + n * row_size ≡ n * row_size = omega arith in
-    let k : length xs * row_size ≡ n * row_size = omega arith in
-    let t : take (n * row_size) own ≡ encode_all xs = rw k at (b (omega arith)) in
-    rw z (ap (λ (m : List ℕ). m ++ drop (n * row_size) lent) t)
-
--- or poured at once into what was lent
-pub poured :
-    (xs : List ReportRow) (lent left : List ℕ) (n k : ℕ) → n ≡ length xs → n * row_size ≤ length lent → Poured offer_at lent 0 left k xs
-    → left ≡ encode_all xs ++ drop (n * row_size) lent
-poured xs lent left n k e h p = p.written ∙ pour_all lent xs (omega arith) ∙ ap (λ (i : ℕ). encode_all xs ++ drop (i * row_size) lent) (sym e)
+pub filled :
+    (xs : List ReportRow) (lent left : List ℕ) (a : Result ℕ Refusal)
+    → filling.Filled refusal.Report (length xs) row_size (encode_all xs) lent left a → Filled xs lent left a
+filled xs lent left a f = go (filling.too_few (length xs) row_size lent) refl
+  where
+    go : (b : Bool) → filling.too_few (length xs) row_size lent ≡ b → Filled xs lent left a
+    go true e = record { answered = rw e (rw e at f.answered); bytes = rw e (rw e at f.bytes) }
+    go false e = record { answered = rw e (rw e at f.answered); bytes = rw e (rw e at f.bytes) }
 
 -- ---- the whole call
 

@@ -1,5 +1,5 @@
 -- The trustee's table report (document 02, 5).
-use Rattle.std.specs.Prelude.{ℕ, ◌+◌, ◌*◌, ◌/◌, ◌≤◌, cond, List, [], ◌∷◌, ◌++◌, map, ◌≡◌, eqb, ltb, length, take, drop, Option, Some, None, Result, Ok, Err}
+use Rattle.std.specs.Prelude.{ℕ, ◌+◌, ◌*◌, ◌/◌, cond, List, [], ◌∷◌, ◌++◌, map, ◌≡◌, eqb, ltb, length, drop, Option, Some, None, Result, Ok, Err}
 use Rattle.codes.specs.declared.Refusal.TheVariants as refusal
 use Rattle.codes.specs.Refusal.{Checked, Test, test, refusal_of}
 use Rattle.codes.specs.declared.Refusal.{Refusal}
@@ -84,10 +84,6 @@ bytes_of (Err n) xs lent = lent
 pub record Answered (c : Checked) (xs : List ReportRow) (lent left : List ℕ) (answer : Result ℕ Refusal) : Type 0 where
   pub answered : answer ≡ answer_of c xs
   pub bytes : left ≡ bytes_of c xs lent
-
--- bytes with room for all the rows begin with them
-abbrev pub Begun : List ReportRow → List ℕ → Type 0
-Begun xs own = length xs * row_size ≤ length own → take (length xs * row_size) own ≡ encode_all xs
 
 -- rows that have only their number against them
 abbrev pub Filled : List ReportRow → List ℕ → List ℕ → Result ℕ Refusal → Type 0

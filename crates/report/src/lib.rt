@@ -1,17 +1,15 @@
 // The trustee's table report: the pairs of bands, of data segments and of privileges of one class that share a stretch, and the stretches
-// of the data segments that no privilege of a class covers, as rows in lent bytes. A public call. It uses codes, profile, layout, table,
-// image, sweep, byte_writes and report_rows; its laws use lists and order.
+// of the data segments that no privilege of a class covers, as rows in lent bytes. A public call. It uses codes, profile, layout, whole,
+// table, image, sweep, fill and report_rows; its laws use lists and order.
 #![tactic(auto)]
 
-ghost use Rattle.std.specs.Prelude.{Some, ◌≡◌, ◌++◌, map, ◌+◌, ◌*◌, ◌-◌, ◌≤◌, ◌<◌, length, drop};
+ghost use Rattle.std.specs.Prelude.{Some, ◌≡◌, map, ◌+◌, ◌-◌, ◌≤◌, ◌<◌, length};
 ghost use Rattle.lists.specs.Pour.{Poured};
-ghost use Rattle.layout.specs.Form.{Whole};
 ghost use Rattle.table.specs.Table.{table_of};
-ghost use Rattle.sweep.specs.Sweep.{ranges_of};
-ghost use Rattle.report_rows.specs.Rows.{encode_all, offer_at};
+ghost use Rattle.report_rows.specs.Rows.{offer_at};
 ghost use Rattle.report.specs.Gaps.{of_part, left_from};
-ghost use Rattle.report.specs.Report.{pair_members, overlap_row, pair_rows, overlap_rows};
-ghost use Rattle.report.specs.Report.{gap_row, gaps_in, gap_rows, report_rows, Begun, Filled, Reported};
+ghost use Rattle.report.specs.Report.{pair_members, pair_rows_at, overlap_rows};
+ghost use Rattle.report.specs.Report.{gap_row, gap_rows, report_rows, Filled, Reported};
 
 use codes::Refusal;
 use layout::Record;
@@ -34,19 +32,20 @@ fn pair_members(t: usize, r: Record) -> Option<u8>
     }
 }
 
-// The pairs of record i of a table, which is r, with later ones, as rows into bytes that may have room for them or not. Each of these
+// The pairs of record i of a table with later ones, as rows into bytes that may have room for them or not. Each of these
 // functions takes the count of rows so far and returns it with its own.
-fn pair_rows(image: &Image, rows: &mut [u8], g: Ranges, i: usize, r: Record, before: usize) -> usize
-    requires { (Whole image.now) × (g.table < 9) × (g ≡ ranges_of image.now g.table) × (i < g.count)
-        × (before + length (pair_rows (table_of image.now) g.table i r) ≤ 0x1_0000_0000) }
+fn pair_rows(g: &Ranges, rows: &mut [u8], i: usize, before: usize) -> usize
+    requires { (i < g.now.count)
+        × (before + length (pair_rows_at (table_of g.now.image.now) g.now.table i) ≤ 0x1_0000_0000) }
     ensures { Poured offer_at rows.old before rows.new result
-        (pair_rows (table_of image.now) g.table i r) }
+        (pair_rows_at (table_of g.now.image.now) g.now.table i) }
 {
+    let r = g.record(i);
     let members = pair_members(g.table, r);
     let window = table::span_of(r);
     let mut n = before;
     let mut from = i + 1;
-    while let Some((j, x)) = sweep::next(image, g, members, window, from) {
+    while let Some((j, x)) = g.next(members, window, from) {
         report_rows::offer(
             rows,
             n,
@@ -69,10 +68,10 @@ fn overlap_rows(image: &Image, rows: &mut [u8], t: usize, before: usize) -> usiz
     requires { (t < 9) × (before + length (overlap_rows (table_of image.now) t) ≤ 0x1_0000_0000) }
     ensures { Poured offer_at rows.old before rows.new result (overlap_rows (table_of image.now) t) }
 {
-    let g = sweep::ranges_of(image, t);
+    let g = Ranges::of(image, t);
     let mut n = before;
     for i in 0..g.count {
-        n = pair_rows(image, rows, g, i, sweep::record_of(image, g, i), n);
+        n = pair_rows(&g, rows, i, n);
     }
     n
 }
@@ -80,24 +79,23 @@ fn overlap_rows(image: &Image, rows: &mut [u8], t: usize, before: usize) -> usiz
 // What the privileges of a class from an index on leave of a piece of a segment: of the first that shares a stretch with it, what the
 // others leave of the parts below and above that stretch.
 fn gaps_left(
-    image: &Image,
+    g: &Ranges,
     rows: &mut [u8],
-    g: Ranges,
     class: u8,
     segment: usize,
     piece: Range,
     from: usize,
     before: usize,
 ) -> usize
-    requires { (Whole image.now) × (g.table < 9) × (g ≡ ranges_of image.now g.table) × (before
-        + length (of_part (left_from ((table_of image.now).at g.table) (Some class) (g.count - from) from) piece) ≤ 0x1_0000_0000) }
+    requires { before
+        + length (of_part (left_from ((table_of g.now.image.now).at g.now.table) (Some class) (g.now.count - from) from) piece) ≤ 0x1_0000_0000 }
     ensures { Poured offer_at rows.old before rows.new result (map (gap_row class segment)
-        (of_part (left_from ((table_of image.now).at g.table) (Some class) (g.count - from) from) piece)) }
+        (of_part (left_from ((table_of g.now.image.now).at g.now.table) (Some class) (g.now.count - from) from) piece)) }
 {
     if !piece.is_lengthy() {
         return before;
     }
-    let Some((j, x)) = sweep::next(image, g, Some(class), piece, from) else {
+    let Some((j, x)) = g.next(Some(class), piece, from) else {
         report_rows::offer(
             rows,
             before,
@@ -119,8 +117,8 @@ fn gaps_left(
         low_hz: x.high_hz,
         high_hz: piece.high_hz,
     };
-    let n = gaps_left(image, rows, g, class, segment, below, j + 1, before);
-    gaps_left(image, rows, g, class, segment, above, j + 1, n)
+    let n = gaps_left(g, rows, class, segment, below, j + 1, before);
+    gaps_left(g, rows, class, segment, above, j + 1, n)
 }
 
 // The gaps of the data segments, for the privileges of a class.
@@ -128,12 +126,12 @@ fn gap_rows(image: &Image, rows: &mut [u8], class: u8, before: usize) -> usize
     requires { (before + length (gap_rows (table_of image.now) class) ≤ 0x1_0000_0000) }
     ensures { Poured offer_at rows.old before rows.new result (gap_rows (table_of image.now) class) }
 {
-    let g = sweep::ranges_of(image, layout::PRIVILEGES);
-    let s = sweep::ranges_of(image, layout::SEGMENTS);
+    let g = Ranges::of(image, layout::PRIVILEGES);
+    let s = Ranges::of(image, layout::SEGMENTS);
     let mut n = before;
     for i in 0..s.count {
-        let segment = table::span_of(sweep::record_of(image, s, i));
-        n = gaps_left(image, rows, g, class, i, segment, 0, n);
+        let segment = table::span_of(s.record(i));
+        n = gaps_left(&g, rows, class, i, segment, 0, n);
     }
     n
 }
@@ -143,46 +141,26 @@ fn gap_rows(image: &Image, rows: &mut [u8], class: u8, before: usize) -> usize
 fn gather(image: &Image, rows: &mut [u8], class: u8) -> usize
     ensures { Poured offer_at rows.old 0 rows.new result (report_rows (table_of image.now) class) }
 {
+    // That the image is whole bounds the rows.
+    let _ = &image.bytes;
     let a = overlap_rows(image, rows, layout::BANDS, 0);
     let b = overlap_rows(image, rows, layout::SEGMENTS, a);
     let c = overlap_rows(image, rows, layout::PRIVILEGES, b);
     gap_rows(image, rows, class, c)
 }
 
-// Writes the rows, which fit: from the bytes that they were counted on, where these had room for all, and else by one more pass.
-#[tactic(auto, using(crate::specs::Answer::copied))]
-fn settle(image: &Image, rows: &mut [u8], class: u8, own: &[u8], count: usize)
-    requires { (Whole image.now) × (Begun (report_rows (table_of image.now) class) own.now)
-        × (count ≡ length (report_rows (table_of image.now) class)) × (count * 24 ≤ length rows.old) }
-    ensures { rows.new ≡ encode_all (report_rows (table_of image.now) class) ++ drop (count * 24) rows.old }
-{
-    let room = count * report_rows::ROW_SIZE;
-    if room <= own.len() {
-        byte_writes::copy(rows, own, room);
-        return;
-    }
-    gather(image, rows, class);
-}
-
-// Counts the rows on bytes of their own, refuses where too few whole rows are lent, and writes them where they fit.
-#[tactic(auto, using(crate::specs::Answer::begun, crate::specs::Answer::filled_long, crate::specs::Answer::filled_fit))]
-fn fill_from(image: &Image, class: u8, rows: &mut [u8], own: &mut [u8]) -> Result<usize, Refusal>
-    ensures { Filled (report_rows (table_of image.now) class) rows.old rows.new result }
-{
-    let count = gather(image, own, class);
-    if rows.len() / report_rows::ROW_SIZE < count {
-        return Err(Refusal::Report);
-    }
-    settle(image, rows, class, own, count);
-    Ok(count)
-}
-
-// The same with bytes made for it.
-fn fill(image: &Image, class: u8, rows: &mut [u8]) -> Result<usize, Refusal>
+// Fills the bytes with them.
+fn fill_rows(image: &Image, class: u8, rows: &mut [u8]) -> Result<usize, Refusal>
     ensures { Filled (report_rows (table_of image.now) class) rows.old rows.new result }
 {
     let mut own = [0u8; OWN];
-    fill_from(image, class, rows, &mut own)
+    fill::fill(
+        rows,
+        &mut own,
+        report_rows::ROW_SIZE,
+        Refusal::Report,
+        |out| gather(image, out, class),
+    )
 }
 
 // The overlaps and gaps of an image's table, for a licence class, as rows of 24 bytes.
@@ -193,5 +171,5 @@ pub fn report_of(image: &[u8], class: u8, rows: &mut [u8]) -> Result<usize, Refu
         return Err(Refusal::StationCode);
     }
     image::check(image)?;
-    fill(&Image::of(image), class, rows)
+    fill_rows(&Image::of(image), class, rows)
 }

@@ -1,20 +1,14 @@
 -- Laws of the sweep: what a loop knows at an index, and what is gathered from the stretches that it gives.
-use Prim.Native.Nat.{ℕ, zero, suc, ◌+◌, ◌*◌, ◌-◌, ◌<◌, ◌≤◌}
-use Rattle.std.specs.Prelude.{Option, Some, None, ◌≡◌, length}
-use mathlib.Core.List.{List, [], ◌∷◌}
+use Prim.Native.Nat.{ℕ, zero, suc, ◌+◌, ◌-◌, ◌<◌, ◌≤◌}
+use Rattle.std.specs.Prelude.{Option, Some, None, ◌≡◌}
+use mathlib.Core.List.{[], ◌∷◌}
 use Rattle.std.proofs.Math.Path.{refl, ap}
 use Rattle.std.proofs.Common.{sym, ◌∙◌}
 use native.Mathlib.Omega.{arith}
 use Rattle.lists.specs.From.{stretch, from}
 use Rattle.profile.specs.declared.Range.{Range}
-use Rattle.layout.specs.Layout.{record_size, trailer_size, tables, count_of, record_at}
-use Rattle.layout.specs.Form.{Whole}
-use Rattle.layout.specs.Laws.{table_within}
 use Rattle.layout.specs.declared.Record.{Record}
-use Rattle.table.specs.Table.{table_of}
-use Rattle.table.specs.Laws.{count_in_holds, read_in}
-use Rattle.sweep.specs.Sweep.{shared_with, on_shared, swept_from, sweep, gives, ranges_of}
-use Rattle.sweep.specs.declared.Ranges.{Ranges}
+use Rattle.sweep.specs.Sweep.{shared_with, on_shared, swept_from, sweep, gives}
 
 shares_pair : {p q : ℕ × Range} → Some p ≡ Some q → p ≡ q
 shares_pair e = cc
@@ -115,27 +109,3 @@ module _ {A : Type 0} (at : ℕ → Record) (m : Option ℕ) (window : Range) (g
 
     pub swept_none : (i : ℕ) → sweep at m window n i ≡ None → from n (gives at m window g) i ≡ []
     swept_none i e = none (n - i) i e
-
--- ---- one table of an image
-
--- the table's records are counted as the image counts them
-pub ranges_count : (l : List ℕ) (g : Ranges) → g.table < tables → g ≡ ranges_of l g.table → (table_of l).count g.table ≡ g.count
-ranges_count l g h e = count_in_holds l g.table h ∙ sym (ap (λ (r : Ranges). r.count) e)
-
--- a record read from where the table begins
-pub ranges_read :
-    (l : List ℕ) (g : Ranges) (i : ℕ) (r : Record) → g.table < tables → g ≡ ranges_of l g.table → i < g.count
-    → r ≡ record_at l (g.start + record_size * i) → r ≡ (table_of l).at g.table i
-ranges_read l g i r h e k q =
-    let n : g.count ≡ count_of l g.table = ap (λ (x : Ranges). x.count) e in
-    read_in l g.table i g.start r h (omega arith) (ap (λ (x : Ranges). x.start) e) q
-
--- its records lie before the trailer
-pub ranges_within :
-    (l : List ℕ) (g : Ranges) → Whole l → g.table < tables → g ≡ ranges_of l g.table → g.start + record_size * g.count + trailer_size ≤ length l
-ranges_within l g w h e =
-    omega (arith, ap (λ (x : Ranges). x.start) e, ap (λ (x : Ranges). x.count) e, table_within l w g.table h)
-
--- and are few
-pub ranges_few : (l : List ℕ) (g : Ranges) → Whole l → g.table < tables → g ≡ ranges_of l g.table → g.count ≤ 256
-ranges_few l g w h e = omega (arith, ap (λ (x : Ranges). x.count) e, w.few g.table h)

@@ -2,10 +2,8 @@
 use Rattle.std.specs.Prelude.{ℕ, zero, suc, ◌-◌, Bool, true, cond, List, [], ◌∷◌, eqb, Option, Some, None}
 use Rattle.profile.specs.Range.{intersect_of}
 use Rattle.profile.specs.declared.Range.{Range}
-use Rattle.layout.specs.Layout.{count_of, start_of}
 use Rattle.layout.specs.declared.Record.{Record}
 use Rattle.table.specs.Parts.{span_of}
-use Rattle.sweep.specs.declared.Ranges.{Ranges}
 
 -- the records that count: all, or those of a class
 abbrev pub is_member : Option ℕ → Record → Bool
@@ -33,7 +31,3 @@ sweep at m window n i = swept_from at m window (n - i) i
 -- what record j gives: something of the stretch that it shares with a window, if it shares one
 abbrev pub gives : {A : Type 0} → (ℕ → Record) → Option ℕ → Range → (ℕ → Range → A) → ℕ → List A
 gives at m window g j = on_shared (shared_with m window (at j)) (λ x. g j x ∷ []) []
-
--- table t of an image's bytes
-abbrev pub ranges_of : List ℕ → ℕ → Ranges
-ranges_of l t = record { table = t; start = start_of l t; count = count_of l t }

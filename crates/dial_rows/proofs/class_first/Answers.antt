@@ -9,5 +9,5 @@ pub returns : goal.returns
 returns c =
     let asked = c.first.ensures (is_of c.args.image.now c.args.class) (λ i b h e. search (rules, of_in)) in
     let found : c.first.result ≡ first (is_of c.args.image.now c.args.class) (count_of c.args.image.now privileges) =
-    asked ∙ ap (first (is_of c.args.image.now c.args.class)) c.count_of-count.ensures in
-    rw (c.unwrap_or.ensures, c.count_of-count.ensures) (ahead_first _ _ _ found)
+    asked ∙ ap (first (is_of c.args.image.now c.args.class)) c.count_of-count.ensures.gives in
+    rw (c.unwrap_or.ensures, c.count_of-count.ensures.gives) (ahead_first _ _ _ found)

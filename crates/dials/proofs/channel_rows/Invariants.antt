@@ -8,7 +8,7 @@ use Rattle.dials.proofs.channel_rows.Given as goal
 
 abbrev pub invariant-loop-x : goal.invariant-loop-x
 invariant-loop-x l =
-    Pouring l.initial.rows l.before (band_rows (table_of l.image) l.q (Some l.c)) l.rows l.count (channels_from (table_of l.image) l.q l.c l.w.channel_count l.from)
+    Pouring l.initial.rows l.before (band_rows (table_of l.search.image.now) l.search.request (Some l.c)) l.rows l.count (channels_from (table_of l.search.image.now) l.search.request l.c l.search.places.channel_count l.from)
 
 abbrev pub decreases-loop-x : goal.decreases-loop-x
-decreases-loop-x l = length (channels_from (table_of l.image) l.q l.c l.w.channel_count l.from)
+decreases-loop-x l = length (channels_from (table_of l.search.image.now) l.search.request l.c l.search.places.channel_count l.from)

@@ -9,6 +9,6 @@ use Rattle.dials.proofs.data_rows.Given as goal
 
 abbrev pub invariant-loop-i : goal.invariant-loop-i
 invariant-loop-i l =
-    Pouring l.initial.rows 0 (data_rows (table_of l.image) l.q) l.rows l.t.count (from l.w.segment_count (segment_rows_at (table_of l.image) l.q) l.i)
-    × (nearest_over l.h.dial_hz l.h.flags l.h.channel_band l.t.best (from l.w.segment_count (segment_rows_at (table_of l.image) l.q) l.i)
-    ≡ nearest_over l.h.dial_hz l.h.flags l.h.channel_band None (data_rows (table_of l.image) l.q))
+    Pouring l.initial.rows 0 (data_rows (table_of l.search.image.now) l.search.request) l.rows l.t.count (from l.search.places.segment_count (segment_rows_at (table_of l.search.image.now) l.search.request) l.i)
+    × (nearest_over l.h.dial_hz l.h.flags l.h.channel_band l.t.best (from l.search.places.segment_count (segment_rows_at (table_of l.search.image.now) l.search.request) l.i)
+    ≡ nearest_over l.h.dial_hz l.h.flags l.h.channel_band None (data_rows (table_of l.search.image.now) l.search.request))

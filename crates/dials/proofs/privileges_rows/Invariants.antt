@@ -10,9 +10,9 @@ use Rattle.dials.proofs.privileges_rows.Given as goal
 
 abbrev pub invariant-loop-x : goal.invariant-loop-x
 invariant-loop-x l =
-    Pouring l.initial.rows l.initial.count (privileges_rows (table_of l.image) l.q (segment_of l.r)) l.rows l.count (privileges_from (table_of l.image) l.q (segment_of l.r) l.spot)
-    × (nearest_over l.h.dial_hz l.h.flags l.h.channel_band l.best (privileges_from (table_of l.image) l.q (segment_of l.r) l.spot)
-    ≡ nearest_over l.h.dial_hz l.h.flags l.h.channel_band l.initial.best (privileges_rows (table_of l.image) l.q (segment_of l.r)))
+    Pouring l.initial.rows l.initial.count (privileges_rows (table_of l.search.image.now) l.search.request (segment_of l.r)) l.rows l.count (privileges_from (table_of l.search.image.now) l.search.request (segment_of l.r) l.spot)
+    × (nearest_over l.h.dial_hz l.h.flags l.h.channel_band l.best (privileges_from (table_of l.search.image.now) l.search.request (segment_of l.r) l.spot)
+    ≡ nearest_over l.h.dial_hz l.h.flags l.h.channel_band l.initial.best (privileges_rows (table_of l.search.image.now) l.search.request (segment_of l.r)))
 
 abbrev pub decreases-loop-x : goal.decreases-loop-x
-decreases-loop-x l = length (privileges_from (table_of l.image) l.q (segment_of l.r) l.spot)
+decreases-loop-x l = length (privileges_from (table_of l.search.image.now) l.search.request (segment_of l.r) l.spot)

@@ -32,7 +32,7 @@ returns c =
     let a = c.args in
     let said : c.admit.result ≡ entry_of a.r (direction_valid a.direction) a.image.now = rw c.direction_valid.ensures at c.admit.ensures in
     let asked : Filled (situation_rows (table_of a.image.now) (situation_of a.r) (direction_of a.direction) (edges_read a.e)) a.rows.now c.situation_list.new.rows c.situation_list.result =
-    rw c.situation_of-s.ensures at (rw c.edges_read-read.ensures at (rw c.from.ensures at c.situation_list.ensures)) in
+    rw c.situation_of-s.ensures at (rw c.edges_read-read.ensures at (rw c.from.ensures at (rw c.of.ensures at c.situation_list.ensures))) in
     safe_filled a.r a.direction a.e a.image.now a.rows.now (list_rows a.r a.direction a.e a.image.now) _ _
     (sym c.in_ok-admit.was ∙ said)
     (sym c.edges_valid.ensures ∙ c.if-not-edges_valid.false)

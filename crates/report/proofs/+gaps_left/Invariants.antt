@@ -3,4 +3,4 @@ use Prim.Native.Nat.{◌-◌}
 use Rattle.report.proofs.+gaps_left.Given as goal
 
 abbrev pub decreases-gaps_left : goal.decreases-gaps_left
-decreases-gaps_left l = l.g.count - l.from
+decreases-gaps_left l = l.g.now.count - l.from

@@ -8,4 +8,4 @@ use Rattle.report.proofs.gap_rows.Given as goal
 
 abbrev pub invariant-loop-i : goal.invariant-loop-i
 invariant-loop-i l =
-    Pouring offer_at l.initial.rows l.before (gap_rows (table_of l.image) l.class) l.rows l.n (from l.s.count (gaps_at (table_of l.image) l.class) l.i)
+    Pouring offer_at l.initial.rows l.before (gap_rows (table_of l.fn.image) l.class) l.rows l.n (from l.s.count (gaps_at (table_of l.fn.image) l.class) l.i)

@@ -8,4 +8,4 @@ use Rattle.report.proofs.overlap_rows.Given as goal
 
 abbrev pub invariant-loop-i : goal.invariant-loop-i
 invariant-loop-i l =
-    Pouring offer_at l.initial.rows l.before (overlap_rows (table_of l.image) l.t) l.rows l.n (from l.g.count (pair_rows_at (table_of l.image) l.t) l.i)
+    Pouring offer_at l.initial.rows l.before (overlap_rows (table_of l.g.image.now) l.g.table) l.rows l.n (from l.g.count (pair_rows_at (table_of l.g.image.now) l.g.table) l.i)

@@ -10,8 +10,8 @@ use Rattle.report.proofs.pair_rows.Given as goal
 
 abbrev pub invariant-loop-j : goal.invariant-loop-j
 invariant-loop-j l =
-    let pairs = from l.g.count (gives ((table_of l.image).at l.g.table) l.members l.window (overlap_row l.g.table l.members l.i)) in
+    let pairs = from l.g.count (gives ((table_of l.g.image.now).at l.g.table) l.members l.window (overlap_row l.g.table l.members l.i)) in
     Pouring offer_at l.initial.rows l.before (pairs (l.i + 1)) l.rows l.n (pairs l.from)
 
 abbrev pub decreases-loop-j : goal.decreases-loop-j
-decreases-loop-j l = length (from l.g.count (gives ((table_of l.image).at l.g.table) l.members l.window (overlap_row l.g.table l.members l.i)) l.from)
+decreases-loop-j l = length (from l.g.count (gives ((table_of l.g.image.now).at l.g.table) l.members l.window (overlap_row l.g.table l.members l.i)) l.from)

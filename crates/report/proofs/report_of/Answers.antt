@@ -11,10 +11,10 @@ returns-in_err-check c =
     let same : ◌≡◌ {A = Result ℕ Refusal} c.from_residual.result (Err c.in_err-check.field-0.0) = search rules in
     reported_image a.image.now a.class a.rows.now _ _ c.if-class-gt4.false (sym c.check.ensures ∙ c.in_err-check.was) same
 
-pub fill-requires : goal.fill-requires
-fill-requires c = accepted_whole _ (sym c.check.ensures ∙ c.in_ok-check.was)
+pub of-requires : goal.of-requires
+of-requires c = accepted_whole _ (sym c.check.ensures ∙ c.in_ok-check.was)
 
 pub returns : goal.returns
 returns c =
     let a = c.args in
-    reported_rows a.image.now a.class a.rows.now _ _ c.if-class-gt4.false (sym c.in_ok-check.was ∙ c.check.ensures) c.fill.ensures
+    reported_rows a.image.now a.class a.rows.now _ _ c.if-class-gt4.false (sym c.in_ok-check.was ∙ c.check.ensures) (rw c.of.ensures at c.fill_rows.ensures)

@@ -1,9 +1,0 @@
--- `sweep::next` meets its contract: what is left to sweep gives what the whole does.
-use Rattle.std.proofs.Common.{◌≡◌}
-use Rattle.table.specs.Table.{table_of}
-use Rattle.sweep.specs.Sweep.{sweep}
-use Rattle.sweep.proofs.next.Given as goal
-
-abbrev pub invariant-loop-i : goal.invariant-loop-i
-invariant-loop-i l =
-    sweep ((table_of l.image).at l.g.table) l.m l.window l.g.count l.from ≡ sweep ((table_of l.image).at l.g.table) l.m l.window l.g.count l.i
