@@ -90,6 +90,7 @@ fn coded_plan(r: Record) -> bool
 }
 
 // A record of table t.
+// Each table has its own coding: a match whose arms are calls is the plain form.
 pub fn coded_record(t: usize, r: Record) -> bool
     ensures { result ≡ coded_of t r }
 {
