@@ -32,7 +32,7 @@ fn is_noted(c: Case, r: Range, limit: PowerLimit) -> bool
         && (profile::meant_for(limit.classes, c.class) && above(c.power, limit.max_w))
 }
 
-// A mark for each power record that has a note, and whether one has.
+// A mark for each power record that has a note, and whether one has, which saves a second pass. The marks are the answer's.
 #[derive(Clone, Copy)]
 pub struct Notes {
     pub marks: [u8; 256],

@@ -89,7 +89,7 @@ fn coded_plan(r: Record) -> bool
     r.figure == 0 && (r.band == 0 && (no_lists(r) && r.second_rule == 0))
 }
 
-// A record of table t.
+// A record of table t. Each has its own coding: a match whose arms are calls is the plain form.
 #[tactic(auto, unfolding(crate::specs::Coded::coded_of))]
 pub fn coded_record(t: usize, r: Record) -> bool
     ensures { result ≡ coded_of t r }

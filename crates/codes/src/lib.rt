@@ -7,6 +7,7 @@ ghost use Rattle.codes.specs.Code.{class_code, kind_code, bit_of};
 ghost use Rattle.codes.specs.Refusal.{number_of};
 ghost use Rattle.codes.specs.Read.{policy_of, control_of, license_of, sideband_of, kind_of, direction_valid, direction_of};
 
+// Four cases, none of them the absence of another.
 #[derive(Clone, Copy, PartialEq, Eq)]
 pub enum Policy {
     Unset,
@@ -144,6 +145,7 @@ impl From<u8> for Policy {
     }
 }
 
+// 255 says that a term is absent, which is no error: these are no `TryFrom`, whose error every caller would throw away.
 pub fn control_of(code: u8) -> Option<ControlMode>
     ensures { result ≡ control_of code }
 {

@@ -8,7 +8,7 @@ ghost use Rattle.figures.specs.Figure.{min_of, max_of, abs_of, midpoint_of, nega
 // Document 01's limit on the size of a figure, 2^40.
 pub const LIMIT: f64 = 1099511627776.0;
 
-// Rust's f64::min.
+// Rust's f64::min. std's promises leave open which of two noughts comes; this one, max and abs say it.
 pub fn min(x: f64, y: f64) -> f64
     ensures { result ≡ min_of x y }
 {

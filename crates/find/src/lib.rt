@@ -12,7 +12,7 @@ use layout::Record;
 use profile::Range;
 use whole::Image;
 
-// What is asked of a record.
+// What is asked of a record. A match on it whose arms are calls is the plain form: the closures are inside.
 #[derive(Clone, Copy)]
 pub enum Question {
     // A byte outside its values or not zero where unused, in a record of a table (5).

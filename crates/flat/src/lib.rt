@@ -20,6 +20,9 @@ use station::StationRecord;
 use walk::{WalkAnswer, WalkState};
 use walk_step::StepAnswer;
 
+// C has no Option and passes no enum: in these structs a flag stands beside what may be absent, and a number for a case. Their fields have
+// other names and types than what they are read into and made from, so that each is written field by field.
+
 // The station record: codes and presence bytes as document 01 numbers them, figures whatever they are.
 #[repr(C)]
 #[derive(Clone, Copy)]

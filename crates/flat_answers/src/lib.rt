@@ -14,6 +14,8 @@ use fault::{Fault, FaultAnswer};
 use given::Fields;
 use nearest::Nearest;
 
+// Structs of the header: those that are alike are told apart by C, each with its own field.
+
 // What an image is written from, beside its records: edition, general block, and the number of records of each table. The watts of
 // edition 1 are not looked at.
 #[repr(C)]

@@ -1,5 +1,5 @@
 // The table image's bytes: little-endian numbers, records, the general block, the trailer, and refusals 1 to 4.
-// Every offset and size of the image stands here. It uses codes.
+// Every offset and size of the image stands here. It uses codes and scan.
 #![tactic(auto)]
 
 ghost use Rattle.std.specs.Prelude.{◌≡◌, ◌+◌, ◌*◌, ◌≤◌, ◌<◌, length};
@@ -94,6 +94,8 @@ pub struct General {
     pub segment_watts: u64,
 }
 
+// The number of one byte, of two, four and eight: each promises its own by its width, and `from_le_bytes` is no trait's. Here and below a
+// place is another at each call, so that its bound is the call's own.
 pub fn byte_at(s: &[u8], at: usize) -> u8
     requires { at < length s.now }
     ensures { result ≡ byte_at s.now at }
@@ -202,6 +204,7 @@ pub fn record_at(s: &[u8], at: usize) -> Record
     }
 }
 
+// What follows up to `form` is read of bytes that are long enough and not yet known to be whole; `whole::Image` has it for those that are.
 // The edition that the trailer names.
 pub fn edition_of(s: &[u8]) -> u16
     requires { 28 ≤ length s.now }

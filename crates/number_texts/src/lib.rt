@@ -62,7 +62,7 @@ fn put_first(out: &mut [u8], at: usize, count: usize, g: Group)
     out[at] = g.second;
 }
 
-// The last so many digits of a number, from a place on, three at a time. The one call of `last_three` is compiled into the loop.
+// The last so many digits of a number, from a place on: the index goes by threes. The one call of `last_three` is compiled into the loop.
 #[tactic(auto, using(crate::specs::Laws::digit_three, crate::specs::Laws::digit_first, crate::specs::Laws::digit_end))]
 fn put_digits(out: &mut [u8], at: usize, count: usize, n: u64)
     requires { at + count ≤ length out.old }

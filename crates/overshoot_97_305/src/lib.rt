@@ -13,7 +13,7 @@ use part97::Case;
 use profile::Range;
 use whole::Image;
 
-// How far a signal reaches below a segment, and above it.
+// How far a signal reaches below a segment, and above it: the same of the other end, in two lines.
 fn below_of(segment: Range, air: Range) -> f64
     ensures { result ≡ below segment air }
 {

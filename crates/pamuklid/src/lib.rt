@@ -1,5 +1,6 @@
 // The boundary to C: the public calls, with flat structs of numbers. pamuklid_c exports them. It uses station, image, fault, tidy, numbers, verdict,
-// ceiling, dials, report, census, distance, number_texts, airtime, writer, convert, amend, walk and flat.
+// ceiling, dials, nearest, report, census, distance, number_texts, airtime, writer, convert, amend, walk, walk_step, flat and flat_answers. Codes
+// are numbers, every one of which is accepted, and runs lie side by side, as C lends them.
 #![tactic(auto)]
 
 ghost use Rattle.std.specs.Prelude.{◌≡◌};

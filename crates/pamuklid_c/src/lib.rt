@@ -1,5 +1,6 @@
 // The static library: each call of pamuklid under its name in C, with the promise that pamuklid's has. It uses pamuklid, the flat structs of
-// flat and flat_answers, and of the others the definitions that the promises name.
+// flat and flat_answers, and of the others the definitions that the promises name. A crate is a library or a static library, and three crates use
+// pamuklid: so each call stands here once more.
 #![tactic(auto)]
 
 ghost use Rattle.std.specs.Prelude.{◌≡◌};

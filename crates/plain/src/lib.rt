@@ -215,7 +215,7 @@ fn pass(s: &[u8], t: usize, start: usize, count: usize, from: usize) -> usize
     }
 }
 
-// Whether one of a table's records, which begin at a place, is not plain.
+// Whether one of a table's records, which begin at a place, is not plain. The index jumps over what passed the short tests.
 fn rough_from(s: &[u8], t: usize, start: usize, count: usize) -> bool
     requires { start + 32 * count ≤ length s.now }
     ensures { result ≡ rough_from s.now t start count }

@@ -91,7 +91,7 @@ pub fn data_limit(own: Option<f64>, second: Option<u16>, general: DataLimit) -> 
     }
 }
 
-// Whether a privilege's list allows a kind of emission.
+// Whether a privilege's list allows a kind of emission; below, a class in place of the kind.
 pub fn allows(emissions: Option<u8>, kind: EmissionKind) -> bool
     ensures { result ≡ allows_of emissions kind }
 {

@@ -10,7 +10,7 @@ use profile::Range;
 
 pub const ROW_SIZE: usize = 24;
 
-// What a stretch is: shared by two records of the table of this number, or covered by no privilege.
+// What a stretch is: shared by two records of the table of this number, or covered by no privilege. A gap is a kind of row, not the absence of one.
 #[derive(Clone, Copy, PartialEq, Eq)]
 pub enum RowKind {
     Overlap(u8),

@@ -45,7 +45,7 @@ fn put_row(rows: &mut [u8], at: usize, row: SafeDial)
     byte_writes::put(rows, at + 34, 2, row.rule as u64);
 }
 
-// The lower dial, the upper dial and the band of the row that begins at a place.
+// The lower dial, the upper dial and the band of the row that begins at a place, another at each call.
 pub fn low_at(rows: &[u8], at: usize) -> f64
     requires { at + 36 ≤ length rows.now }
     ensures { result ≡ low_at rows.now at }

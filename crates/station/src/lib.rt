@@ -10,7 +10,8 @@ ghost use Rattle.station.specs.Station.{situation_of, station_tests, fresh_of};
 use air::Margins;
 use codes::{Checked, ControlMode, LicenseClass, Policy, Refusal, Sideband};
 
-// The record as it arrives: document 01's numbers, and figures whatever they are.
+// The record as it arrives: document 01's numbers, and figures whatever they are. C passes it, and refusal 20 says which numbers are wrong,
+// so that no flag or number is an Option or an enum yet.
 #[derive(Clone, Copy)]
 pub struct StationRecord {
     pub policy: u8,

@@ -1,5 +1,5 @@
 // What an accepted image says: one function for each part, from its record or the general block. It uses figures, codes,
-// profile, occupancy and layout.
+// profile, occupancy, layout and whole; its clauses use scan.
 #![tactic(auto)]
 
 ghost use Rattle.std.specs.Prelude.{◌≡◌, ◌+◌, ◌*◌, ◌≤◌, ◌<◌, ℕ, Bool, length};
