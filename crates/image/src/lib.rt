@@ -160,7 +160,7 @@ fn is_homeless<T: Source>(s: &T) -> bool
 
 // 14
 #[tactic(auto, unfolding(crate::specs::Check::unlimited))]
-fn is_unlimited(g: General) -> bool
+pub fn is_unlimited(g: General) -> bool
     ensures { result ≡ unlimited g }
 {
     figures::figure(g.data_limit) <= 0.0
