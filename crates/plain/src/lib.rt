@@ -113,121 +113,85 @@ fn privilege_at(s: &[u8], at: usize) -> bool
     range_at(s, at, 0, 0, 1024, 0) || is_listed(layout::record_at(s, at))
 }
 
-// How far the records from one on pass a test of their index. One that answers as p does, record by record, goes as far as p holds.
-fn pass_by<F: Fn(usize) -> bool>(
-    s: &[u8],
+// The records of a table: the bytes that they lie in, where the first begins, and how many they are.
+#[derive(Clone, Copy)]
+struct Run<'a> {
+    bytes: &'a [u8],
     start: usize,
     count: usize,
-    from: usize,
-    test: F,
-) -> usize
-    requires { (i : ℕ) → i < count → F.pre test i }
-    ensures { (p : Record → Bool) → ((i : ℕ) (b : Bool) → i < count → F.post test i b → b ≡ p (record_at s.now (start + 32 * i)))
-        → Stretch p s.now start from result }
-{
-    for i in from..count {
-        if !test(i) {
-            return i;
+    ghost lies: { start + 32 * count ≤ length bytes.now },
+}
+
+impl Run<'_> {
+    // How far the records from one on pass a test of their place. One that answers as p does, record by record, goes as far as p holds.
+    fn pass_by<F: Fn(usize) -> bool>(&self, from: usize, test: F) -> usize
+        requires { (i : ℕ) → i < self.now.count → F.pre test (self.now.start + 32 * i) }
+        ensures { (p : Record → Bool) → ((i : ℕ) (b : Bool) → i < self.now.count → F.post test (self.now.start + 32 * i) b → b ≡ p (record_at self.now.bytes.now (self.now.start + 32 * i)))
+            → Stretch p self.now.bytes.now self.now.start from result }
+    {
+        for i in from..self.count {
+            if !test(self.start + layout::RECORD_SIZE * i) {
+                return i;
+            }
+        }
+        if self.count < from { from } else { self.count }
+    }
+
+    fn pass_ranges(&self, from: usize, figure: u64, band: u8, lists: u32, rules: u32) -> usize
+        ensures { Stretch (range_within figure band lists rules) self.now.bytes.now self.now.start from result }
+    {
+        self.pass_by(
+            from,
+            |at| range_at(self.bytes, at, figure, band, lists, rules),
+        )
+    }
+
+    fn pass_points(&self, from: usize, low: u64, lists: u32, rules: u32) -> usize
+        ensures { Stretch (point_within low lists rules) self.now.bytes.now self.now.start from result }
+    {
+        self.pass_by(from, |at| point_at(self.bytes, at, low, lists, rules))
+    }
+
+    fn pass_privileges(&self, from: usize) -> usize
+        ensures { Stretch (privilege_within) self.now.bytes.now self.now.start from result }
+    {
+        self.pass_by(from, |at| privilege_at(self.bytes, at))
+    }
+
+    // By the table: most records are plain at once.
+    fn pass(&self, t: usize, from: usize) -> usize
+        ensures { Stretch (plain_of t) self.now.bytes.now self.now.start from result }
+    {
+        match t {
+            layout::BANDS => self.pass_ranges(from, 0, 255, 255, 0),
+            layout::SEGMENTS => self.pass_ranges(from, 0, 255, 255, 65535),
+            layout::CHANNELS => self.pass_points(from, LIMIT_BITS, 0, 0),
+            layout::PRIVILEGES => self.pass_privileges(from),
+            layout::AUTOMATIC => self.pass_ranges(from, 0, 0, 0, 0),
+            layout::EXCLUDED => self.pass_points(from, 0, 255, 65535),
+            layout::POWER => self.pass_ranges(from, LIMIT_BITS, 0, 0, 65535),
+            layout::PLAN_DATA => self.pass_ranges(from, 0, 0, 0, 65535),
+            layout::PLAN_AVOID => self.pass_ranges(from, 0, 0, 0, 65535),
+            _ => from,
         }
     }
-    if count < from { from } else { count }
-}
 
-fn pass_ranges(
-    s: &[u8],
-    start: usize,
-    count: usize,
-    from: usize,
-    figure: u64,
-    band: u8,
-    lists: u32,
-    rules: u32,
-) -> usize
-    requires { start + 32 * count ≤ length s.now }
-    ensures { Stretch (range_within figure band lists rules) s.now start from result }
-{
-    pass_by(
-        s,
-        start,
-        count,
-        from,
-        |i| range_at(
-            s,
-            start + layout::RECORD_SIZE * i,
-            figure,
-            band,
-            lists,
-            rules,
-        ),
-    )
-}
-
-fn pass_points(
-    s: &[u8],
-    start: usize,
-    count: usize,
-    from: usize,
-    low: u64,
-    lists: u32,
-    rules: u32,
-) -> usize
-    requires { start + 32 * count ≤ length s.now }
-    ensures { Stretch (point_within low lists rules) s.now start from result }
-{
-    pass_by(
-        s,
-        start,
-        count,
-        from,
-        |i| point_at(s, start + layout::RECORD_SIZE * i, low, lists, rules),
-    )
-}
-
-fn pass_privileges(s: &[u8], start: usize, count: usize, from: usize) -> usize
-    requires { start + 32 * count ≤ length s.now }
-    ensures { Stretch (privilege_within) s.now start from result }
-{
-    pass_by(
-        s,
-        start,
-        count,
-        from,
-        |i| privilege_at(s, start + layout::RECORD_SIZE * i),
-    )
-}
-
-// By the table: most records are plain at once.
-fn pass(s: &[u8], t: usize, start: usize, count: usize, from: usize) -> usize
-    requires { start + 32 * count ≤ length s.now }
-    ensures { Stretch (plain_of t) s.now start from result }
-{
-    match t {
-        layout::BANDS => pass_ranges(s, start, count, from, 0, 255, 255, 0),
-        layout::SEGMENTS => pass_ranges(s, start, count, from, 0, 255, 255, 65535),
-        layout::CHANNELS => pass_points(s, start, count, from, LIMIT_BITS, 0, 0),
-        layout::PRIVILEGES => pass_privileges(s, start, count, from),
-        layout::AUTOMATIC => pass_ranges(s, start, count, from, 0, 0, 0, 0),
-        layout::EXCLUDED => pass_points(s, start, count, from, 0, 255, 65535),
-        layout::POWER => pass_ranges(s, start, count, from, LIMIT_BITS, 0, 0, 65535),
-        layout::PLAN_DATA => pass_ranges(s, start, count, from, 0, 0, 0, 65535),
-        layout::PLAN_AVOID => pass_ranges(s, start, count, from, 0, 0, 0, 65535),
-        _ => from,
-    }
-}
-
-// Whether one of a table's records, which begin at a place, is not plain. The index jumps over what passed the short tests.
-fn rough_from(s: &[u8], t: usize, start: usize, count: usize) -> bool
-    requires { start + 32 * count ≤ length s.now }
-    ensures { result ≡ rough_from s.now t start count }
-{
-    let mut i = pass(s, t, start, count, 0);
-    while i < count {
-        if !whole_test(t, layout::record_at(s, start + layout::RECORD_SIZE * i)) {
-            return true;
+    // Whether one of them is not plain, as records of table t. The index jumps over what passed the short tests.
+    fn is_rough(&self, t: usize) -> bool
+        ensures { result ≡ rough_from self.now.bytes.now t self.now.start self.now.count }
+    {
+        let mut i = self.pass(t, 0);
+        while i < self.count {
+            if !whole_test(
+                t,
+                layout::record_at(self.bytes, self.start + layout::RECORD_SIZE * i),
+            ) {
+                return true;
+            }
+            i = self.pass(t, i + 1);
         }
-        i = pass(s, t, start, count, i + 1);
+        false
     }
-    false
 }
 
 // Whether a record of some table is not plain.
@@ -237,7 +201,12 @@ pub fn is_rough(s: &Image) -> bool
     let mut start = s.tables_from();
     for t in 0..layout::TABLES {
         let count = s.count_of(t) as usize;
-        if rough_from(s.bytes, t, start, count) {
+        let run = Run {
+            bytes: s.bytes,
+            start,
+            count,
+        };
+        if run.is_rough(t) {
             return true;
         }
         start += layout::RECORD_SIZE * count;

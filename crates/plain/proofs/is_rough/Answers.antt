@@ -12,19 +12,19 @@ pub loop-t-init : goal.loop-t-init
 unfolding records_before
 loop-t-init c = (omega (arith, c.tables_from-start.ensures.gives), passed_none _ _)
 
-pub rough_from-requires : goal.rough_from-requires
-rough_from-requires c =
+pub invariant_of-run : goal.invariant_of-run
+invariant_of-run c =
     let whole : Whole c.args.s.now = subst Whole c.s.view_is c.s.invariant.0 in
     let within = table_within c.args.s.now whole c.loop-t.t c.loop-t-test.true in
     rw c.s.view_is (omega (arith, within, c.count_of-count.ensures.gives, c.loop-t.invariant.0))
 
-pub returns-then-rough_from : goal.returns-then-rough_from
+pub returns-then-is_rough : goal.returns-then-is_rough
 unfolding is_rough
-returns-then-rough_from c =
-    let asked : (c.rough_from.result
-    ≡ rough_in c.args.s.now c.loop-t.t) = (rw c.rough_from.ensures (rw c.s.view_is (rw c.count_of-count.ensures.gives (rw c.loop-t.invariant.0)))) in
+returns-then-is_rough c =
+    let asked : (c.is_rough.result
+    ≡ rough_in c.args.s.now c.loop-t.t) = (rw c.is_rough.ensures (rw c.s.view_is (rw c.count_of-count.ensures.gives (rw c.loop-t.invariant.0)))) in
     some_here _ _ _ c.loop-t-test.true
-    c.loop-t.invariant.1 (sym (asked) ∙ c.if-rough_from.true)
+    c.loop-t.invariant.1 (sym (asked) ∙ c.if-is_rough.true)
 
 pub overflow_add-start : goal.overflow_add-start
 overflow_add-start c =
@@ -40,15 +40,15 @@ overflow_add-start c =
 
 pub loop-t-preserved : goal.loop-t-preserved
 loop-t-preserved c =
-    let asked : (c.rough_from.result
-    ≡ rough_in c.args.s.now c.loop-t.t) = (rw c.rough_from.ensures (rw c.s.view_is (rw c.count_of-count.ensures.gives (rw c.loop-t.invariant.0)))) in (
+    let asked : (c.is_rough.result
+    ≡ rough_in c.args.s.now c.loop-t.t) = (rw c.is_rough.ensures (rw c.s.view_is (rw c.count_of-count.ensures.gives (rw c.loop-t.invariant.0)))) in (
       omega (
         arith,
         c.count_of-count.ensures.gives,
         c.loop-t.invariant.0,
         records_more c.args.s.now c.loop-t.t,
       ),
-      passed_step _ _ _ c.loop-t-test.true c.loop-t.invariant.1 (sym (asked) ∙ c.if-rough_from.false),
+      passed_step _ _ _ c.loop-t-test.true c.loop-t.invariant.1 (sym (asked) ∙ c.if-is_rough.false),
     )
 
 pub returns : goal.returns

@@ -1,10 +1,10 @@
--- `plain::rough_from` equals its definition: the loop's invariant is that every record before i is plain.
+-- `plain::Run::is_rough` equals its definition: the loop's invariant is that every record before i is plain.
 use mathlib.Core.Path.{sym, ap}
 use mathlib.Core.Bool.{not}
 use native.Mathlib.Omega.{arith}
 use Rattle.scan.specs.Laws.{some_true, some_all}
 use Rattle.plain.specs.Plain.{rough_from}
-use Rattle.plain.proofs.rough_from.Goals as goal
+use Rattle.plain.proofs.Run.is_rough.Goals as goal
 
 pub returns-then-not-whole_test : goal.returns-then-not-whole_test
 unfolding rough_from

@@ -1,7 +1,7 @@
--- `plain::pass` meets its contract: by the table, the fewer tests show that a record is plain.
+-- `plain::Run::pass` meets its contract: by the table, the fewer tests show that a record is plain.
 use Rattle.plain.specs.Quick.{stretch_by, plain_band, plain_segment, plain_channel, plain_privilege}
 use Rattle.plain.specs.Quick.{plain_automatic, plain_excluded, plain_power, plain_plan_data, plain_plan_avoid}
-use Rattle.plain.proofs.pass.Goals as goal
+use Rattle.plain.proofs.Run.pass.Goals as goal
 
 pub returns-in-0 : goal.returns-in-0
 returns-in-0 c = rw c.in-0.is (stretch_by _ _ _ _ _ _ plain_band c.pass_ranges.ensures)

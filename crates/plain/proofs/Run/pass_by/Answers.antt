@@ -1,7 +1,7 @@
 use Rattle.std.proofs.Math.Path.{sym}
 use Rattle.std.proofs.Common.{◌∙◌}
 use Rattle.plain.specs.Quick.{stretch_more}
-use Rattle.plain.proofs.pass_by.Goals as goal
+use Rattle.plain.proofs.Run.pass_by.Goals as goal
 
 pub loop-i-preserved : goal.loop-i-preserved
 loop-i-preserved g c p h =
