@@ -3,7 +3,7 @@
 // definitions use lists.
 #![tactic(auto)]
 
-ghost use Rattle.std.specs.Prelude.{◌≡◌, ◌<◌, length};
+ghost use Rattle.std.specs.Prelude.{get_or, ℕ, ◌≡◌, ◌<◌, length};
 ghost use Rattle.airtime.specs.Airtime.{falls_of, runs_fit, totals_of, Totalled};
 ghost use Rattle.airtime.specs.Laws.{Even, Held, Trimmed};
 
@@ -31,45 +31,50 @@ fn runs_fit(starts: usize, bands: usize, seconds: usize, totals: usize) -> bool
     starts <= MOST_RECORDS && (bands == starts && (seconds == starts && totals == starts))
 }
 
-// Record i is next: the tail moves to the first record that counts for it, and those that it passes leave the totals of their bands.
-#[tactic(auto, using(crate::specs::Laws::trimmed, crate::specs::Laws::trimmed_here))]
-fn move_tail(
-    starts: &[u64],
-    bands: &[u8],
-    seconds: &[u16],
-    held: &mut [u64; 256],
-    tail: usize,
-    i: usize,
-) -> usize
-    requires { Even starts.now bands.now seconds.now × ((i < length starts.now) × Held starts.now bands.now seconds.now i tail held.old) }
-    ensures { Trimmed starts.now bands.now seconds.now i result held.new }
-{
-    let start = starts[i];
-    for at in tail..i {
-        if start - starts[at] <= SPAN {
-            return at;
-        }
-        let band = bands[at] as usize;
-        held[band] -= seconds[at] as u64;
-    }
-    i
+// A log: a start, a band and the seconds of each record, runs of one length, as C lends them.
+#[derive(Clone, Copy)]
+struct Log<'a> {
+    starts: &'a [u64],
+    bands: &'a [u8],
+    seconds: &'a [u16],
+    ghost even: { Even starts.now bands.now seconds.now },
+    ghost words: { (j : ℕ) → get_or seconds.now j 0 < 65536 },
 }
 
-// The totals of a run, in one pass, with a total for each band.
-#[tactic(auto, using(crate::specs::Laws::fill_done))]
-fn slide(starts: &[u64], bands: &[u8], seconds: &[u16], totals: &mut [u64])
-    requires { Even starts.now bands.now seconds.now × (length totals.old ≡ length starts.now) }
-    ensures { totals.new ≡ totals_of starts.now bands.now seconds.now }
-{
-    let mut held = [0u64; 256];
-    let mut tail = 0;
-    for i in 0..starts.len() {
-        tail = move_tail(starts, bands, seconds, &mut held, tail, i);
-        let band = bands[i] as usize;
-        let before = held[band];
-        let total = before + seconds[i] as u64;
-        held[band] = total;
-        totals[i] = total;
+impl Log<'_> {
+    // Record i is next: the tail moves to the first record that counts for it, and those that it passes leave the totals of their bands.
+    #[tactic(auto, using(crate::specs::Laws::trimmed, crate::specs::Laws::trimmed_here))]
+    fn move_tail(&self, held: &mut [u64; 256], tail: usize, i: usize) -> usize
+        requires { (i < length self.now.starts.now) × Held self.now.starts.now self.now.bands.now self.now.seconds.now i tail held.old }
+        ensures { Trimmed self.now.starts.now self.now.bands.now self.now.seconds.now i result held.new }
+    {
+        let start = self.starts[i];
+        for at in tail..i {
+            if start - self.starts[at] <= SPAN {
+                return at;
+            }
+            let band = self.bands[at] as usize;
+            held[band] -= self.seconds[at] as u64;
+        }
+        i
+    }
+
+    // Its totals, in one pass, with a total for each band.
+    #[tactic(auto, using(crate::specs::Laws::fill_done))]
+    fn slide(&self, totals: &mut [u64])
+        requires { length totals.old ≡ length self.now.starts.now }
+        ensures { totals.new ≡ totals_of self.now.starts.now self.now.bands.now self.now.seconds.now }
+    {
+        let mut held = [0u64; 256];
+        let mut tail = 0;
+        for i in 0..self.starts.len() {
+            tail = self.move_tail(&mut held, tail, i);
+            let band = self.bands[i] as usize;
+            let before = held[band];
+            let total = before + self.seconds[i] as u64;
+            held[band] = total;
+            totals[i] = total;
+        }
     }
 }
 
@@ -89,6 +94,11 @@ pub fn totals(
     if !runs_fit(starts.len(), bands.len(), seconds.len(), totals.len()) {
         return Err(Refusal::Runs);
     }
-    slide(starts, bands, seconds, totals);
+    let log = Log {
+        starts,
+        bands,
+        seconds,
+    };
+    log.slide(totals);
     Ok(starts.len() as u32)
 }
