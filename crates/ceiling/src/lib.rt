@@ -117,11 +117,7 @@ impl<'a> Ladder<'a> {
 
     // One rung judged, with what it adds to the envelope.
     #[tactic(auto, using(crate::specs::Laws::stopped_by, crate::specs::Laws::passed_by))]
-    pub fn rung_step(
-        &self,
-        envelope: Option<Edges>,
-        more: Edges,
-    ) -> Result<Edges, (Edges, Finding)>
+    pub fn rung_step(&self, envelope: Option<Edges>, more: Edges) -> Result<Edges, (Edges, Finding)>
         ensures { Stepped (judge_on self.now) (lead_on self.now) envelope more result }
     {
         let reached = joined(envelope, more);
