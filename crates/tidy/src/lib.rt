@@ -29,8 +29,9 @@ fn shares_earlier(s: &Image, start: usize, j: usize, classes: bool) -> bool
     requires { start + 32 * j + 32 ≤ length s.now }
     ensures { result ≡ some (λ i. asks (pair_question classes (record_at s.now (start + 32 * j))) (record_at s.now (start + 32 * i))) j }
 {
-    let r = s.record_at(start + layout::RECORD_SIZE * j);
-    find::find_from(s.bytes, start, j, pair_question(classes, r)).is_some()
+    let bytes = s.bytes;
+    let r = layout::record_at(bytes, start + layout::RECORD_SIZE * j);
+    find::find_from(bytes, start, j, pair_question(classes, r)).is_some()
 }
 
 // Whether two records of table t share a stretch of positive length; with classes, two of one class.

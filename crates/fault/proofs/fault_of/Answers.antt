@@ -4,8 +4,8 @@ use Rattle.table.specs.Table.{table_of}
 use Rattle.fault.specs.Laws.{refused_whole, form_nowhere}
 use Rattle.fault.proofs.fault_of.Goals as goal
 
-pub fault_at-requires : goal.fault_at-requires
-fault_at-requires c =
+pub of-requires : goal.of-requires
+of-requires c =
     refused_whole _ _ (sym c.check-refusal.ensures ∙ c.in-Err.is) (omega (arith, c.from.ensures, c.if-from-lt5.false))
 
 pub returns-then-from-lt5 : goal.returns-then-from-lt5

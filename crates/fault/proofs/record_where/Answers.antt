@@ -9,7 +9,7 @@ pub loop-t-init : goal.loop-t-init
 loop-t-init c = passed_none _ _
 
 pub find_wrong-requires : goal.find_wrong-requires
-find_wrong-requires c = (c.requires, c.loop-t-test.true)
+find_wrong-requires c = c.loop-t-test.true
 
 pub returns-in-Some : goal.returns-in-Some
 returns-in-Some c =

@@ -3,7 +3,6 @@ use Rattle.std.proofs.Math.Path.{sym}
 use Rattle.std.proofs.Common.{◌∙◌, subst}
 use Rattle.std.specs.Prelude.{◌≡◌, ◌<◌}
 use Rattle.layout.specs.Layout.{count_of}
-use Rattle.layout.specs.Laws.{table_within}
 use Rattle.layout.specs.declared.Record.{Record}
 use Rattle.scan.specs.Laws.{passed_none, passed_step, found_here, found_none}
 use Rattle.table.specs.Table.{count_in, record_in}
