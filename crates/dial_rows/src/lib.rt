@@ -154,13 +154,6 @@ fn too_wide(q: Request, s: Segment) -> bool
     profile::data_limit(s.own, s.second, q.data).max_bandwidth_hz < q.width_hz
 }
 
-// Whether 97.221 keeps the signal out of a segment's band.
-fn excluded(image: &Image, q: Request, s: Segment) -> bool
-    ensures { result ≡ excluded_band (table_of image.now) q s }
-{
-    q.automatic && find::some_in(image, layout::EXCLUDED, Question::OfBand(s.band))
-}
-
 // The first privilege of a class; where there is none, how many privileges there are.
 #[tactic(auto, using(layout::specs::Laws::table_within))]
 fn class_first(image: &Image, class: u8) -> usize
@@ -420,12 +413,20 @@ impl<'a> RowSearch<'a> {
         None
     }
 
+    // Whether 97.221 keeps the signal out of a segment's band.
+    fn excluded(&self, s: Segment) -> bool
+        ensures { result ≡ excluded_band (table_of self.now.image.now) self.now.request s }
+    {
+        self.request.automatic
+            && find::some_in(self.image, layout::EXCLUDED, Question::OfBand(s.band))
+    }
+
     // Whether a segment's record is passed over: the signal is too wide for it, or kept out of its band.
     pub fn closed(&self, r: Record) -> bool
         ensures { result ≡ closed_of (table_of self.now.image.now) self.now.request (segment_of r) }
     {
         let s = table::segment_of(r);
-        too_wide(self.request, s) || excluded(self.image, self.request, s)
+        too_wide(self.request, s) || self.excluded(s)
     }
 
     // The row of channel i.

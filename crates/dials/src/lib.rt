@@ -1,5 +1,5 @@
 // The dial list: the dials that keep a signal inside the rules, as rows in lent bytes. A public call. It uses codes, occupancy, air, station,
-// layout, whole, table, entry, fill, rows, nearest_rows and dial_rows; its laws use lists.
+// layout, whole, table, entry, fill, rows, distance, nearest_rows and dial_rows; its laws use lists.
 #![tactic(auto)]
 
 ghost use Rattle.std.specs.Prelude.{◌≡◌, ◌+◌, ◌≤◌};
@@ -12,8 +12,8 @@ ghost use Rattle.dials.specs.List.{situation_rows, Filled, SafeDials};
 
 use codes::{Direction, Refusal};
 use dial_rows::{RowSearch, Spot};
+use distance::Here;
 use layout::Record;
-use nearest_rows::Here;
 use occupancy::Edges;
 use station::{Situation, StationRecord};
 use table::Channels;

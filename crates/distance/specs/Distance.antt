@@ -10,6 +10,7 @@ use Rattle.std.specs.Float.Ieee.{sub, lt, le}
 use Rattle.figures.specs.Figure.{zero_hz, limit40, in_size, read_hz}
 use Rattle.codes.specs.Code.{bit_of}
 use Rattle.rows.specs.Rows.{row_size, low_at, high_at, row_band}
+use Rattle.rows.specs.declared.SafeDial.{SafeDial}
 
 -- a band byte that isn't the channel band's number, or any where flag bit 2 is clear; flags and channel are bytes 42 and 43 of the image
 unfoldable pub is_outside : ℕ → ℕ → ℕ → Bool
@@ -27,6 +28,11 @@ counts flags channel band low high = is_outside flags channel band && le low hig
 abbrev pub nearer_of : Option Float → Float → Option Float
 nearer_of (Some least) by = Some (cond (lt by least) by least)
 nearer_of None by = Some by
+
+-- a row taken in
+abbrev pub considered_of : Float → ℕ → ℕ → Option Float → SafeDial → Option Float
+considered_of dial flags channel best x =
+    cond (counts flags channel x.band x.dial_low_hz x.dial_high_hz) (nearer_of best (distance_to dial x.dial_low_hz x.dial_high_hz)) best
 
 -- the row at a place taken in
 unfoldable pub considered_at : Float → ℕ → ℕ → List ℕ → Option Float → ℕ → Option Float

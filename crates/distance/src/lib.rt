@@ -2,26 +2,34 @@
 #![tactic(auto)]
 
 ghost use Rattle.std.specs.Prelude.{◌≡◌, ◌+◌, ◌*◌, ◌≤◌, length};
-ghost use Rattle.rows.specs.Rows.{low_at, high_at, row_band};
-ghost use Rattle.distance.specs.Distance.{is_outside, distance_to, counts, nearer_of, considered_at, least_up_to, distance_of};
+ghost use Rattle.distance.specs.Distance.{is_outside, distance_to, counts, nearer_of, considered_of, least_up_to, distance_of};
 
 use codes::Refusal;
+use rows::SafeDial;
 
-// A band that is not the channel band.
-#[tactic(auto, unfolding(crate::specs::Distance::is_outside))]
-pub fn is_outside(flags: u8, channel_band: u8, band: u8) -> bool
-    ensures { result ≡ is_outside flags channel_band band }
-{
-    !(codes::bit(flags, 2) && band == channel_band)
+// What rows are held against: a dial, and which band is the channel band, by bytes 42 and 43 of the image that the rows are of.
+#[derive(Clone, Copy)]
+pub struct Here {
+    pub dial_hz: f64,
+    pub flags: u8,
+    pub channel_band: u8,
 }
 
-// Whether a row outside the channel band begins at a place.
-fn row_counts(rows: &[u8], at: usize, flags: u8, channel_band: u8) -> bool
-    requires { at + 36 ≤ length rows.now }
-    ensures { result ≡ counts flags channel_band (row_band rows.now at) (low_at rows.now at) (high_at rows.now at) }
-{
-    is_outside(flags, channel_band, rows::band_at(rows, at))
-        && rows::low_at(rows, at) <= rows::high_at(rows, at)
+impl Here {
+    // A band that is not the channel band.
+    #[tactic(auto, unfolding(crate::specs::Distance::is_outside))]
+    pub fn is_outside(self, band: u8) -> bool
+        ensures { result ≡ is_outside self.flags self.channel_band band }
+    {
+        !(codes::bit(self.flags, 2) && band == self.channel_band)
+    }
+
+    // Whether a row counts.
+    fn counts(self, x: SafeDial) -> bool
+        ensures { result ≡ counts self.flags self.channel_band x.band x.dial_low_hz x.dial_high_hz }
+    {
+        self.is_outside(x.band) && x.dial_low_hz <= x.dial_high_hz
+    }
 }
 
 // How far a dial stands below a lower dial or above an upper one, 0 on or between them.
@@ -47,37 +55,25 @@ fn nearer(best: Option<f64>, by: f64) -> Option<f64>
     }
 }
 
-#[tactic(auto, unfolding(crate::specs::Distance::considered_at))]
-fn consider(
-    best: Option<f64>,
-    dial_hz: f64,
-    flags: u8,
-    channel_band: u8,
-    rows: &[u8],
-    at: usize,
-) -> Option<f64>
-    requires { at + 36 ≤ length rows.now }
-    ensures { result ≡ considered_at dial_hz flags channel_band rows.now best at }
+fn consider(h: Here, best: Option<f64>, x: SafeDial) -> Option<f64>
+    ensures { result ≡ considered_of h.dial_hz h.flags h.channel_band best x }
 {
-    if row_counts(rows, at, flags, channel_band) {
-        nearer(
-            best,
-            distance_to(dial_hz, rows::low_at(rows, at), rows::high_at(rows, at)),
-        )
+    if h.counts(x) {
+        nearer(best, distance_to(h.dial_hz, x.dial_low_hz, x.dial_high_hz))
     } else {
         best
     }
 }
 
 // The least over the first count rows.
-#[tactic(auto, unfolding(crate::specs::Distance::least_up_to))]
-fn least(dial_hz: f64, flags: u8, channel_band: u8, count: usize, rows: &[u8]) -> Option<f64>
+#[tactic(auto, using(crate::specs::Laws::least_step), unfolding(crate::specs::Distance::least_up_to))]
+fn least(h: Here, count: usize, rows: &[u8]) -> Option<f64>
     requires { count * 36 ≤ length rows.now }
-    ensures { result ≡ least_up_to dial_hz flags channel_band rows.now count }
+    ensures { result ≡ least_up_to h.dial_hz h.flags h.channel_band rows.now count }
 {
     let mut best = None;
     for i in 0..count {
-        best = consider(best, dial_hz, flags, channel_band, rows, i * rows::ROW_SIZE);
+        best = consider(h, best, rows::row_at(rows, i * rows::ROW_SIZE));
     }
     best
 }
@@ -100,5 +96,10 @@ pub fn distance_of(
     if rows.len() / rows::ROW_SIZE < count {
         return Err(Refusal::Rows);
     }
-    Ok(least(figures::read_hz(dial_hz), flags, channel_band, count, rows))
+    let h = Here {
+        dial_hz: figures::read_hz(dial_hz),
+        flags,
+        channel_band,
+    };
+    Ok(least(h, count, rows))
 }

@@ -15,8 +15,8 @@ ghost use Rattle.nearest.specs.Laws.{premises_of, known_nearest};
 
 use codes::{ControlMode, Direction, LicenseClass, Policy, Refusal, Sideband};
 use dial_rows::Request;
+use distance::Here;
 use layout::General;
-use nearest_rows::Here;
 use occupancy::Edges;
 use profile::Range;
 use station::{Situation, StationRecord};

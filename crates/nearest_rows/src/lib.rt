@@ -5,15 +5,8 @@
 ghost use Rattle.std.specs.Prelude.{◌≡◌};
 ghost use Rattle.nearest_rows.specs.Over.{point_of, far_of, before, better_of, considered_of, nearest_over};
 
+use distance::Here;
 use rows::SafeDial;
-
-// What the rows are held against: a dial, and which band is the channel band.
-#[derive(Clone, Copy)]
-pub struct Here {
-    pub dial_hz: f64,
-    pub flags: u8,
-    pub channel_band: u8,
-}
 
 // The dial of a row that is nearest to a dial.
 #[tactic(auto, unfolding(crate::specs::Over::point_of))]
@@ -65,7 +58,7 @@ fn better(dial_hz: f64, best: Option<f64>, x: f64) -> Option<f64>
 pub fn consider(h: Here, best: Option<f64>, x: SafeDial) -> Option<f64>
     ensures { result ≡ considered_of h.dial_hz h.flags h.channel_band best x }
 {
-    if distance::is_outside(h.flags, h.channel_band, x.band) {
+    if h.is_outside(x.band) {
         better(
             h.dial_hz,
             best,

@@ -4,7 +4,7 @@
 
 ghost use Rattle.std.specs.Prelude.{◌≡◌, ◌+◌, ◌*◌, ◌-◌, ◌≤◌, ◌<◌, length, take, drop};
 ghost use Rattle.std.proofs.lemmas.List.Edits.{sets};
-ghost use Rattle.rows.specs.Rows.{figures_of, encode_row, low_at, high_at, row_band};
+ghost use Rattle.rows.specs.Rows.{figures_of, encode_row, low_at, row_at};
 ghost use Rattle.rows.specs.Held.{follows_at, place_at, insert_at, row_of, offer_at};
 
 use profile::Range;
@@ -45,26 +45,30 @@ fn put_row(rows: &mut [u8], at: usize, row: SafeDial)
     byte_writes::put(rows, at + 34, 2, row.rule as u64);
 }
 
-// The lower dial, the upper dial and the band of the row that begins at a place, another at each call.
+// The row that begins at a place, another at each call.
+#[tactic(auto, unfolding(crate::specs::Rows::row_at))]
+pub fn row_at(rows: &[u8], at: usize) -> SafeDial
+    requires { at + 36 ≤ length rows.now }
+    ensures { result ≡ row_at rows.now at }
+{
+    SafeDial {
+        band: rows[at + 32],
+        segment: Range {
+            low_hz: figures::figure(layout::u64_at(rows, at)),
+            high_hz: figures::figure(layout::u64_at(rows, at + 8)),
+        },
+        rule: layout::u16_at(rows, at + 34),
+        dial_low_hz: low_at(rows, at),
+        dial_high_hz: figures::figure(layout::u64_at(rows, at + 24)),
+    }
+}
+
+// Its lower dial.
 pub fn low_at(rows: &[u8], at: usize) -> f64
     requires { at + 36 ≤ length rows.now }
     ensures { result ≡ low_at rows.now at }
 {
     figures::figure(layout::u64_at(rows, at + 16))
-}
-
-pub fn high_at(rows: &[u8], at: usize) -> f64
-    requires { at + 36 ≤ length rows.now }
-    ensures { result ≡ high_at rows.now at }
-{
-    figures::figure(layout::u64_at(rows, at + 24))
-}
-
-pub fn band_at(rows: &[u8], at: usize) -> u8
-    requires { at + 36 ≤ length rows.now }
-    ensures { result ≡ row_band rows.now at }
-{
-    rows[at + 32]
 }
 
 // The place of a lower dial among the first count rows: after the last row that does not lie above it.

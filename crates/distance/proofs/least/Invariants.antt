@@ -4,4 +4,4 @@ use Rattle.distance.specs.Distance.{least_up_to}
 use Rattle.distance.proofs.least.Given as goal
 
 abbrev pub invariant-loop-i : goal.invariant-loop-i
-invariant-loop-i l = l.best ≡ least_up_to l.dial_hz l.flags l.channel_band l.rows l.i
+invariant-loop-i l = l.best ≡ least_up_to l.h.dial_hz l.h.flags l.h.channel_band l.rows l.i
