@@ -12,6 +12,7 @@ ghost use Rattle.part97.specs.Finding.{lawful_in, concluded};
 
 use codes::Direction;
 use decision::Code;
+use findings::Place;
 use layout::General;
 use part97::{Case, Finding};
 use profile::Range;
@@ -26,68 +27,44 @@ fn must_respond(e: Elsewhere, direction: Direction) -> bool
 }
 
 // Lawful; the advice goes by the guarded range with the margin taken off again.
-fn lawful(
-    c: Case,
-    band: u8,
-    segment: Range,
-    own: u16,
-    inside: Option<Range>,
-    code: Code,
-    rule: u16,
-) -> Finding
-    ensures { result ≡ lawful_in band segment own inside c.advised code rule }
+fn lawful(c: Case, p: Place, inside: Option<Range>, code: Code, rule: u16) -> Finding
+    ensures { result ≡ lawful_in p.band p.segment p.own inside c.advised code rule }
 {
-    findings::lawful_in(band, segment, own, inside, c.advised, code, rule)
+    findings::lawful_in(p, inside, c.advised, code, rule)
 }
 
 // Outside the segments for automatic control (97.221(c)).
 #[tactic(auto, using(part97::specs::Finding::in_segment_holds, part97::specs::Finding::lawful_in_holds), unfolding(part97::specs::Part97::automatic_elsewhere))]
-fn automatic_elsewhere(
-    g: General,
-    c: Case,
-    band: u8,
-    segment: Range,
-    own: u16,
-    rule: Option<Elsewhere>,
-) -> Finding
-    ensures { (table : Table) → g ≡ table.general → concluded table c result ≡ automatic_elsewhere table c (draft_inside c band segment own) rule }
+fn automatic_elsewhere(g: General, c: Case, p: Place, rule: Option<Elsewhere>) -> Finding
+    ensures { (table : Table) → g ≡ table.general → concluded table c result ≡ automatic_elsewhere table c (draft_inside c p.band p.segment p.own) rule }
 {
     let Some(e) = rule else {
-        return findings::in_segment(band, segment, own, Code::AutomaticOutside, g.automatic_rule);
+        return findings::in_segment(p, Code::AutomaticOutside, g.automatic_rule);
     };
     if e.max_bandwidth_hz < c.width {
-        findings::in_segment(band, segment, own, Code::AutomaticBandwidth, e.rule)
+        findings::in_segment(p, Code::AutomaticBandwidth, e.rule)
     } else if must_respond(e, c.direction) {
-        findings::in_segment(band, segment, own, Code::AutomaticOriginate, e.rule)
+        findings::in_segment(p, Code::AutomaticOriginate, e.rule)
     } else {
-        lawful(c, band, segment, own, None, Code::AutomaticResponse, e.rule)
+        lawful(c, p, None, Code::AutomaticResponse, e.rule)
     }
 }
 
 // Inside a segment for automatic control (97.221(b)), or else by (c).
 #[tactic(auto, using(part97::specs::Finding::lawful_automatic), unfolding(part97::specs::Part97::automatic_data, find::specs::Question::pick_in))]
-pub fn automatic_data(s: &Image, c: Case, band: u8, segment: Range, rule: u16) -> Finding
-    ensures { concluded (table_of s.now) c result ≡ automatic_data (table_of s.now) c band segment rule }
+pub fn automatic_data(s: &Image, c: Case, p: Place) -> Finding
+    ensures { concluded (table_of s.now) c result ≡ automatic_data (table_of s.now) c p.band p.segment p.own }
 {
     match find::pick_holding(s, layout::AUTOMATIC, c.guarded) {
         Some((_, r)) => {
             lawful(
                 c,
-                band,
-                segment,
-                rule,
+                p,
                 Some(table::span_of(r)),
                 Code::AutomaticSegment,
                 s.general.automatic_rule,
             )
         }
-        None => automatic_elsewhere(
-            s.general,
-            c,
-            band,
-            segment,
-            rule,
-            table::elsewhere_of(s.general),
-        ),
+        None => automatic_elsewhere(s.general, c, p, table::elsewhere_of(s.general)),
     }
 }

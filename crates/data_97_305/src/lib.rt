@@ -14,10 +14,21 @@ ghost use Rattle.part97.specs.Finding.{concluded};
 
 use codes::EmissionKind;
 use decision::{Code, Verdict};
-use layout::General;
+use findings::Place;
 use part97::{Case, Finding, Privileged};
 use table::Segment;
 use whole::Image;
+
+// A data segment, as a place in the band that is judged.
+fn place_of(band: u8, segment: Segment) -> Place
+    ensures { result ≡ record { band = band; segment = segment.range; own = segment.rule } }
+{
+    Place {
+        band,
+        segment: segment.range,
+        own: segment.rule,
+    }
+}
 
 // No data segment holds the guarded signal: the nearest one says how far it lies outside.
 #[tactic(auto, using(part97::specs::Laws::nearest_below, part97::specs::Finding::on_band_holds, part97::specs::Finding::beyond_segment_holds), unfolding(part97::specs::Part97::outside_segments))]
@@ -28,7 +39,7 @@ fn outside_segments(s: &Image, c: Case, band: u8) -> Finding
         Some((i, _)) => {
             let segment = table::segment_of(table::record_of(s, layout::SEGMENTS, i));
             let overshoot = overshoot_97_305::overshoot_of(segment.range, c.air);
-            findings::beyond_segment(band, segment.range, segment.rule, Some(overshoot))
+            findings::beyond_segment(place_of(band, segment), Some(overshoot))
         }
         None => {
             findings::on_band(
@@ -46,21 +57,20 @@ fn outside_segments(s: &Image, c: Case, band: u8) -> Finding
 fn inside_segment(s: &Image, c: Case, band: u8, segment: Segment) -> Finding
     ensures { concluded (table_of s.now) c result ≡ inside_segment (table_of s.now) c band segment }
 {
-    let range = segment.range;
-    let rule = segment.rule;
+    let place = place_of(band, segment);
     match privileges_97_301::privileged(s, c, EmissionKind::Data) {
         Privileged::Granted => {
             if c.automatic {
-                automatic_data_97_221::automatic_data(s, c, band, range, rule)
+                automatic_data_97_221::automatic_data(s, c, place)
             } else {
-                findings::lawful_in(band, range, rule, None, c.air, Code::Permitted, rule)
+                findings::lawful_in(place, None, c.air, Code::Permitted, segment.rule)
             }
         }
         Privileged::Forbidden => {
-            findings::in_segment(band, range, rule, Code::Privilege, decision::RULE_97_307F9)
+            findings::in_segment(place, Code::Privilege, decision::RULE_97_307F9)
         }
         Privileged::Unheld => {
-            findings::in_segment(band, range, rule, Code::Privilege, decision::RULE_97_301)
+            findings::in_segment(place, Code::Privilege, decision::RULE_97_301)
         }
     }
 }

@@ -28,46 +28,46 @@ pub fn on_band(band: Option<u8>, verdict: Verdict, code: Code, rule: u16) -> Fin
     }
 }
 
-// Blocked, against a segment that has a rule.
+// A place in a band that has a rule of its own: a segment, or a channel.
+#[derive(Clone, Copy)]
+pub struct Place {
+    pub band: u8,
+    pub segment: Range,
+    pub own: u16,
+}
+
+// Blocked, against a place.
 #[tactic(auto, unfolding(part97::specs::Finding::on_band, part97::specs::Finding::in_segment))]
-pub fn in_segment(band: u8, segment: Range, own: u16, code: Code, rule: u16) -> Finding
-    ensures { result ≡ in_segment band segment own code rule }
+pub fn in_segment(p: Place, code: Code, rule: u16) -> Finding
+    ensures { result ≡ in_segment p.band p.segment p.own code rule }
 {
     Finding {
-        segment: Some((segment, own)),
-        ..on_band(Some(band), Verdict::Blocked, code, rule)
+        segment: Some((p.segment, p.own)),
+        ..on_band(Some(p.band), Verdict::Blocked, code, rule)
     }
 }
 
 // Outside the nearest segment.
 #[tactic(auto, unfolding(part97::specs::Finding::in_segment, part97::specs::Finding::beyond_segment))]
-pub fn beyond_segment(band: u8, segment: Range, own: u16, overshoot: Option<Overshoot>) -> Finding
-    ensures { result ≡ beyond_segment band segment own overshoot }
+pub fn beyond_segment(p: Place, overshoot: Option<Overshoot>) -> Finding
+    ensures { result ≡ beyond_segment p.band p.segment p.own overshoot }
 {
     Finding {
         overshoot,
-        ..in_segment(band, segment, own, Code::OutsideDataSegment, own)
+        ..in_segment(p, Code::OutsideDataSegment, p.own)
     }
 }
 
 // Lawful data in a segment, and perhaps in one for automatic control: power limits and the plan are asked over a range.
 #[tactic(auto, unfolding(part97::specs::Finding::in_segment, part97::specs::Finding::lawful_in))]
-pub fn lawful_in(
-    band: u8,
-    segment: Range,
-    own: u16,
-    inside: Option<Range>,
-    r: Range,
-    code: Code,
-    rule: u16,
-) -> Finding
-    ensures { result ≡ lawful_in band segment own inside r code rule }
+pub fn lawful_in(p: Place, inside: Option<Range>, r: Range, code: Code, rule: u16) -> Finding
+    ensures { result ≡ lawful_in p.band p.segment p.own inside r code rule }
 {
     Finding {
         automatic_segment: inside,
         verdict: Verdict::Legal,
         over: Some(r),
-        ..in_segment(band, segment, own, code, rule)
+        ..in_segment(p, code, rule)
     }
 }
 
@@ -80,19 +80,12 @@ pub fn warned_if(b: bool) -> Verdict
 
 // Allowed on 60 m, with its notes.
 #[tactic(auto, unfolding(part97::specs::Finding::in_segment, part97::specs::Finding::on_sixty))]
-pub fn on_sixty(
-    band: u8,
-    segment: Range,
-    warn: bool,
-    code: Code,
-    own: u16,
-    marks: SixtyNotes,
-) -> Finding
-    ensures { result ≡ on_sixty band segment warn code own marks }
+pub fn on_sixty(p: Place, warn: bool, code: Code, marks: SixtyNotes) -> Finding
+    ensures { result ≡ on_sixty p.band p.segment warn code p.own marks }
 {
     Finding {
         verdict: warned_if(warn),
         sixty: marks,
-        ..in_segment(band, segment, own, code, own)
+        ..in_segment(p, code, p.own)
     }
 }

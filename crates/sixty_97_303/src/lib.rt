@@ -17,6 +17,7 @@ ghost use Rattle.part97.specs.Part97.{sixty_segment, sixty_overlap, sixty_place,
 use codes::EmissionKind;
 use decision::{Code, SixtyNotes, Verdict};
 use find::Question;
+use findings::Place;
 use layout::General;
 use part97::{Case, Finding};
 use table::{Channels, Segment};
@@ -57,8 +58,13 @@ fn sixty_channel(g: General, c: Case, ch: Channels, centre: f64) -> Finding
     ensures { (table : Table) → g ≡ table.general → concluded table c result ≡ sixty_channel table c ch centre }
 {
     let range = profile::channel_range(ch.width_hz, centre);
+    let place = Place {
+        band: ch.band,
+        segment: range,
+        own: ch.rule,
+    };
     if !on_channel(c, ch, centre, c.kind) {
-        return findings::in_segment(ch.band, range, ch.rule, Code::SixtyChannel, ch.rule);
+        return findings::in_segment(place, Code::SixtyChannel, ch.rule);
     }
     let warn = advice_97_313::above(c.power, figures::figure(g.channel_watts));
     let marks = SixtyNotes {
@@ -66,17 +72,22 @@ fn sixty_channel(g: General, c: Case, ch: Channels, centre: f64) -> Finding
         shared: true,
         segment_power: false,
     };
-    findings::on_sixty(ch.band, range, warn, Code::SixtyChannel, ch.rule, marks)
+    findings::on_sixty(place, warn, Code::SixtyChannel, marks)
 }
 
 // In the segment: the general width is tested, and no other.
 #[tactic(auto, using(part97::specs::Finding::in_segment_holds, part97::specs::Finding::on_sixty_holds), unfolding(part97::specs::Part97::sixty_segment))]
-fn sixty_segment(g: General, c: Case, band: u8, place: Segment) -> Finding
-    ensures { (table : Table) → g ≡ table.general → concluded table c result ≡ sixty_segment table c band place }
+fn sixty_segment(g: General, c: Case, band: u8, segment: Segment) -> Finding
+    ensures { (table : Table) → g ≡ table.general → concluded table c result ≡ sixty_segment table c band segment }
 {
     let general = table::data_of(g);
+    let place = Place {
+        band,
+        segment: segment.range,
+        own: segment.rule,
+    };
     if c.kind == EmissionKind::Data && general.max_bandwidth_hz < c.width {
-        return findings::in_segment(band, place.range, place.rule, Code::TooWide, general.rule);
+        return findings::in_segment(place, Code::TooWide, general.rule);
     }
     let warn = advice_97_313::above(c.power, figures::figure(g.segment_watts));
     let marks = SixtyNotes {
@@ -84,14 +95,7 @@ fn sixty_segment(g: General, c: Case, band: u8, place: Segment) -> Finding
         shared: false,
         segment_power: warn,
     };
-    findings::on_sixty(
-        band,
-        place.range,
-        warn,
-        Code::SixtySegment,
-        place.rule,
-        marks,
-    )
+    findings::on_sixty(place, warn, Code::SixtySegment, marks)
 }
 
 // The first data segment of the channels' band that holds the guarded range.
