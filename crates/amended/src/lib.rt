@@ -4,11 +4,10 @@
 
 ghost use Rattle.std.specs.Prelude.{◌≡◌, false, ◌+◌, ◌*◌, ◌≤◌, ◌<◌, length};
 ghost use Rattle.std.specs.Option.{IfSome};
-ghost use Rattle.layout.specs.Form.{Whole};
 ghost use Rattle.layout.specs.Layout.{record_at, records_before};
 ghost use Rattle.table.specs.Table.{table_of};
 ghost use Rattle.amended.specs.Amended.{amendments_in, table_at, index_at, day_at, stray_at, list_wrong, named_at, counting, slot_at, effective_of};
-ghost use Rattle.amended.specs.Latest.{Named, Earlier, found_from, superseded, onward, Indexed, Ready};
+ghost use Rattle.amended.specs.Latest.{Earlier, found_from, superseded, onward, Indexed, Ready};
 
 use image::Source;
 use layout::{General, Record};

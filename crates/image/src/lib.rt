@@ -5,7 +5,6 @@
 ghost use Rattle.std.specs.Prelude.{◌≡◌, ◌<◌, ℕ, Bool, false};
 ghost use Rattle.codes.specs.Refusal.{refusal_of};
 ghost use Rattle.scan.specs.First.{some};
-ghost use Rattle.layout.specs.Form.{Whole};
 ghost use Rattle.layout.specs.Layout.{start_of};
 ghost use Rattle.table.specs.Table.{Table, table_of};
 ghost use Rattle.find.specs.Question.{some_in, homeless_of};
