@@ -1,6 +1,6 @@
 // Whether a transmission is blocked, without the answer: the census of a band asks its code of each dial, and the climb over the rungs asks
 // what blocks a rung, of which the answer is made without judging it again. It uses codes, transmission, decision, part97, findings, judge and
-// verdict; its definitions use profile, occupancy, station, layout and table.
+// verdict; its definitions use profile, occupancy, station and table.
 #![tactic(auto)]
 
 ghost use Rattle.std.specs.Prelude.{◌≡◌};

@@ -1,5 +1,5 @@
 // The ceiling: the fastest rung that may be sent, and the verdict on the first that may not. A public call. It uses codes,
-// occupancy, station, transmission, entry, decision, part97, barred and rungs; its definitions use layout, table and verdict, its laws scan.
+// occupancy, station, transmission, entry, decision, part97, barred and rungs; its definitions use table and verdict, its laws scan.
 #![tactic(auto)]
 
 ghost use Rattle.std.specs.Prelude.{◌/◌, ◌≡◌, ◌≤◌, length, Ok};

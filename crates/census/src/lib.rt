@@ -1,5 +1,5 @@
 // A census of a band: how many whole-hertz dials of a stretch get each code. A public call. It uses codes, station, occupancy, transmission,
-// entry, decision, verdict, barred and numbers; its definitions use layout and table too, and its laws scan, find and part97.
+// entry, decision, verdict, barred and numbers; its definitions use table too, and its laws profile, layout, part97 and judged.
 #![tactic(auto)]
 
 ghost use Rattle.std.specs.Prelude.{◌≡◌, ◌+◌, ◌-◌, ◌<◌, ◌≤◌, pos, ◌+ℤ◌, unsigned_abs};
