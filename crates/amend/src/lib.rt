@@ -15,6 +15,7 @@ use amended::{Amending, Amendments, Effective};
 use codes::Refusal;
 
 // The amendment that counts for record k, in its place.
+#[tactic(auto, using(amended::specs::Latest::few_records))]
 fn put_record(out: &mut [u8], e: &Effective, k: usize)
     requires { (k < records_before e.now.of.image.now 9) × (length e.now.of.image.now ≤ length out.old) }
     ensures { out.new ≡ on_found (counting e.now.of.image.now e.now.of.list.bytes.now e.now.of.day k)

@@ -286,3 +286,6 @@ module _ (l a : List ℕ) (day : ℕ) (w : Whole l) where
   -- a place of table t is one of the image's
   pub slot_below : (t i : ℕ) → t < tables → i < count_of l t → slot_of l t i < records_before l tables
   slot_below t i h k = omega (arith, table_within l w t h, w.filled)
+
+  pub place_below : (t i start : ℕ) → t < tables → i < count_in image t → start ≡ records_before l t → start + i < records_before l tables
+  place_below t i start h k s = omega (arith, s, slot_below t i h (subst (λ (n : ℕ). i < n) (count_in_same t h) k))

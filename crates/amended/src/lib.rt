@@ -198,6 +198,7 @@ impl<'a> Effective<'a> {
     }
 
     // Record k of the effective image.
+    #[tactic(auto, using(crate::specs::Latest::few_records, crate::specs::Effective::record_in_holds))]
     pub fn record_at(&self, k: usize) -> Record
         requires { k < records_before self.now.of.image.now 9 }
         ensures { result ≡ record_at (effective_of self.now.of.image.now self.now.of.list.bytes.now self.now.of.day) (slot_at self.now.of.image.now k) }
@@ -237,7 +238,7 @@ impl Source for Effective<'_> {
         layout::records_before(image.bytes, t) as usize
     }
 
-    #[tactic(auto, using(crate::specs::Effective::count_in_same, crate::specs::Effective::record_read, crate::specs::Effective::slot_below))]
+    #[tactic(auto, using(crate::specs::Effective::count_in_same, crate::specs::Effective::record_read, crate::specs::Effective::place_below, crate::specs::Latest::few_records))]
     fn record_in(&self, _t: usize, start: usize, i: usize) -> Record {
         self.record_at(start + i)
     }
