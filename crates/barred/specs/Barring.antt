@@ -1,6 +1,6 @@
 -- What blocks a transmission, and the decision that it leads to.
-use Rattle.std.specs.Prelude.{ℕ, Bool, true, false, ◌≡◌, Option, Some, None, Result, Ok, Err, Float}
-use Rattle.std.proofs.Common.{true≢false, sym, ◌∙◌}
+use Rattle.std.specs.Prelude.{ℕ, Bool, true, false, ◌≡◌, List, Option, Some, None, Result, Ok, Err, Float}
+use Rattle.std.proofs.Common.{true≢false, sym, subst, ◌∙◌}
 use Rattle.std.proofs.Math.Path.{refl, ap}
 use Rattle.codes.specs.declared.Policy.{Policy}
 use Rattle.codes.specs.declared.Policy.TheVariants.{Unset, NoProfile as NoneApply, Rules, Broken}
@@ -11,7 +11,8 @@ use Rattle.occupancy.specs.Edges.{range_of}
 use Rattle.occupancy.specs.declared.Edges.{Edges}
 use Rattle.station.specs.declared.Situation.{Situation}
 use Rattle.table.specs.Parts.{reading_of}
-use Rattle.table.specs.Table.{Table}
+use Rattle.table.specs.Table.{Table, table_of}
+use Rattle.transmission.specs.declared.Transmission.{Transmission}
 use Rattle.decision.specs.Number.{no_rule}
 use Rattle.decision.specs.Decision.{is_blocked, finish_of, simple_of}
 use Rattle.decision.specs.declared.Verdict.TheVariants.{Blocked}
@@ -52,6 +53,11 @@ led_to table s Unset dial kind direction e f = unruled_of s dial e f.verdict f.c
 led_to table s NoneApply dial kind direction e f = unruled_of s dial e f.verdict f.code
 led_to table s Rules dial kind direction e f = led_by_rules table s dial kind direction (range_of e (reading_of table.general)) f
 led_to table s Broken dial kind direction e f = unruled_of s dial e f.verdict f.code
+
+-- of a transmission
+abbrev pub led_on : Transmission → Finding → Decision
+led_on x f =
+    led_to (table_of x.station.now.lent.now) x.station.now.situation x.station.now.situation.policy x.dial x.kind x.direction x.edges f
 
 -- Something blocks exactly where the decision does, and it leads to that decision.
 pub record Barred (led : Finding → Decision) (d : Decision) (x : Option Finding) : Type 0 where
@@ -114,16 +120,32 @@ module _ (table : Table) (s : Situation) (dial : Option Float) (kind : EmissionK
       barred_by led decided (on_band None Blocked m.code m.rule) (led_missing m (on_band None Blocked m.code m.rule) e ∙ d)
       (sym (ap (λ (x : Decision). is_blocked x.verdict) d))
 
--- the policies that need no table
+-- by the policy, whose case is told by an equation
 module _ (table : Table) (s : Situation) (dial : Option Float) (kind : EmissionKind) (direction : Direction) (e : Edges) where
-  pub bar_unset : Barred (led_to table s Unset dial kind direction e) (decide_of table s Unset dial kind direction e) (bar_by NoProfile no_rule)
-  unfolding led_to decide_of unruled_of simple_of finish_of on_band
-  bar_unset = barred_by _ _ _ refl refl
+  abbrev BarredBy : Policy → Option Finding → Type 0
+  BarredBy p x = Barred (led_to table s p dial kind direction e) (decide_of table s p dial kind direction e) x
 
-  pub bar_none : Barred (led_to table s NoneApply dial kind direction e) (decide_of table s NoneApply dial kind direction e) None
-  unfolding decide_of unruled_of simple_of finish_of
-  bar_none = barred_free _ _ refl
+  module _ (p : Policy) where
+    pub bar_unset : p ≡ Unset → BarredBy p (bar_by NoProfile no_rule)
+    unfolding led_to decide_of unruled_of simple_of finish_of on_band
+    bar_unset q = subst (λ (x : Policy). BarredBy x (bar_by NoProfile no_rule)) (sym q) (barred_by _ _ _ refl refl)
 
-  pub bar_broken : Barred (led_to table s Broken dial kind direction e) (decide_of table s Broken dial kind direction e) (bar_by ProfileBroken no_rule)
-  unfolding led_to decide_of unruled_of simple_of finish_of on_band
-  bar_broken = barred_by _ _ _ refl refl
+    pub bar_none : p ≡ NoneApply → BarredBy p None
+    unfolding decide_of unruled_of simple_of finish_of
+    bar_none q = subst (λ (x : Policy). BarredBy x None) (sym q) (barred_free _ _ refl)
+
+    pub bar_broken : p ≡ Broken → BarredBy p (bar_by ProfileBroken no_rule)
+    unfolding led_to decide_of unruled_of simple_of finish_of on_band
+    bar_broken q = subst (λ (x : Policy). BarredBy x (bar_by ProfileBroken no_rule)) (sym q) (barred_by _ _ _ refl refl)
+
+-- under Rules by a table, and so by its own image
+pub bar_rules :
+    (image l : List ℕ) (s : Situation) (dial : Option Float) (kind : EmissionKind) (direction : Direction) (e : Edges) (p : Policy) (x : Option Finding)
+    → image ≡ l → p ≡ Rules
+    → Barred (led_by_rules (table_of image) s dial kind direction (range_of e (reading_of (table_of image).general)))
+    (under_rules_of (table_of image) s dial kind direction (range_of e (reading_of (table_of image).general))) x
+    → BarredBy (table_of l) s dial kind direction e p x
+unfolding led_to decide_of
+bar_rules image l s dial kind direction e p x h q b =
+    subst (λ (k : List ℕ). BarredBy (table_of k) s dial kind direction e p x) h
+    (subst (λ (r : Policy). BarredBy (table_of image) s dial kind direction e r x) (sym q) b)

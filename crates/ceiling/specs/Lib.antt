@@ -1,3 +1,4 @@
 pub mod Ceiling
 pub mod Laws
 pub mod Run
+pub mod Ladder

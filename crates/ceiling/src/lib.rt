@@ -1,19 +1,23 @@
 // The ceiling: the fastest rung that may be sent, and the verdict on the first that may not. A public call. It uses codes,
-// occupancy, station, entry, decision, part97, barred and rungs; its definitions use layout, table and verdict, its laws scan.
+// occupancy, station, transmission, entry, decision, part97, barred and rungs; its definitions use layout, table and verdict, its laws scan.
 #![tactic(auto)]
 
-ghost use Rattle.std.specs.Prelude.{◌/◌, ◌≡◌, length};
-ghost use Rattle.codes.specs.declared.Policy.TheVariants.{Rules};
-ghost use Rattle.layout.specs.Form.{Whole};
+ghost use Rattle.std.specs.Prelude.{◌/◌, ◌≡◌, ◌≤◌, length, Ok};
+ghost use Rattle.codes.specs.Read.{direction_of};
+ghost use Rattle.codes.specs.Refusal.{refusal_of};
+ghost use Rattle.station.specs.Station.{situation_of};
 ghost use Rattle.table.specs.Table.{table_of};
-ghost use Rattle.rungs.specs.Rungs.{burst_of};
-ghost use Rattle.ceiling.specs.Ceiling.{joined_of, judge_by, lead_by, Stepped, climbed, limit_of, ceiling_of};
+ghost use Rattle.entry.specs.Entry.{edges_read};
+ghost use Rattle.rungs.specs.Rungs.{burst_of, ceiling_tests};
+ghost use Rattle.ceiling.specs.Ceiling.{joined_of, judge_by, Stepped, climbed, limit_of, ceiling_of};
 
 use codes::{Checked, Direction, EmissionKind};
 use decision::Decision;
 use occupancy::Edges;
 use part97::Finding;
-use station::{Situation, StationRecord};
+use rungs::{Call, Rungs};
+use station::StationRecord;
+use transmission::{Station, Transmission};
 
 // A climb: the rungs judged so far, and the decision on the first that is blocked.
 #[derive(Clone, Copy)]
@@ -43,6 +47,16 @@ impl CeilingAnswer {
     }
 }
 
+// A call for a ceiling that is not refused, as it is read.
+#[derive(Drop)]
+pub struct Ladder<'a> {
+    pub station: Station<'a>,
+    pub direction: Direction,
+    pub rungs: Rungs<'a>,
+    pub ghost marked: { length rungs.floors.now ≡ length rungs.figures.now / 4 },
+    pub ghost few: { length rungs.figures.now / 4 ≤ 256 },
+}
+
 // An envelope, with one burst more.
 fn joined(envelope: Option<Edges>, more: Edges) -> Edges
     ensures { result ≡ joined_of envelope more }
@@ -53,97 +67,103 @@ fn joined(envelope: Option<Edges>, more: Edges) -> Edges
     }
 }
 
-// One rung judged, with what it adds to the envelope.
-#[tactic(auto, using(crate::specs::Laws::stopped_by, crate::specs::Laws::passed_by), unfolding(crate::specs::Ceiling::judge_by, crate::specs::Ceiling::lead_by))]
-pub fn rung_step(
-    image: &[u8],
-    s: Situation,
-    direction: Direction,
-    envelope: Option<Edges>,
-    more: Edges,
-) -> Result<Edges, (Edges, Finding)>
-    requires { s.policy ≡ Rules → Whole image.now }
-    ensures { Stepped (judge_by (table_of image.now) s direction) (lead_by (table_of image.now) s direction)
-        envelope more result }
-{
-    let reached = joined(envelope, more);
-    match barred::barring(
-        image,
-        s,
-        s.policy,
-        s.dial,
-        EmissionKind::Data,
-        direction,
-        reached,
-    ) {
-        Some(f) => Err((reached, f)),
-        None => Ok(reached),
-    }
-}
+impl<'a> Ladder<'a> {
+    ghost use Rattle.barred.specs.Barring.{led_on};
+    ghost use Rattle.verdict.specs.Verdict.{decision_on};
+    ghost use Rattle.ceiling.specs.Ladder.{judge_on, lead_on, bursts_on};
 
-// The decision on an envelope that a step stopped at. Nothing is judged again.
-#[tactic(auto, unfolding(crate::specs::Ceiling::lead_by))]
-pub fn rung_decision(
-    image: &[u8],
-    s: Situation,
-    direction: Direction,
-    envelope: Edges,
-    f: Finding,
-) -> Decision
-    requires { s.policy ≡ Rules → Whole image.now }
-    ensures { result ≡ lead_by (table_of image.now) s direction envelope f }
-{
-    barred::answer(
-        image,
-        s,
-        s.policy,
-        s.dial,
-        EmissionKind::Data,
-        direction,
-        envelope,
-        f,
-    )
-}
-
-// The climb over all rungs. It ends at the first that is blocked.
-#[tactic(auto, using(crate::specs::Laws::climb_done))]
-fn climb_all(
-    image: &[u8],
-    s: Situation,
-    direction: Direction,
-    ordinary: Edges,
-    floor: Edges,
-    rungs: &[f64],
-    floors: &[u8],
-) -> Climb
-    requires { (s.policy ≡ Rules → Whole image.now) × (length floors.now ≡ length rungs.now / 4) }
-    ensures { result ≡ climbed (judge_by (table_of image.now) s direction)
-        (burst_of ordinary floor rungs.now floors.now) (length rungs.now / 4) }
-{
-    let count = rungs.len() / 4;
-    let mut envelope = None;
-    let mut rung = None;
-    for i in 0..count {
-        let more = rungs::burst(ordinary, floor, rungs, floors, i);
-        match rung_step(image, s, direction, envelope, more) {
-            Err((reached, f)) => {
-                let limit = rung_decision(image, s, direction, reached, f);
-                return Climb {
-                    envelope: Some(reached),
-                    rung,
-                    limit: Some(limit),
-                };
-            }
-            Ok(reached) => {
-                envelope = Some(reached);
-                rung = Some(i);
-            }
+    // The call, read.
+    #[tactic(auto, using(rungs::specs::Laws::rungs_marked, rungs::specs::Laws::rungs_few))]
+    pub fn of(q: &Call<'a>) -> Self
+        requires { refusal_of (ceiling_tests q.now.record q.now.direction q.now.rungs.ordinary q.now.rungs.floor q.now.image.now
+            q.now.rungs.figures.now q.now.rungs.floors.now) ≡ Ok tt }
+        ensures judges { judge_on result ≡ judge_by (table_of q.now.image.now) (situation_of q.now.record) (direction_of q.now.direction) }
+        ensures bursts { bursts_on result.rungs ≡ burst_of (edges_read q.now.rungs.ordinary) (edges_read q.now.rungs.floor)
+            q.now.rungs.figures.now q.now.rungs.floors.now }
+        ensures counts { length result.rungs.figures.now ≡ length q.now.rungs.figures.now }
+    {
+        Ladder {
+            station: Station::of(station::situation_of(q.record), q.image),
+            direction: q.direction.into(),
+            rungs: Rungs {
+                ordinary: entry::edges_read(q.rungs.ordinary),
+                floor: entry::edges_read(q.rungs.floor),
+                ..q.rungs
+            },
         }
     }
-    Climb {
-        envelope,
-        rung,
-        limit: None,
+
+    // How many rungs there are.
+    pub fn count(&self) -> usize
+        ensures { result ≡ length self.now.rungs.figures.now / 4 }
+    {
+        self.rungs.figures.len() / 4
+    }
+
+    // The transmission of an envelope: data.
+    #[tactic(auto, unfolding(crate::specs::Ceiling::judge_by, crate::specs::Ceiling::lead_by))]
+    fn sent(&self, envelope: Edges) -> Transmission<'_>
+        ensures judged { decision_on result ≡ judge_on self.now envelope }
+        ensures led { led_on result ≡ lead_on self.now envelope }
+    {
+        Transmission {
+            station: &self.station,
+            dial: self.station.situation.dial,
+            kind: EmissionKind::Data,
+            direction: self.direction,
+            edges: envelope,
+        }
+    }
+
+    // One rung judged, with what it adds to the envelope.
+    #[tactic(auto, using(crate::specs::Laws::stopped_by, crate::specs::Laws::passed_by))]
+    pub fn rung_step(&self, envelope: Option<Edges>, more: Edges) -> Result<Edges, (Edges, Finding)>
+        ensures { Stepped (judge_on self.now) (lead_on self.now) envelope more result }
+    {
+        let reached = joined(envelope, more);
+        match barred::barring(&self.sent(reached)) {
+            Some(f) => Err((reached, f)),
+            None => Ok(reached),
+        }
+    }
+
+    // The decision on an envelope that a step stopped at. Nothing is judged again.
+    pub fn rung_decision(&self, envelope: Edges, f: Finding) -> Decision
+        ensures { result ≡ lead_on self.now envelope f }
+    {
+        barred::answer(&self.sent(envelope), f)
+    }
+
+    // The climb over all rungs. It ends at the first that is blocked.
+    #[tactic(auto, using(crate::specs::Laws::climb_done))]
+    fn climb(&self) -> Climb
+        ensures { result ≡ climbed (judge_on self.now) (bursts_on self.now.rungs) (length self.now.rungs.figures.now / 4) }
+    {
+        let count = self.count();
+        let mut envelope = None;
+        let mut rung = None;
+        for i in 0..count {
+            let more = self.rungs.burst(i);
+            match self.rung_step(envelope, more) {
+                Err((reached, f)) => {
+                    let limit = self.rung_decision(reached, f);
+                    return Climb {
+                        envelope: Some(reached),
+                        rung,
+                        limit: Some(limit),
+                    };
+                }
+                Ok(reached) => {
+                    envelope = Some(reached);
+                    rung = Some(i);
+                }
+            }
+        }
+        Climb {
+            envelope,
+            rung,
+            limit: None,
+        }
     }
 }
 
@@ -160,22 +180,25 @@ pub fn ceiling(
 ) -> CeilingAnswer
     ensures { result ≡ ceiling_of r direction ordinary floor image.now rungs.now floors.now }
 {
-    match rungs::ceiling_refusals(r, direction, ordinary, floor, image, rungs, floors) {
+    let q = Call {
+        record: r,
+        direction,
+        image,
+        rungs: Rungs {
+            ordinary,
+            floor,
+            figures: rungs,
+            floors,
+        },
+    };
+    match rungs::ceiling_refusals(&q) {
         Err(n) => CeilingAnswer {
             refusal: Err(n),
             rung: None,
             limit: None,
         },
         Ok(()) => {
-            let c = climb_all(
-                image,
-                station::situation_of(r),
-                direction.into(),
-                entry::edges_read(ordinary),
-                entry::edges_read(floor),
-                rungs,
-                floors,
-            );
+            let c = Ladder::of(&q).climb();
             CeilingAnswer {
                 refusal: Ok(()),
                 rung: c.rung,

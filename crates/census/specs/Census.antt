@@ -13,6 +13,7 @@ use Rattle.station.specs.Station.{mark_valid, situation_of}
 use Rattle.station.specs.declared.StationRecord.{StationRecord}
 use Rattle.station.specs.declared.Situation.{Situation}
 use Rattle.table.specs.Table.{Table, table_of}
+use Rattle.transmission.specs.declared.Transmission.{Transmission}
 use Rattle.entry.specs.Entry.{edges_read}
 use Rattle.decision.specs.Number.{code_number}
 use Rattle.verdict.specs.Verdict.{decide_of, evaluate_tests}
@@ -42,6 +43,10 @@ dial_at first k = of_int binary64 (first +ℤ pos k)
 -- "each taken as the station record's present dial": the number of its code, by the verdict's own definition
 unfoldable pub code_at : Table → Situation → EmissionKind → Direction → Edges → Float → ℕ
 code_at table s kind direction e hz = code_number (decide_of table s s.policy (Some hz) kind direction e).code
+
+-- of a transmission, whatever its own dial
+abbrev pub code_on : Transmission → Float → ℕ
+code_on x hz = code_at (table_of x.station.now.lent.now) x.station.now.situation x.kind x.direction x.edges hz
 
 -- ---- the counts
 

@@ -28,17 +28,18 @@ counts_in r kind direction e l first n =
     counts_of (λ k. code_at (table_of l) (situation_of r) (kind_of kind) (direction_of direction) (edges_read e) (dial_at first k)) n
 
 -- the same parts, the same counts
-pub counts_same : (l : List ℕ) {s t : Situation} {kind kind' : EmissionKind} {direction direction' : Direction} {e e' : Edges} {first first' : ℤ} {n n' : ℕ}
-    → s ≡ t → kind ≡ kind' → direction ≡ direction' → e ≡ e' → first ≡ first' → n ≡ n'
+pub counts_same : {l l' : List ℕ} {s t : Situation} {kind kind' : EmissionKind} {direction direction' : Direction} {e e' : Edges} {first first' : ℤ} {n n' : ℕ}
+    → l ≡ l' → s ≡ t → kind ≡ kind' → direction ≡ direction' → e ≡ e' → first ≡ first' → n ≡ n'
     → counted (counts_of (λ k. code_at (table_of l) s kind direction e (dial_at first k)) n)
-    ≡ counted (counts_of (λ k. code_at (table_of l) t kind' direction' e' (dial_at first' k)) n')
-counts_same l {s} {t} {kind} {kind'} {direction} {direction'} {e} {e'} {first} {first'} {n} {n'} a b c d f g =
-    ap (λ (x : Situation). counted (counts_of (λ k. code_at (table_of l) x kind direction e (dial_at first k)) n)) a
-    ∙ ap (λ (x : EmissionKind). counted (counts_of (λ k. code_at (table_of l) t x direction e (dial_at first k)) n)) b
-    ∙ ap (λ (x : Direction). counted (counts_of (λ k. code_at (table_of l) t kind' x e (dial_at first k)) n)) c
-    ∙ ap (λ (x : Edges). counted (counts_of (λ k. code_at (table_of l) t kind' direction' x (dial_at first k)) n)) d
-    ∙ ap (λ (x : ℤ). counted (counts_of (λ k. code_at (table_of l) t kind' direction' e' (dial_at x k)) n)) f
-    ∙ ap (λ (x : ℕ). counted (counts_of (λ k. code_at (table_of l) t kind' direction' e' (dial_at first' k)) x)) g
+    ≡ counted (counts_of (λ k. code_at (table_of l') t kind' direction' e' (dial_at first' k)) n')
+counts_same {l} {l'} {s} {t} {kind} {kind'} {direction} {direction'} {e} {e'} {first} {first'} {n} {n'} h a b c d f g =
+    ap (λ (x : List ℕ). counted (counts_of (λ k. code_at (table_of x) s kind direction e (dial_at first k)) n)) h
+    ∙ ap (λ (x : Situation). counted (counts_of (λ k. code_at (table_of l') x kind direction e (dial_at first k)) n)) a
+    ∙ ap (λ (x : EmissionKind). counted (counts_of (λ k. code_at (table_of l') t x direction e (dial_at first k)) n)) b
+    ∙ ap (λ (x : Direction). counted (counts_of (λ k. code_at (table_of l') t kind' x e (dial_at first k)) n)) c
+    ∙ ap (λ (x : Edges). counted (counts_of (λ k. code_at (table_of l') t kind' direction' x (dial_at first k)) n)) d
+    ∙ ap (λ (x : ℤ). counted (counts_of (λ k. code_at (table_of l') t kind' direction' e' (dial_at x k)) n)) f
+    ∙ ap (λ (x : ℕ). counted (counts_of (λ k. code_at (table_of l') t kind' direction' e' (dial_at first' k)) x)) g
 
 module _ (r : StationRecord) (kind direction : ℕ) (e : Edges) (l : List ℕ) (first last : ℤ) where
   by : Checked → Census

@@ -1,21 +1,19 @@
-// A census of a band: how many whole-hertz dials of a stretch get each code. A public call. It uses codes, station, occupancy, entry,
-// decision, verdict, barred and numbers; its definitions use layout and table too, and its laws scan, find and part97.
+// A census of a band: how many whole-hertz dials of a stretch get each code. A public call. It uses codes, station, occupancy, transmission,
+// entry, decision, verdict, barred and numbers; its definitions use layout and table too, and its laws scan, find and part97.
 #![tactic(auto)]
 
 ghost use Rattle.std.specs.Prelude.{◌≡◌, ◌+◌, ◌-◌, ◌<◌, ◌≤◌, pos, ◌+ℤ◌, unsigned_abs};
 ghost use Rattle.std.specs.Float.{binary64};
 ghost use Rattle.std.specs.Float.Ieee.{of_int};
 ghost use Rattle.codes.specs.Refusal.{refusal_of};
-ghost use Rattle.codes.specs.declared.Policy.TheVariants.{Rules};
-ghost use Rattle.layout.specs.Form.{Whole};
-ghost use Rattle.table.specs.Table.{table_of};
 ghost use Rattle.verdict.specs.Verdict.{evaluate_tests};
-ghost use Rattle.census.specs.Census.{farthest, most, undialled, dial_at, dials_of, code_at, counts_of, counted, stretch_tests, census_tests, census_of};
+ghost use Rattle.census.specs.Census.{farthest, most, undialled, dial_at, dials_of, code_on, counts_of, counted, stretch_tests, census_tests, census_of};
 ghost use Rattle.census.specs.Lifted.{lift, no_stretch, far_of, marked};
 
-use codes::{Checked, Direction, EmissionKind, Refusal};
+use codes::{Checked, Refusal};
 use occupancy::Edges;
-use station::{Situation, StationRecord};
+use station::StationRecord;
+use transmission::{Call, Station, Transmission};
 
 // The most dials of a stretch.
 pub const MOST_DIALS: u64 = 1000000;
@@ -93,19 +91,15 @@ fn without_dial(r: StationRecord) -> StationRecord
 }
 
 // The refusals in order: 20 to 22, 1 to 14, 15, 33, 34.
-fn census_refusals(
-    r: StationRecord,
-    kind: u8,
-    direction: u8,
-    e: Edges,
-    image: &[u8],
-    first: i64,
-    last: i64,
-) -> Checked
-    ensures { result ≡ refusal_of (census_tests r kind direction e image.now first last) }
+fn census_refusals(q: &Call, first: i64, last: i64) -> Checked
+    ensures { result ≡ refusal_of (census_tests q.now.record q.now.kind q.now.direction q.now.edges q.now.image.now first last) }
 {
-    let mark = mark_refusal(r.dial_known);
-    let front = verdict::evaluate_refusals(without_dial(r), kind, direction, e, image);
+    let mark = mark_refusal(q.record.dial_known);
+    let own = Call {
+        record: without_dial(q.record),
+        ..*q
+    };
+    let front = verdict::evaluate_refusals(&own);
     let stretch = stretch_refusals(first, last);
     mark.and(front.and(stretch))
 }
@@ -120,20 +114,14 @@ fn dial_at(first: i64, k: u64) -> f64
 
 // The code at a dial.
 #[tactic(auto, unfolding(crate::specs::Census::code_at))]
-fn code_at(
-    image: &[u8],
-    s: Situation,
-    kind: EmissionKind,
-    direction: Direction,
-    e: Edges,
-    hz: f64,
-) -> u8
-    requires { s.policy ≡ Rules → Whole image.now }
-    ensures { result ≡ code_at (table_of image.now) s kind direction e hz }
+fn code_at(x: &Transmission, hz: f64) -> u8
+    ensures { result ≡ code_on x.now hz }
 {
-    let policy = s.policy;
-    let dial = Some(hz);
-    let b = barred::in_brief(image, s, policy, dial, kind, direction, e);
+    let there = Transmission {
+        dial: Some(hz),
+        ..*x
+    };
+    let b = barred::in_brief(&there);
     numbers::code_number(b.code)
 }
 
@@ -154,22 +142,14 @@ fn dials(first: i64, last: i64) -> u64
 }
 
 // Every dial of a stretch judged, and its code counted.
-fn count_all(
-    image: &[u8],
-    s: Situation,
-    kind: EmissionKind,
-    direction: Direction,
-    e: Edges,
-    first: i64,
-    count: u64,
-) -> Census
-    requires { (s.policy ≡ Rules → Whole image.now) × ((unsigned_abs first ≤ farthest) × (count ≤ most)) }
-    ensures { result ≡ counted (counts_of (λ k. code_at (table_of image.now) s kind direction e (dial_at first k)) count) }
+fn count_all(x: &Transmission, first: i64, count: u64) -> Census
+    requires { (unsigned_abs first ≤ farthest) × (count ≤ most) }
+    ensures { result ≡ counted (counts_of (λ k. code_on x.now (dial_at first k)) count) }
 {
     let mut counts = [0u32; 25];
     for k in 0..count {
         let hz = dial_at(first, k);
-        let code = code_at(image, s, kind, direction, e, hz);
+        let code = code_at(x, hz);
         let at = place(code);
         let before = counts[at];
         counts[at] = before + 1;
@@ -192,17 +172,29 @@ pub fn census_of(
 ) -> Census
     ensures { result ≡ census_of r kind direction e image.now first last }
 {
-    match census_refusals(r, kind, direction, e, image, first, last) {
+    let q = Call {
+        record: r,
+        kind,
+        direction,
+        edges: e,
+        image,
+    };
+    match census_refusals(&q, first, last) {
         Err(n) => Census {
             refusal: Err(n),
             counts: [0u32; 25],
         },
         Ok(()) => {
-            let s = station::situation_of(r);
+            let station = Station::of(station::situation_of(r), image);
+            let x = Transmission {
+                station: &station,
+                dial: station.situation.dial,
+                kind: kind.into(),
+                direction: direction.into(),
+                edges: entry::edges_read(e),
+            };
             let count = dials(first, last);
-            let emission = EmissionKind::from(kind);
-            let way = Direction::from(direction);
-            count_all(image, s, emission, way, entry::edges_read(e), first, count)
+            count_all(&x, first, count)
         }
     }
 }

@@ -59,6 +59,7 @@ fn no_limit(own: Option<f64>) -> bool
 }
 
 // Whether a question fits a record.
+#[tactic(auto, unfolding(crate::specs::Question::asks))]
 pub fn answers(q: Question, r: Record) -> bool
     ensures { result ≡ asks q r }
 {

@@ -1,6 +1,6 @@
 -- What a call that is not refused is lent.
-use Rattle.std.specs.Prelude.{ℕ, ◌/◌, ◌%◌, Bool, true, false, not, ◌||◌, List, ◌≡◌, refl, eqb, ltb, length, Float, Ok}
-use Rattle.std.proofs.Common.{true≢false, eqb-true}
+use Rattle.std.specs.Prelude.{ℕ, ◌/◌, ◌%◌, ◌≤◌, Bool, true, false, not, ◌||◌, List, ◌≡◌, refl, eqb, ltb, length, Float, Ok}
+use Rattle.std.proofs.Common.{true≢false, eqb-true, ltb-false}
 use Rattle.codes.specs.Read.{direction_valid}
 use Rattle.codes.specs.Refusal.{refusal_of}
 use Rattle.codes.specs.Laws.{refusal_both, none_fails}
@@ -21,10 +21,28 @@ one_each rungs floors e =
     go true false false d q = absurd (true≢false q)
     go true false true d q = refl
 
-pub rungs_marked :
+-- And at most 256 of them.
+few : (rungs : List Float) (floors : List ℕ) → bad_rungs rungs floors ≡ false → length rungs / 4 ≤ 256
+unfolding bad_rungs
+few rungs floors e =
+    ltb-false 256 (length rungs / 4)
+    (go (eqb (length rungs % 4) 0) (ltb 256 (length rungs / 4)) (not (eqb (length floors) (length rungs / 4)) || any_unmarked floors) e)
+  where
+    go : (a b c : Bool) → not a || (b || c) ≡ false → b ≡ false
+    go false b c q = absurd (true≢false q)
+    go true true c q = absurd (true≢false q)
+    go true false c q = refl
+
+module _
     (r : StationRecord) (direction : ℕ) (ordinary floor : Edges) (l : List ℕ) (rungs : List Float) (floors : List ℕ)
-    → refusal_of (ceiling_tests r direction ordinary floor l rungs floors) ≡ Ok tt → length floors ≡ length rungs / 4
-rungs_marked r direction ordinary floor l rungs floors e =
-    let n = none_fails (rung_tests ordinary floor rungs floors)
-    (refusal_both (entry_tests r (direction_valid direction) l) (rung_tests ordinary floor rungs floors) e).1 in
-    one_each rungs floors n.1.0
+    (e : refusal_of (ceiling_tests r direction ordinary floor l rungs floors) ≡ Ok tt) where
+  passed : bad_rungs rungs floors ≡ false
+  passed =
+      (none_fails (rung_tests ordinary floor rungs floors)
+      (refusal_both (entry_tests r (direction_valid direction) l) (rung_tests ordinary floor rungs floors) e).1).1.0
+
+  pub rungs_marked : length floors ≡ length rungs / 4
+  rungs_marked = one_each rungs floors passed
+
+  pub rungs_few : length rungs / 4 ≤ 256
+  rungs_few = few rungs floors passed

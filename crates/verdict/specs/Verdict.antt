@@ -23,6 +23,7 @@ use Rattle.station.specs.declared.Situation.{Situation}
 use Rattle.layout.specs.declared.General.{General}
 use Rattle.table.specs.Parts.{reading_of}
 use Rattle.table.specs.Table.{Table, table_of}
+use Rattle.transmission.specs.declared.Transmission.{Transmission}
 use Rattle.automatic_97_221.specs.Automatic.{applies_of}
 use Rattle.entry.specs.Entry.{entry_tests, edges_valid, edges_read}
 use Rattle.decision.specs.Number.{no_rule, §97-301, §97-109}
@@ -116,6 +117,18 @@ decide_of table s Unset dial kind direction e = unruled_of s dial e Blocked NoPr
 decide_of table s NoneApply dial kind direction e = unruled_of s dial e Legal NoRules
 decide_of table s Rules dial kind direction e = under_rules_of table s dial kind direction (range_of e (reading_of table.general))
 decide_of table s Broken dial kind direction e = unruled_of s dial e Blocked ProfileBroken
+
+-- ---- of a transmission: its audio range by an image's reading, what the prerequisites under that image leave, and the decision
+
+abbrev pub audio_on : List ℕ → Transmission → Range
+audio_on l x = range_of x.edges (reading_of (table_of l).general)
+
+abbrev pub ready_on : List ℕ → Transmission → Result Case Missing
+ready_on l x = ready_of (table_of l).general x.station.now.situation x.dial x.kind x.direction (audio_on l x)
+
+abbrev pub decision_on : Transmission → Decision
+decision_on x =
+    decide_of (table_of x.station.now.lent.now) x.station.now.situation x.station.now.situation.policy x.dial x.kind x.direction x.edges
 
 -- the codes beside the record
 abbrev pub beside_valid : ℕ → ℕ → Bool

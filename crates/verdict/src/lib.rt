@@ -1,24 +1,23 @@
-// The verdict: `evaluate` and `unmeasured`, public calls. It uses figures, codes, profile, occupancy, air, station, layout,
-// table, entry, decision, part97, automatic_97_221 and judge.
+// The verdict: `evaluate` and `unmeasured`, public calls. It uses figures, codes, profile, occupancy, air, station, whole,
+// table, transmission, entry, decision, part97, automatic_97_221 and judge; its definitions use layout, its laws scan.
 #![tactic(auto)]
 
 ghost use Rattle.std.specs.Prelude.{◌≡◌};
 ghost use Rattle.codes.specs.Refusal.{refusal_of};
-ghost use Rattle.layout.specs.Form.{Whole};
-ghost use Rattle.layout.specs.Layout.{general_of};
-ghost use Rattle.table.specs.Table.{table_of};
-ghost use Rattle.verdict.specs.Verdict.{missing, air_of, signal_of, case_of, ready_of, under_rules_of, unruled_of};
-ghost use Rattle.verdict.specs.Verdict.{decide_of, beside_valid, evaluate_tests, evaluate_of, unmeasured_of};
+ghost use Rattle.decision.specs.Decision.{simple_of};
+ghost use Rattle.decision.specs.declared.Verdict.TheVariants.{Blocked};
+ghost use Rattle.verdict.specs.Verdict.{missing, air_of, signal_of, case_of, unruled_of, audio_on, ready_on, decision_on};
+ghost use Rattle.verdict.specs.Verdict.{beside_valid, evaluate_tests, evaluate_of, unmeasured_of};
 
 use codes::{
     Checked, ControlMode, Direction, EmissionKind, LicenseClass, Policy, Refusal, Sideband,
 };
 use decision::{Code, Decision, Draft, Verdict};
-use layout::General;
 use occupancy::{Edges, Reading};
 use part97::Case;
 use profile::Range;
-use station::{Situation, StationRecord};
+use station::StationRecord;
+use transmission::{Call, Station, Transmission};
 use whole::Image;
 
 // A prerequisite that is missing: the code that blocks, and its rule.
@@ -65,25 +64,24 @@ pub fn signal_of(dial: Option<f64>, sideband: Option<Sideband>, audio: Range) ->
 // The facts that judging works from.
 #[tactic(auto, unfolding(crate::specs::Verdict::case_of))]
 pub fn case_of(
-    s: Situation,
+    x: &Transmission,
     control: ControlMode,
     class: LicenseClass,
     sideband: Sideband,
     dial: f64,
-    kind: EmissionKind,
-    direction: Direction,
     audio: Range,
 ) -> Case
-    ensures { result ≡ case_of s control class sideband dial kind direction audio }
+    ensures { result ≡ case_of x.now.station.now.situation control class sideband dial x.now.kind x.now.direction audio }
 {
+    let s = x.station.situation;
     let on_air = air::rf_range(dial, sideband, audio);
     let guarded = air::guarded(s.margin, on_air);
     Case {
         class,
         sideband,
-        direction,
-        kind,
-        automatic: automatic_97_221::applies(control, direction),
+        direction: x.direction,
+        kind: x.kind,
+        automatic: automatic_97_221::applies(control, x.direction),
         dial_hz: dial,
         audio,
         width: air::width(audio),
@@ -95,19 +93,13 @@ pub fn case_of(
     }
 }
 
-// The prerequisites in order: the case to judge at a dial, or the first that is missing, with its rule.
+// The prerequisites in order: the case to judge under an image, or the first that is missing, with its rule.
 #[tactic(auto, unfolding(crate::specs::Verdict::ready_of))]
-pub fn prepare(
-    g: General,
-    s: Situation,
-    dial: Option<f64>,
-    kind: EmissionKind,
-    direction: Direction,
-    audio: Range,
-) -> Result<Case, Missing>
-    ensures { result ≡ ready_of g s dial kind direction audio }
+pub fn prepare(image: &Image, x: &Transmission) -> Result<Case, Missing>
+    ensures { result ≡ ready_on image.now x.now }
 {
-    if s.itu_region != g.region {
+    let s = x.station.situation;
+    if s.itu_region != image.general.region {
         return Err(Missing::new(Code::Region, decision::RULE_97_301));
     }
     let Some(control) = s.control else {
@@ -119,88 +111,65 @@ pub fn prepare(
     let Some(sideband) = s.sideband else {
         return Err(Missing::new(Code::NoSideband, decision::NO_RULE));
     };
-    let Some(hz) = dial else {
+    let Some(hz) = x.dial else {
         return Err(Missing::new(Code::NoDial, decision::NO_RULE));
     };
-    Ok(case_of(s, control, class, sideband, hz, kind, direction, audio))
+    let audio = x.edges.range(table::reading_of(image.general));
+    Ok(case_of(x, control, class, sideband, hz, audio))
 }
 
-// Under Rules: Part 97 judges the case, and what is missing blocks.
-#[tactic(auto, unfolding(crate::specs::Verdict::under_rules_of))]
-fn under_rules(
-    image: &Image,
-    s: Situation,
-    dial: Option<f64>,
-    kind: EmissionKind,
-    direction: Direction,
-    audio: Range,
-) -> Decision
-    ensures { result ≡ under_rules_of (table_of image.now) s dial kind direction audio }
+// Blocked under an image by what is missing.
+pub fn unmet(image: &Image, x: &Transmission, m: Missing) -> Decision
+    ensures { result ≡ simple_of (signal_of x.now.dial x.now.station.now.situation.sideband (audio_on image.now x.now)) Blocked m.code m.rule }
 {
-    match prepare(image.general, s, dial, kind, direction, audio) {
-        Ok(c) => judge::conclude(image, c, judge::judge_case(image, c)),
-        Err(m) => {
-            let signal = signal_of(dial, s.sideband, audio);
-            decision::simple(signal, Verdict::Blocked, m.code, m.rule)
-        }
-    }
+    let audio = x.edges.range(table::reading_of(image.general));
+    let signal = signal_of(x.dial, x.station.situation.sideband, audio);
+    decision::simple(signal, Verdict::Blocked, m.code, m.rule)
 }
 
 // Without a table, by the wider reading: the policy alone decides.
 #[tactic(auto, unfolding(crate::specs::Verdict::unruled_of))]
-pub fn unruled(s: Situation, dial: Option<f64>, e: Edges, verdict: Verdict, code: Code) -> Decision
-    ensures { result ≡ unruled_of s dial e verdict code }
+pub fn unruled(x: &Transmission, verdict: Verdict, code: Code) -> Decision
+    ensures { result ≡ unruled_of x.now.station.now.situation x.now.dial x.now.edges verdict code }
 {
-    let signal = signal_of(dial, s.sideband, e.range(Reading::Wider));
+    let audio = x.edges.range(Reading::Wider);
+    let signal = signal_of(x.dial, x.station.situation.sideband, audio);
     decision::simple(signal, verdict, code, decision::NO_RULE)
 }
 
-// By the policy, at a dial. Under Rules the image is an accepted one.
-#[tactic(auto, unfolding(crate::specs::Verdict::decide_of))]
-pub fn decide(
-    image: &[u8],
-    s: Situation,
-    policy: Policy,
-    dial: Option<f64>,
-    kind: EmissionKind,
-    direction: Direction,
-    e: Edges,
-) -> Decision
-    requires { policy ≡ Policy.Rules → Whole image.now }
-    ensures { result ≡ decide_of (table_of image.now) s policy dial kind direction e }
+// By the policy. Under Rules Part 97 judges the case, and what is missing blocks.
+#[tactic(auto, unfolding(crate::specs::Verdict::decide_of, crate::specs::Verdict::under_rules_of))]
+pub fn decide(x: &Transmission) -> Decision
+    ensures { result ≡ decision_on x.now }
 {
-    match policy {
-        Policy::Unset => unruled(s, dial, e, Verdict::Blocked, Code::NoProfile),
-        Policy::NoProfile => unruled(s, dial, e, Verdict::Legal, Code::NoRules),
+    match x.station.situation.policy {
+        Policy::Unset => unruled(x, Verdict::Blocked, Code::NoProfile),
+        Policy::NoProfile => unruled(x, Verdict::Legal, Code::NoRules),
         Policy::Rules => {
-            let image = Image::of(image);
-            let audio = e.range(table::reading_of(image.general));
-            under_rules(&image, s, dial, kind, direction, audio)
+            let image = x.station.in_force();
+            match prepare(image, x) {
+                Ok(c) => judge::conclude(image, c, judge::judge_case(image, c)),
+                Err(m) => unmet(image, x, m),
+            }
         }
-        Policy::Broken => unruled(s, dial, e, Verdict::Blocked, Code::ProfileBroken),
+        Policy::Broken => unruled(x, Verdict::Blocked, Code::ProfileBroken),
     }
 }
 
 // The codes beside the record.
-fn beside_valid(kind: u8, direction: u8) -> bool
-    ensures { result ≡ beside_valid kind direction }
+fn beside_valid(q: &Call) -> bool
+    ensures { result ≡ beside_valid q.now.kind q.now.direction }
 {
-    kind <= 3 && codes::direction_valid(direction)
+    q.kind <= 3 && codes::direction_valid(q.direction)
 }
 
 // Refusals 20 to 22, 1 to 14 and 15.
 #[tactic(auto, using(codes::specs::Laws::refusal_next, codes::specs::Laws::refusal_stays), unfolding(entry::specs::Entry::entry_of))]
-pub fn evaluate_refusals(
-    r: StationRecord,
-    kind: u8,
-    direction: u8,
-    e: Edges,
-    image: &[u8],
-) -> Checked
-    ensures { result ≡ refusal_of (evaluate_tests r kind direction e image.now) }
+pub fn evaluate_refusals(q: &Call) -> Checked
+    ensures { result ≡ refusal_of (evaluate_tests q.now.record q.now.kind q.now.direction q.now.edges q.now.image.now) }
 {
-    entry::admit(r, beside_valid(kind, direction), image)?;
-    if !entry::edges_valid(e) {
+    entry::admit(q.record, beside_valid(q), q.image)?;
+    if !entry::edges_valid(q.edges) {
         return Err(Refusal::SignalEdge);
     }
     Ok(())
@@ -211,19 +180,25 @@ pub fn evaluate_refusals(
 pub fn evaluate(r: StationRecord, kind: u8, direction: u8, e: Edges, image: &[u8]) -> Decision
     ensures { result ≡ evaluate_of r kind direction e image.now }
 {
-    match evaluate_refusals(r, kind, direction, e, image) {
+    let q = Call {
+        record: r,
+        kind,
+        direction,
+        edges: e,
+        image,
+    };
+    match evaluate_refusals(&q) {
         Err(n) => decision::refused(n),
         Ok(()) => {
-            let s = station::situation_of(r);
-            decide(
-                image,
-                s,
-                s.policy,
-                s.dial,
-                kind.into(),
-                direction.into(),
-                entry::edges_read(e),
-            )
+            let station = Station::of(station::situation_of(r), image);
+            let x = Transmission {
+                station: &station,
+                dial: station.situation.dial,
+                kind: kind.into(),
+                direction: direction.into(),
+                edges: entry::edges_read(e),
+            };
+            decide(&x)
         }
     }
 }

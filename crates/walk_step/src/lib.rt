@@ -1,19 +1,16 @@
 // A step of a rung walk: the ceiling's climb, a rung a step, under the one of two tables that was in force as the walk began. A public call.
-// It uses codes, occupancy, station, entry, rungs, ceiling and walk; its definitions use layout, table, decision, part97 and verdict, its laws scan.
+// It uses codes, occupancy, station, entry, rungs, ceiling and walk; its definitions use table and decision, its laws scan and part97.
 #![tactic(auto)]
 
 ghost use Rattle.std.specs.Prelude.{◌/◌, ◌<◌, ◌≡◌, length};
-ghost use Rattle.codes.specs.declared.Policy.TheVariants.{Rules};
-ghost use Rattle.layout.specs.Form.{Whole};
-ghost use Rattle.table.specs.Table.{table_of};
-ghost use Rattle.ceiling.specs.Ceiling.{judge_by};
-ghost use Rattle.rungs.specs.Rungs.{burst_of};
+ghost use Rattle.ceiling.specs.Ladder.{judge_on, bursts_on};
 ghost use Rattle.walk_step.specs.Step.{envelope_so_far, rung_so_far, ended_of, goes_on, refused_step, step_none, step_by, step_under, step_of};
 
-use ceiling::CeilingAnswer;
-use codes::{Direction, Refusal};
+use ceiling::{CeilingAnswer, Ladder};
+use codes::Refusal;
 use occupancy::Edges;
-use station::{Situation, StationRecord};
+use rungs::{Call, Rungs};
+use station::StationRecord;
 use walk::WalkState;
 
 // The answer of a step: the ceiling of the rungs judged so far, and whether the walk is over.
@@ -104,34 +101,23 @@ fn step_none(w: WalkState) -> StepAnswer
 }
 
 // A step of what is not refused: the rung at its place, judged once.
-fn step_by(
-    w: WalkState,
-    image: &[u8],
-    s: Situation,
-    direction: Direction,
-    ordinary: Edges,
-    floor: Edges,
-    rungs: &[f64],
-    floors: &[u8],
-) -> StepAnswer
-    requires { (s.policy ≡ Rules → Whole image.now) × ((length floors.now ≡ length rungs.now / 4) × (w.place < 256)) }
-    ensures { result ≡ step_by (judge_by (table_of image.now) s direction)
-        (burst_of ordinary floor rungs.now floors.now) (length rungs.now / 4) w }
+fn step_by(w: WalkState, ladder: &Ladder) -> StepAnswer
+    ensures { result ≡ step_by (judge_on ladder.now) (bursts_on ladder.now.rungs) (length ladder.now.rungs.figures.now / 4) w }
 {
-    let count = rungs.len() / 4;
+    let count = ladder.count();
     let place = w.place as usize;
     if count <= place {
         return step_none(w);
     }
-    let more = rungs::burst(ordinary, floor, rungs, floors, place);
-    match ceiling::rung_step(image, s, direction, envelope_so_far(w), more) {
+    let more = ladder.rungs.burst(place);
+    match ladder.rung_step(envelope_so_far(w), more) {
         Err((reached, f)) => StepAnswer {
             state: ended(w),
             over: true,
             ceiling: CeilingAnswer {
                 refusal: Ok(()),
                 rung: rung_so_far(w.place),
-                limit: Some(ceiling::rung_decision(image, s, direction, reached, f)),
+                limit: Some(ladder.rung_decision(reached, f)),
             },
         },
         Ok(reached) => {
@@ -151,36 +137,18 @@ fn step_by(
 
 // A step under the walk's image.
 #[tactic(auto, unfolding(crate::specs::Step::step_under))]
-fn step_under(
-    w: WalkState,
-    r: StationRecord,
-    direction: u8,
-    ordinary: Edges,
-    floor: Edges,
-    image: &[u8],
-    rungs: &[f64],
-    floors: &[u8],
-) -> StepAnswer
-    requires { w.place < 256 }
-    ensures { result ≡ step_under w r direction ordinary floor image.now rungs.now floors.now }
+fn step_under(w: WalkState, q: &Call) -> StepAnswer
+    ensures { result ≡ step_under w q.now.record q.now.direction q.now.rungs.ordinary q.now.rungs.floor q.now.image.now
+        q.now.rungs.figures.now q.now.rungs.floors.now }
 {
-    match rungs::ceiling_refusals(r, direction, ordinary, floor, image, rungs, floors) {
+    match rungs::ceiling_refusals(q) {
         Err(n) => refused_step(w, n),
-        Ok(()) => step_by(
-            w,
-            image,
-            station::situation_of(r),
-            direction.into(),
-            entry::edges_read(ordinary),
-            entry::edges_read(floor),
-            rungs,
-            floors,
-        ),
+        Ok(()) => step_by(w, &Ladder::of(q)),
     }
 }
 
 // Judges the rung at the walk's place.
-#[tactic(auto, using(crate::specs::Laws::valid_place), unfolding(crate::specs::Step::step_of))]
+#[tactic(auto, unfolding(crate::specs::Step::step_of))]
 pub fn step(
     w: WalkState,
     r: StationRecord,
@@ -197,6 +165,16 @@ pub fn step(
     if let Err(n) = walk::state_refusal(w, w.walking == 0, Refusal::Walk) {
         return refused_step(w, n);
     }
-    let image = if w.image == 0 { image_0 } else { image_1 };
-    step_under(w, r, direction, ordinary, floor, image, rungs, floors)
+    let q = Call {
+        record: r,
+        direction,
+        image: if w.image == 0 { image_0 } else { image_1 },
+        rungs: Rungs {
+            ordinary,
+            floor,
+            figures: rungs,
+            floors,
+        },
+    };
+    step_under(w, &q)
 }

@@ -1,26 +1,25 @@
--- By the policy.
-use Rattle.std.proofs.Common.{ap, subst, ◌∙◌}
-use Rattle.profile.specs.declared.Range.{Range}
-use Rattle.occupancy.specs.Edges.{range_of}
-use Rattle.table.specs.Parts.{reading_of}
-use Rattle.table.specs.Table.{table_of}
-use Rattle.verdict.specs.Verdict.{under_rules_of, decide_of}
-use Rattle.barred.specs.Barring.{led_by_rules, led_to, Barred, bar_unset, bar_broken}
+-- By the policy; under Rules a case is judged, and its finding blocks or not, or a prerequisite that is missing blocks.
+use Rattle.std.proofs.Common.{sym, ◌∙◌}
+use Rattle.barred.specs.Barring.{bar_unset, bar_broken, bar_rules, bar_met, bar_free, bar_missing}
 use Rattle.barred.proofs.barring.Goals as goal
 
 pub returns-in-Unset : goal.returns-in-Unset
-returns-in-Unset c = rw c.in-Unset.is (rw c.bar_by.ensures (bar_unset _ _ _ _ _ _))
+returns-in-Unset c = rw c.bar_by.ensures (bar_unset _ _ _ _ _ _ _ c.in-Unset.is)
 
-pub returns-in-Rules : goal.returns-in-Rules
-unfolding led_to decide_of
-returns-in-Rules c =
-    let a = c.args in
-    rw c.in-Rules.is
-    (subst (λ (x : Range). Barred (led_by_rules (table_of a.image.now) a.s a.dial a.kind a.direction x)
-    (under_rules_of (table_of a.image.now) a.s a.dial a.kind a.direction x) c.barring_by_rules.result)
-    (c.range-audio.ensures
-    ∙ ap (range_of a.e) (c.reading_of.ensures ∙ ap reading_of c.general_of-g.ensures))
-    c.barring_by_rules.ensures)
+pub returns-then-blocks : goal.returns-then-blocks
+returns-then-blocks c =
+    bar_rules _ _ _ _ _ _ _ _ _ c.in_force-image.ensures c.in-Rules.is
+    (bar_met _ _ _ _ _ _ _ _ (sym c.prepare.ensures ∙ c.in-Ok.is) c.judge_case-f.ensures (sym c.blocks-in-Ok.ensures ∙ c.if-blocks.true))
+
+pub returns-else-blocks : goal.returns-else-blocks
+returns-else-blocks c =
+    bar_rules _ _ _ _ _ _ _ _ _ c.in_force-image.ensures c.in-Rules.is
+    (bar_free _ _ _ _ _ _ _ _ (sym c.prepare.ensures ∙ c.in-Ok.is) c.judge_case-f.ensures (sym c.blocks-in-Ok.ensures ∙ c.if-blocks.false))
+
+pub returns-in-Err : goal.returns-in-Err
+returns-in-Err c =
+    rw c.bar_by-in-Err.ensures
+    (bar_rules _ _ _ _ _ _ _ _ _ c.in_force-image.ensures c.in-Rules.is (bar_missing _ _ _ _ _ _ _ (sym c.prepare.ensures ∙ c.in-Err.is)))
 
 pub returns-in-Broken : goal.returns-in-Broken
-returns-in-Broken c = rw c.in-Broken.is (rw c.bar_by-in-Broken.ensures (bar_broken _ _ _ _ _ _))
+returns-in-Broken c = rw c.bar_by-in-Broken.ensures (bar_broken _ _ _ _ _ _ _ c.in-Broken.is)

@@ -26,6 +26,21 @@ dials-count-requires c =
     ∙ ap (λ (z : ℤ). refusal_of (stretch_tests a.first z)) (to_z-of_z w64 a.last c.ranges.last)
     ∙ front_stretch a.r a.kind a.direction a.e a.image.now a.first a.last (accepted)
 
+pub of-station-requires : goal.of-station-requires
+of-station-requires c p =
+    let said : (let a = c.args in
+    refusal_of (census_tests a.r a.kind a.direction a.e a.image.now a.first a.last) ≡ c.census_refusals.result) = (let c = c in
+    let a = c.args in
+    sym
+    (c.census_refusals.ensures
+    ∙ ap (λ (z : ℤ). refusal_of (census_tests a.r a.kind a.direction a.e a.image.now z (to_z w64 (of_z w64 a.last))))
+    (to_z-of_z w64 a.first c.ranges.first)
+    ∙ ap (λ (z : ℤ). refusal_of (census_tests a.r a.kind a.direction a.e a.image.now a.first z)) (to_z-of_z w64 a.last c.ranges.last))) in
+    let accepted : (let a = c.args in
+    refusal_of (census_tests a.r a.kind a.direction a.e a.image.now a.first a.last) ≡ Ok tt) = (said ∙ c.in-Ok.is) in
+    let a = c.args in
+    front_whole a.r a.kind a.direction a.e a.image.now a.first a.last accepted (sym (ap (λ (x : Situation). x.policy) c.situation_of.ensures) ∙ p)
+
 pub count_all-requires : goal.count_all-requires
 count_all-requires c =
     let dials_are : (let a = c.args in
@@ -47,13 +62,8 @@ count_all-requires c =
     let a = c.args in
     let q = accepted in
     let t = stretch_accepted a.first a.last (front_stretch a.r a.kind a.direction a.e a.image.now a.first a.last q) in (
-      λ p.
-          front_whole a.r a.kind a.direction a.e a.image.now a.first a.last q
-          (sym (ap (λ (x : Situation). x.policy) c.situation_of-s.ensures) ∙ p),
-      (
-        subst (λ (z : ℤ). nat_abs z ≤ farthest) (sym (to_z-of_z w64 a.first c.ranges.first)) t.low,
-        subst (λ (n : ℕ). n ≤ most) (sym (dials_are)) t.few,
-      ),
+      subst (λ (z : ℤ). nat_abs z ≤ farthest) (sym (to_z-of_z w64 a.first c.ranges.first)) t.low,
+      subst (λ (n : ℕ). n ≤ most) (sym (dials_are)) t.few,
     )
 
 pub returns-in-Err : goal.returns-in-Err
@@ -90,6 +100,5 @@ returns-in-Ok c =
     refusal_of (census_tests a.r a.kind a.direction a.e a.image.now a.first a.last) ≡ Ok tt) = (said ∙ c.in-Ok.is) in
     let a = c.args in
     c.count_all.ensures
-    ∙ counts_same a.image.now c.situation_of-s.ensures c.from-emission.ensures
-    c.from-way.ensures c.edges_read.ensures (to_z-of_z w64 a.first c.ranges.first) dials_are
+    ∙ counts_same c.of-station.ensures.lends (c.of-station.ensures.reads ∙ c.situation_of.ensures) c.into.ensures c.into-in-Ok.ensures c.edges_read.ensures (to_z-of_z w64 a.first c.ranges.first) dials_are
     ∙ census_counted a.r a.kind a.direction a.e a.image.now a.first a.last accepted

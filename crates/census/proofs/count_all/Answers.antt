@@ -2,8 +2,7 @@
 use Rattle.std.proofs.Common.{◌≡◌, ◌<◌, ◌≤◌, ℤ, nat_abs, sym, ap, ◌∙◌, subst, arith, w64, to_z, of_z}
 use lib.Ieee.{Float}
 use mir.ValLaws.{to_z-of_z}
-use Rattle.table.specs.Table.{table_of}
-use Rattle.census.specs.Census.{farthest, code_at, counts_of, counted}
+use Rattle.census.specs.Census.{farthest, code_on, counts_of, counted}
 use Rattle.census.specs.Coded.{code_numbered}
 use Rattle.census.specs.Counts.{Numbered, count_none, held_few, held_next}
 use Rattle.census.proofs.count_all.Invariants.{codes}
@@ -15,26 +14,23 @@ loop-k-init c = count_none _
 pub dial_at-hz-requires : goal.dial_at-hz-requires
 dial_at-hz-requires c =
     let a = c in (
-      subst (λ (z : ℤ). nat_abs z ≤ farthest) (sym (to_z-of_z w64 a.args.first a.ranges.first)) a.requires.1.0,
-      omega (arith, c.loop-k-test.true, a.requires.1.1),
+      subst (λ (z : ℤ). nat_abs z ≤ farthest) (sym (to_z-of_z w64 a.args.first a.ranges.first)) a.requires.0,
+      omega (arith, c.loop-k-test.true, a.requires.1),
     )
-
-pub code_at-code-requires : goal.code_at-code-requires
-code_at-code-requires c = c.requires.0
 
 pub place-at-requires : goal.place-at-requires
 place-at-requires c =
     let code_is : (let a = c.args in
-    c.code_at-code.result ≡ codes a.image.now a.s a.kind a.direction a.e (to_z w64 (of_z w64 a.first)) c.loop-k.k) = (let a = c.args in
-    c.code_at-code.ensures ∙ ap (λ (hz : Float). code_at (table_of a.image.now) a.s a.kind a.direction a.e hz) c.dial_at-hz.ensures) in
+    c.code_at-code.result ≡ codes a.x.now (to_z w64 (of_z w64 a.first)) c.loop-k.k) = (let a = c.args in
+    c.code_at-code.ensures ∙ ap (λ (hz : Float). code_on a.x.now hz) c.dial_at-hz.ensures) in
     let numbered : (Numbered c.code_at-code.result) = (subst Numbered (sym (code_is)) (code_numbered _ _ _ _ _ _)) in
     (numbered).above
 
 pub offset_bounds-counts-at : goal.offset_bounds-counts-at
 offset_bounds-counts-at c =
     let code_is : (let a = c.args in
-    c.code_at-code.result ≡ codes a.image.now a.s a.kind a.direction a.e (to_z w64 (of_z w64 a.first)) c.loop-k.k) = (let a = c.args in
-    c.code_at-code.ensures ∙ ap (λ (hz : Float). code_at (table_of a.image.now) a.s a.kind a.direction a.e hz) c.dial_at-hz.ensures) in
+    c.code_at-code.result ≡ codes a.x.now (to_z w64 (of_z w64 a.first)) c.loop-k.k) = (let a = c.args in
+    c.code_at-code.ensures ∙ ap (λ (hz : Float). code_on a.x.now hz) c.dial_at-hz.ensures) in
     let numbered : (Numbered c.code_at-code.result) = (subst Numbered (sym (code_is)) (code_numbered _ _ _ _ _ _)) in
     let within : (c.place-at.result < 25) = (omega (arith, c.place-at.ensures, (numbered).above, (numbered).within)) in
     record { fits = omega (arith, within) }
@@ -42,8 +38,8 @@ offset_bounds-counts-at c =
 pub bounds-counts-at : goal.bounds-counts-at
 bounds-counts-at c =
     let code_is : (let a = c.args in
-    c.code_at-code.result ≡ codes a.image.now a.s a.kind a.direction a.e (to_z w64 (of_z w64 a.first)) c.loop-k.k) = (let a = c.args in
-    c.code_at-code.ensures ∙ ap (λ (hz : Float). code_at (table_of a.image.now) a.s a.kind a.direction a.e hz) c.dial_at-hz.ensures) in
+    c.code_at-code.result ≡ codes a.x.now (to_z w64 (of_z w64 a.first)) c.loop-k.k) = (let a = c.args in
+    c.code_at-code.ensures ∙ ap (λ (hz : Float). code_on a.x.now hz) c.dial_at-hz.ensures) in
     let numbered : (Numbered c.code_at-code.result) = (subst Numbered (sym (code_is)) (code_numbered _ _ _ _ _ _)) in
     let within : (c.place-at.result < 25) = (omega (arith, c.place-at.ensures, (numbered).above, (numbered).within)) in
     within
@@ -51,19 +47,19 @@ bounds-counts-at c =
 pub overflow_add-counts : goal.overflow_add-counts
 overflow_add-counts c =
     let code_is : (let a = c.args in
-    c.code_at-code.result ≡ codes a.image.now a.s a.kind a.direction a.e (to_z w64 (of_z w64 a.first)) c.loop-k.k) = (let a = c.args in
-    c.code_at-code.ensures ∙ ap (λ (hz : Float). code_at (table_of a.image.now) a.s a.kind a.direction a.e hz) c.dial_at-hz.ensures) in
+    c.code_at-code.result ≡ codes a.x.now (to_z w64 (of_z w64 a.first)) c.loop-k.k) = (let a = c.args in
+    c.code_at-code.ensures ∙ ap (λ (hz : Float). code_on a.x.now hz) c.dial_at-hz.ensures) in
     let numbered : (Numbered c.code_at-code.result) = (subst Numbered (sym (code_is)) (code_numbered _ _ _ _ _ _)) in
     let within : (c.place-at.result < 25) = (omega (arith, c.place-at.ensures, (numbered).above, (numbered).within)) in
     let l = c.loop-k in
     let h = held_few _ l.k l.counts l.invariant c.place-at.result (within) in
-    record { fits = omega (arith, h, c.loop-k-test.true, c.requires.1.1) }
+    record { fits = omega (arith, h, c.loop-k-test.true, c.requires.1) }
 
 pub offset_bounds-counts-at-in-loop-k : goal.offset_bounds-counts-at-in-loop-k
 offset_bounds-counts-at-in-loop-k c =
     let code_is : (let a = c.args in
-    c.code_at-code.result ≡ codes a.image.now a.s a.kind a.direction a.e (to_z w64 (of_z w64 a.first)) c.loop-k.k) = (let a = c.args in
-    c.code_at-code.ensures ∙ ap (λ (hz : Float). code_at (table_of a.image.now) a.s a.kind a.direction a.e hz) c.dial_at-hz.ensures) in
+    c.code_at-code.result ≡ codes a.x.now (to_z w64 (of_z w64 a.first)) c.loop-k.k) = (let a = c.args in
+    c.code_at-code.ensures ∙ ap (λ (hz : Float). code_on a.x.now hz) c.dial_at-hz.ensures) in
     let numbered : (Numbered c.code_at-code.result) = (subst Numbered (sym (code_is)) (code_numbered _ _ _ _ _ _)) in
     let within : (c.place-at.result < 25) = (omega (arith, c.place-at.ensures, (numbered).above, (numbered).within)) in
     record { fits = omega (arith, within) }
@@ -71,8 +67,8 @@ offset_bounds-counts-at-in-loop-k c =
 pub bounds-counts-at-in-loop-k : goal.bounds-counts-at-in-loop-k
 bounds-counts-at-in-loop-k c =
     let code_is : (let a = c.args in
-    c.code_at-code.result ≡ codes a.image.now a.s a.kind a.direction a.e (to_z w64 (of_z w64 a.first)) c.loop-k.k) = (let a = c.args in
-    c.code_at-code.ensures ∙ ap (λ (hz : Float). code_at (table_of a.image.now) a.s a.kind a.direction a.e hz) c.dial_at-hz.ensures) in
+    c.code_at-code.result ≡ codes a.x.now (to_z w64 (of_z w64 a.first)) c.loop-k.k) = (let a = c.args in
+    c.code_at-code.ensures ∙ ap (λ (hz : Float). code_on a.x.now hz) c.dial_at-hz.ensures) in
     let numbered : (Numbered c.code_at-code.result) = (subst Numbered (sym (code_is)) (code_numbered _ _ _ _ _ _)) in
     let within : (c.place-at.result < 25) = (omega (arith, c.place-at.ensures, (numbered).above, (numbered).within)) in
     within
@@ -80,8 +76,8 @@ bounds-counts-at-in-loop-k c =
 pub loop-k-preserved : goal.loop-k-preserved
 loop-k-preserved c =
     let code_is : (let a = c.args in
-    c.code_at-code.result ≡ codes a.image.now a.s a.kind a.direction a.e (to_z w64 (of_z w64 a.first)) c.loop-k.k) = (let a = c.args in
-    c.code_at-code.ensures ∙ ap (λ (hz : Float). code_at (table_of a.image.now) a.s a.kind a.direction a.e hz) c.dial_at-hz.ensures) in
+    c.code_at-code.result ≡ codes a.x.now (to_z w64 (of_z w64 a.first)) c.loop-k.k) = (let a = c.args in
+    c.code_at-code.ensures ∙ ap (λ (hz : Float). code_on a.x.now hz) c.dial_at-hz.ensures) in
     let l = c.loop-k in
     held_next _ l.k l.counts l.invariant c.code_at-code.result c.place-at.result (code_is) c.place-at.ensures
     (code_numbered _ _ _ _ _ _)
@@ -90,7 +86,7 @@ pub returns : goal.returns
 returns c =
     let l = c.loop-k in
     let e : l.k ≡ c.args.count = omega (arith, c.loop-k-test.false) in
-    let code = codes c.args.image.now c.args.s c.args.kind c.args.direction c.args.e in
+    let code = codes c.args.x.now in
     ap counted
     (l.invariant
     ∙ ap (counts_of (code (to_z w64 (of_z w64 c.args.first)))) e

@@ -10,9 +10,9 @@ use Rattle.rungs.proofs.ceiling_refusals.Goals as goal
 pub returns-in_err-admit : goal.returns-in_err-admit
 unfolding entry_of
 returns-in_err-admit c =
-    let a = c.args in
+    let q = c.args.q.now in
     let same : ◌≡◌ {A = Checked} c.from_residual.result (Err c.in_err-admit.field-0.0) = search rules in
-    let said : c.admit.result ≡ refusal_of (entry_tests a.r (direction_valid a.direction) a.image.now) = rw (← c.direction_valid.ensures) c.admit.ensures in
+    let said : c.admit.result ≡ refusal_of (entry_tests q.record (direction_valid q.direction) q.image.now) = rw (← c.direction_valid.ensures) c.admit.ensures in
     same
-    ∙ sym (refusal_stays (entry_tests a.r (direction_valid a.direction) a.image.now) (rung_tests a.ordinary a.floor a.rungs.now a.floors.now) _
+    ∙ sym (refusal_stays (entry_tests q.record (direction_valid q.direction) q.image.now) (rung_tests q.rungs.ordinary q.rungs.floor q.rungs.figures.now q.rungs.floors.now) _
     (sym said ∙ c.in_err-admit.was))
