@@ -1,10 +1,10 @@
 // Where to move the dial to: the dial nearest to the present one at which data is allowed. A public call. It uses codes, profile, occupancy,
-// air, station, layout, table, tidy, entry, verdict, dial_rows, dials, on_grid and nearest_rows; its definitions use distance and demand_3.
+// air, station, layout, whole, table, transmission, tidy, entry, verdict, dial_rows, dials, distance and on_grid; its definitions use
+// nearest_rows and demand_3.
 #![tactic(auto)]
 
 ghost use Rattle.std.specs.Prelude.{◌≡◌, true};
 ghost use Rattle.codes.specs.declared.Policy.TheVariants.{Rules};
-ghost use Rattle.layout.specs.Form.{Whole};
 ghost use Rattle.layout.specs.Layout.{general_of};
 ghost use Rattle.table.specs.Table.{table_of};
 ghost use Rattle.dial_rows.specs.Dials.{rows_of};
@@ -14,12 +14,12 @@ ghost use Rattle.nearest_rows.specs.Over.{nearest_over};
 ghost use Rattle.nearest.specs.Laws.{premises_of, known_nearest};
 
 use codes::{ControlMode, Direction, LicenseClass, Policy, Refusal, Sideband};
-use dial_rows::Request;
+use dial_rows::{Request, RowSearch};
 use distance::Here;
-use layout::General;
 use occupancy::Edges;
 use profile::Range;
 use station::{Situation, StationRecord};
+use transmission::Call;
 use whole::Image;
 
 // The dial to move to, that no dial would be allowed, or that a premise fails.
@@ -62,16 +62,16 @@ fn answer_of(best: Option<f64>) -> Nearest
 // The nearest of the rows that a request is given, by the list's own search, with no bytes to keep a row in. Those of the channels are not
 // searched: none lies outside the channel band.
 fn nearest_for(image: &Image, q: Request, dial_hz: f64) -> Nearest
-    ensures { result ≡ answer_of (nearest_over dial_hz g.flags g.channel_band None (rows_of (table_of image.now) q)) }
+    ensures { result ≡ answer_of (nearest_over dial_hz (general_of image.now).flags (general_of image.now).channel_band None
+        (rows_of (table_of image.now) q)) }
 {
-    let w = dial_rows::search_of(image, q, None);
     let h = Here {
         dial_hz,
         flags: image.general.flags,
         channel_band: image.general.channel_band,
     };
     let mut none = [0u8; 1];
-    answer_of(dials::data_rows(image, &mut none, q, w, h).best)
+    answer_of(dials::data_rows(&RowSearch::of(image, q, None), &mut none, h).best)
 }
 
 // With the prerequisites met.
@@ -111,8 +111,7 @@ fn nearest_in(image: &Image, s: Situation, direction: Direction, e: Edges) -> Ne
     requires { ((s.policy ≡ Rules) × (unrefused (table_of image.now) ≡ true)) }
     ensures { result ≡ nearest_in (table_of image.now) s direction e }
 {
-    let g = image.general;
-    if s.itu_region != g.region {
+    if s.itu_region != image.general.region {
         return Nearest::NotJudged;
     }
     let (Some(control), Some(license), Some(sideband), Some(dial_hz)) = (
@@ -120,9 +119,7 @@ fn nearest_in(image: &Image, s: Situation, direction: Direction, e: Edges) -> Ne
     ) else {
         return Nearest::NotJudged;
     };
-    nearest_known(
-        image, g, s, direction, e, sideband, license, control, dial_hz,
-    )
+    nearest_known(image, s, direction, e, sideband, license, control, dial_hz)
 }
 
 // The dial nearest to the present one at which data is allowed, outside the channel band.
@@ -134,7 +131,14 @@ pub fn nearest_dial(
 ) -> Result<Nearest, Refusal>
     ensures { result ≡ nearest_of r direction e image.now }
 {
-    verdict::evaluate_refusals(r, 0, direction, e, image)?;
+    let call = Call {
+        record: r,
+        kind: 0,
+        direction,
+        edges: e,
+        image,
+    };
+    verdict::evaluate_refusals(&call)?;
     let s = station::situation_of(r);
     if s.policy != Policy::Rules {
         return Ok(Nearest::NotJudged);

@@ -27,22 +27,28 @@ returns-then-ne c =
     dial_free a.r a.direction a.e a.image.now (sym c.evaluate_refusals.ensures ∙ c.in_ok-evaluate_refusals.was)
     (λ p. other (ap (λ (s : Situation). s.policy) c.situation_of-s.ensures ∙ p))
 
+pub of-requires : goal.of-requires
+of-requires c =
+    let a = c.args in
+    let ok = sym c.evaluate_refusals.ensures ∙ c.in_ok-evaluate_refusals.was in
+    let read : c.situation_of-s.result.policy ≡ Rules = search rules in
+    let held : (situation_of a.r).policy ≡ Rules = sym (ap (λ (s : Situation). s.policy) c.situation_of-s.ensures) ∙ read in
+    rules_whole a.r (beside_valid 0 a.direction) a.image.now (edge_tests a.e) ok held
+
 pub nearest_in-requires : goal.nearest_in-requires
 nearest_in-requires c =
     let a = c.args in
     let ok = sym c.evaluate_refusals.ensures ∙ c.in_ok-evaluate_refusals.was in
     let read : c.situation_of-s.result.policy ≡ Rules = search rules in
-    let held : (situation_of a.r).policy ≡ Rules = sym (ap (λ (s : Situation). s.policy) c.situation_of-s.ensures) ∙ read in (
-      rules_whole a.r (beside_valid 0 a.direction) a.image.now (edge_tests a.e) ok held,
-      (read, dial_unrefused a.r a.direction a.e a.image.now ok held),
-    )
+    let held : (situation_of a.r).policy ≡ Rules = sym (ap (λ (s : Situation). s.policy) c.situation_of-s.ensures) ∙ read in
+    (read, rw c.of.ensures (dial_unrefused a.r a.direction a.e a.image.now ok held))
 
 pub returns : goal.returns
 returns c =
     let a = c.args in
     let table = table_of a.image.now in
     ap Ok
-    (c.nearest_in.ensures
+    (rw c.of.ensures at c.nearest_in.ensures
     ∙ ap (λ (s : Situation). nearest_in table s c.from.result c.edges_read.result) c.situation_of-s.ensures
     ∙ ap (λ (d : Direction). nearest_in table (situation_of a.r) d c.edges_read.result) c.from.ensures
     ∙ ap (nearest_in table (situation_of a.r) (direction_of a.direction)) c.edges_read.ensures)
