@@ -129,12 +129,12 @@ pub fn figures(alloc: Global, bytes: &[u8]) -> Result<Vec<f64>, AllocError> {
 }
 
 // The cases of an input: a count in two bytes, and so many cases behind it. Each is read, and then answered with its number. Where one is
-// malformed it ends.
+// malformed, as it is read or, with None, as it is answered, the cases end.
 pub fn cases<'a, W, C, R, A>(out: &mut W, input: &'a [u8], read: R, answer: A) -> io::Result<()>
 where
     W: Write,
     R: Fn(&mut Cursor<'a>) -> Option<C>,
-    A: Fn(&mut W, u16, C) -> io::Result<()>,
+    A: Fn(&mut W, u16, C) -> io::Result<Option<()>>,
     requires reads { R.IsAlwaysCallable read }
     requires answers { A.IsAlwaysCallable answer }
 {
@@ -143,7 +143,9 @@ where
         let Some(case) = read(&mut input) else {
             return Ok(());
         };
-        answer(out, k, case)?;
+        let Some(()) = answer(out, k, case)? else {
+            return Ok(());
+        };
     }
     Ok(())
 }

@@ -3,11 +3,16 @@
 // malformed. It uses codes, airtime and lines.
 #![tactic(auto)]
 
+ghost use Rattle.std.specs.Prelude.{◌≤◌, IfSome};
+
 use lines::Cursor;
 use std::alloc::{AllocError, Global};
 use std::io;
 use std::io::Write;
 use std::num::{NonZeroU64, NonZeroUsize};
+
+// One record more than a run may have.
+const ROOM: usize = 65537;
 
 // What a total holds before the call.
 const FILL: u64 = 0xa0a0_a0a0_a0a0_a0a0;
@@ -49,7 +54,7 @@ impl Rule {
             first: input.u64()?,
             step: input.u64()?,
             alike: NonZeroU64::new(u64::from(input.u32()?))?,
-            bands: NonZeroUsize::new(input.small()?)?,
+            bands: NonZeroUsize::new(input.small().filter(|n| *n <= 256)?)?,
             factor: input.u16()?,
         })
     }
@@ -75,6 +80,13 @@ impl Rule {
     }
 }
 
+// How long a run is.
+fn length(input: &mut Cursor<'_>) -> Option<usize>
+    ensures { IfSome result (λ n. n ≤ 65537) }
+{
+    input.size().filter(|n| *n <= ROOM)
+}
+
 #[derive(Clone, Copy)]
 struct Case<'a> {
     runs: Runs<'a>,
@@ -84,10 +96,10 @@ struct Case<'a> {
 impl<'a> Case<'a> {
     fn read(input: &mut Cursor<'a>) -> Option<Self> {
         let form = input.u8()?;
-        let starts = input.size()?;
-        let bands = input.size()?;
-        let seconds = input.size()?;
-        let lent = input.size()?;
+        let starts = length(input)?;
+        let bands = length(input)?;
+        let seconds = length(input)?;
+        let lent = length(input)?;
         let runs = match form {
             0 => Runs::Listed {
                 starts: input.bytes(8 * starts)?,
@@ -169,7 +181,7 @@ fn main(rt: HostRuntime) -> io::Result<()> {
         &mut out,
         &input,
         Case::read,
-        |out, k, case| answer(alloc, out, k, case),
+        |out, k, case| answer(alloc, out, k, case).map(Some),
     )?;
     out.flush()
 }

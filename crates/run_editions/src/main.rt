@@ -9,13 +9,20 @@ use std::alloc::Global;
 use std::io;
 use std::io::Write;
 
-// What the lent bytes hold before.
+// The most bytes lent, and what they hold before.
+const ROOM: usize = 65600;
+
 const FILL: u8 = 0xa5;
 
-// A call, with what it is given.
+// The most figures and rules that are given.
+const FIGURES: usize = 6144;
+
+const RULES: usize = 4096;
+
+// A call, with the bytes of what it is given: for a writer, or an image.
 #[derive(Clone, Copy)]
 enum Call<'a> {
-    Write(Given<'a>),
+    Write(&'a [u8]),
     Raise(&'a [u8]),
     Lower(&'a [u8]),
 }
@@ -74,9 +81,9 @@ impl<'a> Given<'a> {
     fn read(input: &mut Cursor<'a>) -> Option<Self> {
         let fields = fields(input)?;
         let counts = counts(input)?;
-        let figures = input.small()?;
+        let figures = input.small().filter(|n| *n <= FIGURES)?;
         let codes = input.small()?;
-        let rules = input.small()?;
+        let rules = input.small().filter(|n| *n <= RULES)?;
         Some(Given {
             fields,
             counts,
@@ -90,11 +97,11 @@ impl<'a> Given<'a> {
 impl<'a> Case<'a> {
     fn read(input: &mut Cursor<'a>) -> Option<Self> {
         let call = input.u8()?;
-        let room = input.size()?;
+        let room = input.size().filter(|n| *n <= ROOM)?;
         let size = input.size()?;
         let body = input.bytes(size)?;
         let call = match call {
-            0 => Call::Write(Given::read(&mut Cursor::new(body))?),
+            0 => Call::Write(body),
             1 => Call::Raise(body),
             _ => Call::Lower(body),
         };
@@ -102,11 +109,15 @@ impl<'a> Case<'a> {
     }
 }
 
-fn answer(alloc: Global, out: &mut impl Write, k: u16, case: Case<'_>) -> io::Result<()> {
+// The line of a case, which ends behind its number where what is given for a writer is malformed.
+fn answer(alloc: Global, out: &mut impl Write, k: u16, case: Case<'_>) -> io::Result<Option<()>> {
     let mut lent = vec![in alloc; FILL; case.room]?;
     write!(out, "{k}")?;
     let a = match case.call {
-        Call::Write(g) => {
+        Call::Write(body) => {
+            let Some(g) = Given::read(&mut Cursor::new(body)) else {
+                return Ok(None);
+            };
             let figures = lines::figures(alloc, g.figures)?;
             let rules = lines::words(alloc, g.rules)?;
             writer::write(g.fields, &g.counts, &figures, g.codes, &rules, &mut lent)
@@ -114,7 +125,7 @@ fn answer(alloc: Global, out: &mut impl Write, k: u16, case: Case<'_>) -> io::Re
         Call::Raise(image) => convert::raise(image, &mut lent),
         Call::Lower(image) => convert::lower(image, &mut lent),
     };
-    told::told(out, a, &lent)
+    told::told(out, a, &lent).map(Some)
 }
 
 fn main(rt: HostRuntime) -> io::Result<()> {

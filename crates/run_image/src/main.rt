@@ -1,7 +1,6 @@
 // A program of the gate: it builds the images that its input describes and writes what the check and the tidy question
 // answer of each, and where the table is wrong. Input and output come from tools/reference/borders.py, which says what
-// the bytes mean. It stops at input that is malformed, and says where an image has no room for a patch. It uses codes, image, tidy, fault,
-// numbers and lines.
+// the bytes mean. It stops at input that is malformed. It uses codes, image, tidy, fault, numbers and lines.
 #![tactic(auto)]
 
 use fault::Fault;
@@ -9,6 +8,9 @@ use lines::Cursor;
 use std::alloc::Global;
 use std::io;
 use std::io::Write;
+
+// The largest image of the input.
+const LARGEST: usize = 65600;
 
 // A body that is written at a place of an image, so many times, a stride apart.
 #[derive(Clone, Copy)]
@@ -22,7 +24,7 @@ struct Patch<'a> {
 impl<'a> Patch<'a> {
     fn read(input: &mut Cursor<'a>) -> Option<Self> {
         let place = input.size()?;
-        let size = input.small()?;
+        let size = input.small().filter(|n| 1 <= *n && *n <= 64)?;
         let times = input.u16()?;
         let stride = input.size()?;
         let body = input.bytes(size)?;
@@ -57,7 +59,7 @@ struct Case<'a> {
 
 impl<'a> Case<'a> {
     fn read(input: &mut Cursor<'a>) -> Option<Self> {
-        let length = input.size()?;
+        let length = input.size().filter(|n| *n <= LARGEST)?;
         let count = input.u16()?;
         let patches = *input;
         for _ in 0..count {
@@ -79,13 +81,13 @@ impl<'a> Case<'a> {
     }
 }
 
-// The line of a case: what the check answers; 0 or 1 of the tidy question, or 100 and the refusal; and the place of the refusal, with a record's
-// table and index.
-fn answer(alloc: Global, out: &mut impl Write, k: u16, case: Case<'_>) -> io::Result<()> {
+// The line of a case whose patches have room: what the check answers; 0 or 1 of the tidy question, or 100 and the refusal; and the place of the
+// refusal, with a record's table and index.
+fn answer(alloc: Global, out: &mut impl Write, k: u16, case: Case<'_>) -> io::Result<Option<()>> {
     let mut image = vec![in alloc; 0; case.length]?;
-    if case.put(&mut image).is_none() {
-        return writeln!(out, "{k} has no room for a patch");
-    }
+    let Some(()) = case.put(&mut image) else {
+        return Ok(None);
+    };
     let check = numbers::refusal_number(image::check(&image));
     let tidy = match tidy::is_tidy(&image) {
         Ok(tidy) => tidy as u16,
@@ -100,7 +102,7 @@ fn answer(alloc: Global, out: &mut impl Write, k: u16, case: Case<'_>) -> io::Re
     if let Some(Fault::InRecord(table, index)) = fault {
         write!(out, " {table} {index}")?;
     }
-    writeln!(out)
+    writeln!(out).map(Some)
 }
 
 fn main(rt: HostRuntime) -> io::Result<()> {

@@ -53,6 +53,11 @@ fn answer(out: &mut impl Write, k: u16, c: Case<'_>) -> io::Result<()> {
 fn main(rt: HostRuntime) -> io::Result<()> {
     let input = lines::input(&rt, 65536)?;
     let mut out = lines::output(&rt)?;
-    lines::cases(&mut out, &input, Case::read, answer)?;
+    lines::cases(
+        &mut out,
+        &input,
+        Case::read,
+        |out, k, case| answer(out, k, case).map(Some),
+    )?;
     out.flush()
 }

@@ -13,12 +13,19 @@ use std::alloc::Global;
 use std::io;
 use std::io::{Read, Write};
 
-// The most figures of a ladder, and the most bytes lent for rows and for a text.
+// The largest image with its cases, and the most cases before an image.
+const LARGEST: u32 = 163840;
+
+const CASES: u64 = 1000000;
+
+// The most figures of a ladder, the most bytes lent for rows and for a text, and the most rows that are told.
 const FIGURES: usize = 1280;
 
 const LENT: usize = 4096;
 
 const ROOM: usize = 24;
+
+const ROWS: u32 = 1000;
 
 // What lent bytes hold before.
 const FILL: u8 = 0xa5;
@@ -225,7 +232,7 @@ fn dials_case(input: &mut Cursor<'_>, image: &[u8]) -> Option<bool> {
     let rows = room.get_mut(..lent)?;
     let a = pamuklid::pamuklid_safe_dials_2(record, direction, signal, image, rows);
     let refusal = input.u8()?;
-    let count = input.u32()?;
+    let count = input.u32().filter(|n| *n <= ROWS)?;
     let wanted = input.bytes(36 * count as usize)?;
     Some(refusal == a.refusal && (count == a.count && rows_agree(rows, wanted)))
 }
@@ -251,12 +258,11 @@ fn fault_case(input: &mut Cursor<'_>, image: &[u8]) -> Option<bool> {
 }
 
 // One of the three texts of a figure.
-fn text_of(which: u8, hz: f64, text: &mut [u8]) -> Option<FlatText> {
+fn text_of(which: u8, hz: f64, text: &mut [u8]) -> FlatText {
     match which {
-        0 => Some(pamuklid::pamuklid_text_at(hz, text)),
-        1 => Some(pamuklid::pamuklid_text_khz(hz, text)),
-        2 => Some(pamuklid::pamuklid_text_hertz(hz, text)),
-        _ => None,
+        0 => pamuklid::pamuklid_text_at(hz, text),
+        1 => pamuklid::pamuklid_text_khz(hz, text),
+        _ => pamuklid::pamuklid_text_hertz(hz, text),
     }
 }
 
@@ -266,7 +272,7 @@ fn text_case(input: &mut Cursor<'_>) -> Option<bool> {
     let lent = input.u8()? as usize;
     let mut room = [FILL; ROOM];
     let text = room.get_mut(..lent)?;
-    let a = text_of(which, hz, text)?;
+    let a = text_of(which, hz, text);
     let refusal = input.u8()?;
     let length = input.u8()?;
     let wanted = input.bytes(length as usize)?;
@@ -344,7 +350,10 @@ fn pages(
         return Ok(false);
     };
     for k in 0..count {
-        let Some(size) = next_number(alloc, from)? else {
+        if CASES < tally.cases {
+            return Ok(false);
+        }
+        let Some(size) = next_number(alloc, from)?.filter(|n| *n <= LARGEST) else {
             return Ok(false);
         };
         let bytes = lines::read(alloc, from, u64::from(size))?;

@@ -8,24 +8,38 @@ use std::alloc::Global;
 use std::io;
 use std::io::Write;
 
-// What the lent bytes hold before.
+// The most bytes lent, and what they hold before.
+const ROOM: usize = 2048;
+
 const FILL: u8 = 0xa5;
 
-// An image, and the bytes of the questions on it: a class, and how many bytes are lent.
+// An image, how many questions there are on it, and where they begin.
 #[derive(Clone, Copy)]
 struct Case<'a> {
     image: &'a [u8],
-    questions: &'a [u8],
+    count: u16,
+    questions: Cursor<'a>,
 }
 
 impl<'a> Case<'a> {
+    // Where the input ends before the last question, the answer says so.
     fn read(input: &mut Cursor<'a>) -> Option<Self> {
         let size = input.size()?;
         let image = input.bytes(size)?;
-        let count = input.small()?;
-        let questions = input.bytes(3 * count)?;
-        Some(Case { image, questions })
+        let count = input.u16()?;
+        let questions = *input;
+        let _ = input.bytes(3 * count as usize);
+        Some(Case {
+            image,
+            count,
+            questions,
+        })
     }
+}
+
+// A question: a class, and how many bytes are lent.
+fn question(input: &mut Cursor<'_>) -> Option<(u8, usize)> {
+    Some((input.u8()?, input.small().filter(|n| *n <= ROOM)?))
 }
 
 // The lines of a question: the answer, and every byte lent, a row to a line; what is left of them on the last.
@@ -51,14 +65,16 @@ fn asked(
 }
 
 // The questions on an image, in their order.
-fn answer(alloc: Global, out: &mut impl Write, i: u16, case: Case<'_>) -> io::Result<()> {
-    let (questions, _) = case.questions.as_chunks::<3>();
-    for (k, [class, low, high]) in questions.iter().enumerate() {
+fn answer(alloc: Global, out: &mut impl Write, i: u16, case: Case<'_>) -> io::Result<Option<()>> {
+    let mut questions = case.questions;
+    for k in 0..case.count {
         write!(out, "{i}.{k}")?;
-        let lent = u16::from_le_bytes([*low, *high]);
-        asked(alloc, out, case.image, *class, lent as usize)?;
+        let Some((class, lent)) = question(&mut questions) else {
+            return Ok(None);
+        };
+        asked(alloc, out, case.image, class, lent)?;
     }
-    Ok(())
+    Ok(Some(()))
 }
 
 fn main(rt: HostRuntime) -> io::Result<()> {

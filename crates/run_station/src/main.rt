@@ -25,7 +25,7 @@ impl Case {
             station,
             direction: own[0],
             kind: own[1],
-            image: input.u8()?,
+            image: input.u8().filter(|n| *n <= 1)?,
         })
     }
 }
@@ -88,6 +88,11 @@ fn answer(out: &mut impl Write, k: u16, case: Case) -> io::Result<()> {
 fn main(rt: HostRuntime) -> io::Result<()> {
     let input = lines::input(&rt, 163840)?;
     let mut out = lines::output(&rt)?;
-    lines::cases(&mut out, &input, Case::read, answer)?;
+    lines::cases(
+        &mut out,
+        &input,
+        Case::read,
+        |out, k, case| answer(out, k, case).map(Some),
+    )?;
     out.flush()
 }

@@ -9,7 +9,9 @@ use std::alloc::Global;
 use std::io;
 use std::io::Write;
 
-// What the lent bytes hold before.
+// The most bytes lent, and what they hold before.
+const ROOM: u8 = 24;
+
 const FILL: u8 = 0xa5;
 
 // One of the three texts of a figure.
@@ -41,7 +43,7 @@ impl Case {
     fn read(input: &mut Cursor<'_>) -> Option<Self> {
         Some(Case {
             text: input.u8()?.into(),
-            lent: input.u8()?,
+            lent: input.u8().filter(|n| *n <= ROOM)?,
             hz: input.f64()?,
         })
     }
@@ -79,7 +81,7 @@ fn main(rt: HostRuntime) -> io::Result<()> {
         &mut out,
         &input,
         Case::read,
-        |out, k, case| answer(alloc, out, k, case),
+        |out, k, case| answer(alloc, out, k, case).map(Some),
     )?;
     out.flush()
 }

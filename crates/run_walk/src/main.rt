@@ -1,5 +1,5 @@
 // A program of the gate: it makes the calls that its input describes, of walks and swaps, and writes the answer and the state of each.
-// Input and output come from tools/reference/walk.py, which says what the bytes mean. It stops at input that is malformed. It uses codes,
+// Input and output come from tools/reference/walk.py, which says what the bytes mean. What is not in its input reads as nought. It uses codes,
 // profile, occupancy, station, decision, numbers, ceiling, walk, walk_step, asked and lines.
 #![tactic(auto)]
 
@@ -13,6 +13,29 @@ use walk::{WalkAnswer, WalkState};
 use walk_step::StepAnswer;
 
 // ---- the input
+
+// The most figures of the rungs.
+const FIGURES: usize = 1040;
+
+// What is read where the input has no more. Eight bytes for each figure.
+static NOUGHTS: [u8; 8320] = [0; 8320];
+
+// A part of the input: so many bytes at a place, where they lie in it whole.
+fn part<'a>(input: Cursor<'a>, place: usize, size: usize) -> Option<&'a [u8]> {
+    input.at(place)?.bytes(size)
+}
+
+// The same, or noughts; None only where those are fewer.
+fn part_or_noughts<'a>(input: Cursor<'a>, place: usize, size: usize) -> Option<&'a [u8]> {
+    part(input, place, size).or(NOUGHTS.get(..size))
+}
+
+// An image: its length, and its bytes.
+fn image<'a>(input: Cursor<'a>, place: usize) -> Option<&'a [u8]> {
+    let mut image = input.at(place)?;
+    let size = image.small()?;
+    image.bytes(size)
+}
 
 // A call of the input.
 #[derive(Clone, Copy)]
@@ -43,35 +66,29 @@ struct Case<'a> {
     call: Call<'a>,
 }
 
-fn state(mut input: Cursor<'_>) -> Option<WalkState> {
+fn state(input: Cursor<'_>, place: usize) -> Option<WalkState> {
+    let mut state = Cursor::new(part_or_noughts(input, place, 39)?);
     Some(WalkState {
-        occupied: asked::edges(&mut input)?,
-        place: input.u32()?,
-        image: input.u8()?,
-        waiting: input.u8()?,
-        walking: input.u8()?,
+        occupied: asked::edges(&mut state)?,
+        place: state.u32()?,
+        image: state.u8()?,
+        waiting: state.u8()?,
+        walking: state.u8()?,
     })
 }
 
-// An image: its length, and its bytes.
-fn image<'a>(mut input: Cursor<'a>) -> Option<&'a [u8]> {
-    let size = input.small()?;
-    input.bytes(size)
-}
-
 impl<'a> Step<'a> {
-    // The lent part has two edges, and where the figures of the rungs and the floor bytes begin and how many they are.
-    fn read(
-        mut station: Cursor<'a>,
-        mut lent: Cursor<'a>,
-        image_0: Cursor<'a>,
-        image_1: Cursor<'a>,
-    ) -> Option<Self> {
+    // From the places of its parts. The lent one has two edges, and where the figures of the rungs and the floor bytes begin and how many they
+    // are; more figures than there may be are none.
+    fn read(input: Cursor<'a>, places: &mut Cursor<'_>) -> Option<Self> {
+        let mut station = Cursor::new(part_or_noughts(input, places.small()?, 41)?);
+        let mut lent = Cursor::new(part_or_noughts(input, places.small()?, 72)?);
         let (station, own) = asked::record::<1>(&mut station)?;
         let ordinary = asked::edges(&mut lent)?;
         let floor = asked::edges(&mut lent)?;
         let rungs_at = lent.small()?;
-        let rungs = lent.small()?;
+        let count = lent.small()?;
+        let rungs = if FIGURES < count { 0 } else { count };
         let floors_at = lent.small()?;
         let floors = lent.small()?;
         Some(Step {
@@ -79,35 +96,30 @@ impl<'a> Step<'a> {
             direction: own[0],
             ordinary,
             floor,
-            image_0: image(image_0)?,
-            image_1: image(image_1)?,
-            rungs: lent.at(rungs_at)?.bytes(8 * rungs)?,
-            floors: lent.at(floors_at)?.bytes(floors)?,
+            image_0: image(input, places.small()?).unwrap_or(&[]),
+            image_1: image(input, places.small()?).unwrap_or(&[]),
+            rungs: part_or_noughts(input, rungs_at, 8 * rungs)?,
+            floors: part(input, floors_at, floors).unwrap_or(&[]),
         })
     }
 }
 
-// The part of an input whose place is next.
-fn part<'a>(input: &mut Cursor<'a>) -> Option<Cursor<'a>> {
-    let place = input.small()?;
-    input.at(place)
-}
-
 impl<'a> Case<'a> {
     fn read(input: &mut Cursor<'a>) -> Option<Self> {
-        let call = input.u8()?;
-        let given = input.u8()?;
-        let own = part(input)?;
-        let station = part(input)?;
-        let lent = part(input)?;
-        let image_0 = part(input)?;
-        let image_1 = part(input)?;
-        let own = if given == 0 { None } else { Some(state(own)?) };
+        let mut case = Cursor::new(input.bytes(12).or(NOUGHTS.get(..12))?);
+        let call = case.u8()?;
+        let given = case.u8()?;
+        let place = case.small()?;
+        let own = if given == 0 {
+            None
+        } else {
+            Some(state(*input, place)?)
+        };
         let call = match call {
             0 => Call::First,
             1 => Call::Swap,
             2 => Call::Open,
-            _ => Call::Step(Step::read(station, lent, image_0, image_1)?),
+            _ => Call::Step(Step::read(*input, &mut case)?),
         };
         Some(Case { own, call })
     }
