@@ -1,10 +1,9 @@
 // What an operator is told of a lawful data transmission: power limits (97.313) and the voluntary band plan. It uses
-// profile, layout, table, find, decision, part97 and findings.
+// profile, layout, whole, table, find, decision, part97 and findings.
 #![tactic(auto)]
 
 ghost use Rattle.std.specs.Prelude.{◌≡◌};
-ghost use Rattle.layout.specs.Layout.{count_of, general_of, power};
-ghost use Rattle.layout.specs.Form.{Whole};
+ghost use Rattle.layout.specs.Layout.{count_of, power};
 ghost use Rattle.table.specs.Table.{Table, table_of};
 ghost use Rattle.part97.specs.Part97.{exceeds, noted, note_at, notes_up_to, any_note, wants_plan, plan_says, guidance_of, plan_warns, advised};
 

@@ -1,10 +1,8 @@
-// Data from an automatically controlled station (97.221). It uses codes, profile, layout, table, find, decision,
+// Data from an automatically controlled station (97.221). It uses codes, profile, layout, whole, table, find, decision,
 // part97, findings and automatic_97_221.
 #![tactic(auto)]
 
 ghost use Rattle.std.specs.Prelude.{◌≡◌, ◌&&◌, not};
-ghost use Rattle.layout.specs.Form.{Whole};
-ghost use Rattle.layout.specs.Layout.{general_of};
 ghost use Rattle.table.specs.Table.{Table, table_of};
 ghost use Rattle.automatic_97_221.specs.Automatic.{responds};
 ghost use Rattle.part97.specs.Part97.{draft_inside, automatic_elsewhere, automatic_data};

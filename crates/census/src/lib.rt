@@ -2,11 +2,8 @@
 // entry, decision, verdict, barred and numbers; its definitions use table too, and its laws profile, layout, part97 and judged.
 #![tactic(auto)]
 
-ghost use Rattle.std.specs.Prelude.{◌≡◌, ◌+◌, ◌-◌, ◌<◌, ◌≤◌, pos, ◌+ℤ◌, unsigned_abs};
-ghost use Rattle.std.specs.Float.{binary64};
-ghost use Rattle.std.specs.Float.Ieee.{of_int};
+ghost use Rattle.std.specs.Prelude.{◌≡◌, ◌-◌, ◌<◌, ◌≤◌, unsigned_abs};
 ghost use Rattle.codes.specs.Refusal.{refusal_of};
-ghost use Rattle.verdict.specs.Verdict.{evaluate_tests};
 ghost use Rattle.census.specs.Census.{farthest, most, undialled, dial_at, dials_of, code_on, counts_of, counted, stretch_tests, census_tests, census_of};
 ghost use Rattle.census.specs.Lifted.{lift, no_stretch, far_of, marked};
 

@@ -1,11 +1,10 @@
 // Data off 60 m: inside a data segment (97.305(c)), no wider than its limit (97.307(f)), under the operator's privileges
-// (97.301) and, for automatic control, 97.221. It uses codes, profile, layout, table, find, decision, part97, findings,
+// (97.301) and, for automatic control, 97.221. It uses codes, profile, layout, whole, table, find, decision, part97, findings,
 // privileges_97_301, automatic_data_97_221 and overshoot_97_305.
 #![tactic(auto)]
 
 ghost use Rattle.std.specs.Prelude.{◌≡◌};
-ghost use Rattle.layout.specs.Layout.{general_of, segments};
-ghost use Rattle.layout.specs.Form.{Whole};
+ghost use Rattle.layout.specs.Layout.{segments};
 ghost use Rattle.table.specs.Table.{table_of};
 ghost use Rattle.find.specs.Question.{first_in};
 ghost use Rattle.find.specs.declared.Question.TheVariants.{Holds};

@@ -4,7 +4,7 @@
 
 ghost use Rattle.std.specs.Prelude.{◌≡◌, ◌^◌, ◌<◌, ◌≤◌};
 ghost use Rattle.std.specs.Float.Ieee.Nearest.{closest};
-ghost use Rattle.decimal.specs.Decimal.{decimal_of, sign_of, half_up, round_of, decimal_rounded};
+ghost use Rattle.decimal.specs.Decimal.{half_up, round_of, decimal_rounded};
 ghost use Rattle.decimal.specs.Within.{Within};
 ghost use Rattle.decimal.specs.Laws.{Parted};
 

@@ -1,7 +1,7 @@
 // The distance of a dial from the rows of a finished dial list. A public call. It uses figures, codes and rows.
 #![tactic(auto)]
 
-ghost use Rattle.std.specs.Prelude.{◌≡◌, ◌+◌, ◌*◌, ◌≤◌, length};
+ghost use Rattle.std.specs.Prelude.{◌≡◌, ◌*◌, ◌≤◌, length};
 ghost use Rattle.distance.specs.Distance.{is_outside, distance_to, counts, nearer_of, considered_of, least_up_to, distance_of};
 
 use codes::Refusal;

@@ -1,11 +1,10 @@
 // Where a table is wrong: the general block, or the first table and record, that the check's refusal meets. A public call.
-// It uses codes, scan, layout, coded, table, find and image.
+// It uses codes, scan, layout, whole, coded, table, find and image.
 #![tactic(auto)]
 
 ghost use Rattle.std.specs.Prelude.{◌≡◌, false, ◌<◌};
 ghost use Rattle.scan.specs.First.{first};
 ghost use Rattle.layout.specs.Layout.{segments, count_of};
-ghost use Rattle.layout.specs.Form.{Whole};
 ghost use Rattle.table.specs.Table.{table_of};
 ghost use Rattle.find.specs.Question.{homeless_at};
 ghost use Rattle.fault.specs.Fault.{in_table, first_of, record_where, absent_part, miscoded_place, unsound_place, wrong_at, short_in, fault_at, fault_of};

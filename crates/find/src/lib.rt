@@ -1,10 +1,9 @@
 // One scan for every table: the first record that a question fits. The question is a value, so that the loop is proved
-// once. It uses figures, profile, layout, coded, table and scan.
+// once. It uses figures, profile, layout, whole, coded, table and scan.
 #![tactic(auto)]
 
-ghost use Rattle.std.specs.Prelude.{◌≡◌, ℕ, ◌+◌, ◌*◌, ◌≤◌, ◌<◌, length, false};
-ghost use Rattle.scan.specs.First.{first, some, on_found};
-ghost use Rattle.layout.specs.Layout.{record_at};
+ghost use Rattle.std.specs.Prelude.{◌≡◌, ◌+◌, ◌*◌, ◌≤◌, ◌<◌, length};
+ghost use Rattle.scan.specs.First.{first};
 ghost use Rattle.table.specs.Table.{table_of};
 ghost use Rattle.find.specs.Question.{sound_bits, sound_record, no_limit, asks, asks_at, first_in, some_in, pick_in, home_question, homeless_of};
 

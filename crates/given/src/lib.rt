@@ -2,7 +2,7 @@
 // Nothing is written here. It uses codes, scan, layout, image and byte_writes; its definitions use table.
 #![tactic(auto)]
 
-ghost use Rattle.std.specs.Prelude.{◌≡◌, ◌+◌, ◌*◌, ◌≤◌, ◌<◌, length};
+ghost use Rattle.std.specs.Prelude.{◌≡◌, ◌+◌, ◌≤◌, ◌<◌, length};
 ghost use Rattle.codes.specs.Refusal.{refusal_of};
 ghost use Rattle.given.specs.Given.{Runs, runs, figure_bits, count_from, before_from, record_from, watts_from, general_from, table_with};
 ghost use Rattle.given.specs.Tests.{neither_edition, overfull_from, runs_wrong, given_tests, Held};

@@ -1,11 +1,9 @@
 // The judgement of a case under an accepted table: the band (97.301), bands closed to automatic control, 60 m, and the kind
-// of emission; and the decision from what was found. It uses codes, layout, table, find, decision, part97, findings, advice_97_313,
+// of emission; and the decision from what was found. It uses codes, layout, whole, table, find, decision, part97, findings, advice_97_313,
 // data_97_305, other_97_305 and sixty_97_303.
 #![tactic(auto)]
 
 ghost use Rattle.std.specs.Prelude.{◌≡◌};
-ghost use Rattle.layout.specs.Form.{Whole};
-ghost use Rattle.layout.specs.Layout.{general_of};
 ghost use Rattle.table.specs.Table.{table_of};
 ghost use Rattle.part97.specs.Part97.{off_sixty, judge_on_band, judge_in_band, touching, judge};
 ghost use Rattle.part97.specs.Finding.{draft_at, concluded};

@@ -2,7 +2,7 @@
 // Every offset and size of the image stands here. It uses codes and scan.
 #![tactic(auto)]
 
-ghost use Rattle.std.specs.Prelude.{◌≡◌, ◌+◌, ◌*◌, ◌≤◌, ◌<◌, length};
+ghost use Rattle.std.specs.Prelude.{◌≡◌, ◌+◌, ◌≤◌, ◌<◌, length};
 ghost use Rattle.codes.specs.Refusal.{refusal_of};
 ghost use Rattle.layout.specs.Bytes.{byte_at, u16_at, u32_at, u64_at};
 ghost use Rattle.layout.specs.Layout.{record_at, lists_of, rules_of, edition_of, watts_at, general_of, count_of, records_before, tables_from, start_of};

@@ -3,7 +3,7 @@
 #![tactic(auto)]
 
 ghost use Rattle.std.specs.Prelude.{◌≡◌};
-ghost use Rattle.nearest_rows.specs.Over.{point_of, far_of, before, better_of, considered_of, nearest_over};
+ghost use Rattle.nearest_rows.specs.Over.{point_of, far_of, before, better_of, considered_of};
 
 use distance::Here;
 use rows::SafeDial;

@@ -2,12 +2,10 @@
 // whole numbers alone, three at a time. It uses codes, figures, decimal and digit_groups; its laws use byte_writes.
 #![tactic(auto)]
 
-ghost use Rattle.std.specs.Prelude.{◌≡◌, ◌+◌, ◌≤◌, ◌<◌, ◌^◌, length};
+ghost use Rattle.std.specs.Prelude.{◌≡◌, ◌+◌, ◌≤◌, ◌<◌, length};
 ghost use Rattle.std.proofs.lemmas.List.Edits.{sets};
-ghost use Rattle.std.specs.Float.{binary64};
-ghost use Rattle.std.specs.Float.Ieee.{mul};
-ghost use Rattle.decimal.specs.Within.{Within, ten};
-ghost use Rattle.number_texts.specs.Text.{digits, digit_count, sign_text, point_text, written, text_of, near_whole, khz_places, sized};
+ghost use Rattle.decimal.specs.Within.{Within};
+ghost use Rattle.number_texts.specs.Text.{digits, digit_count, sign_text, point_text, written, text_of, near_whole, sized};
 ghost use Rattle.number_texts.specs.Text.{at_text, khz_text, hertz_text, Texted};
 ghost use Rattle.number_texts.specs.Laws.{Room, group_set, first_set, point_length, Shown};
 

@@ -6,8 +6,6 @@ ghost use Rattle.std.specs.Prelude.{◌≡◌, eqb, ◌<◌, ◌%◌, ◌^◌};
 ghost use Rattle.decimal.specs.Within.{Within};
 ghost use Rattle.eighths.specs.Grid.{in_eighths};
 ghost use Rattle.figures.specs.Figure.{figure_of};
-ghost use Rattle.layout.specs.Form.{Whole};
-ghost use Rattle.layout.specs.Layout.{general_of};
 ghost use Rattle.table.specs.Table.{table_of};
 ghost use Rattle.on_grid.specs.Within.{figure_met, record_met, block_met, unmet_in, figures_met, range_met, edges_met, margins_met};
 

@@ -1,10 +1,8 @@
 // CW, test emissions and keying with no audio, off 60 m: wherever the operator's privileges allow that emission (97.305(a),
-// (b)). It uses codes, profile, layout, decision, part97, findings and privileges_97_301.
+// (b)). It uses codes, profile, layout, whole, decision, part97, findings and privileges_97_301.
 #![tactic(auto)]
 
 ghost use Rattle.std.specs.Prelude.{◌≡◌};
-ghost use Rattle.layout.specs.Form.{Whole};
-ghost use Rattle.layout.specs.Layout.{general_of};
 ghost use Rattle.table.specs.Table.{table_of};
 ghost use Rattle.part97.specs.Part97.{other_rule, emitted, keyed};
 ghost use Rattle.part97.specs.Finding.{concluded};

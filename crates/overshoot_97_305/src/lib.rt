@@ -1,10 +1,9 @@
 // How far data lies outside a data segment (97.305(c)): the nearest segment, and the overshoot. It uses figures, profile,
-// layout, table, decision and part97.
+// layout, whole, table, decision and part97.
 #![tactic(auto)]
 
 ghost use Rattle.std.specs.Prelude.{◌≡◌};
 ghost use Rattle.layout.specs.Layout.{count_of, segments};
-ghost use Rattle.layout.specs.Form.{Whole};
 ghost use Rattle.table.specs.Table.{table_of};
 ghost use Rattle.part97.specs.Part97.{below, above, reach, overshoot_by, overshoot_of, nearer_by, considered, nearest_up_to};
 

@@ -1,13 +1,12 @@
 // A short way through refusals 5 to 10, 12 and 13: whether every record is plainly right, in one visit, and then whether every
 // segment lies in a band. A plain figure has its sign clear and bits of at most those of 2^40, so that figures compare as their
 // bits do. A table that is not plain may be right all the same; the image check then asks test by test. It uses codes, scan,
-// layout and coded; its laws use figures, bit_order, profile, table and find.
+// layout, whole and coded; its laws use figures, bit_order, profile, table and find.
 #![tactic(auto)]
 
 ghost use Rattle.std.specs.Prelude.{◌+◌, ◌*◌, ◌≤◌, ◌<◌, ◌≡◌, ℕ, Bool, false, length};
 ghost use Rattle.scan.specs.First.{first, some, is_at};
 ghost use Rattle.layout.specs.Layout.{record_at, count_of};
-ghost use Rattle.layout.specs.Form.{Whole};
 ghost use Rattle.table.specs.Table.{table_of};
 ghost use Rattle.find.specs.Question.{homeless_of};
 ghost use Rattle.plain.specs.Plain.{sized_of, long_of, limited_of, plain_of, rough_from, is_rough};

@@ -1,9 +1,8 @@
 // The operator's privileges (97.301, 97.307(f)(9)): what the first privilege of the class that holds a signal says of an
-// emission, and whether one holds a range. It uses codes, profile, layout, table, find and part97.
+// emission, and whether one holds a range. It uses codes, profile, layout, whole, table, find and part97.
 #![tactic(auto)]
 
 ghost use Rattle.std.specs.Prelude.{◌≡◌};
-ghost use Rattle.layout.specs.Form.{Whole};
 ghost use Rattle.table.specs.Table.{table_of};
 ghost use Rattle.part97.specs.Part97.{privileged_of, some_privilege};
 

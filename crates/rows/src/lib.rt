@@ -2,7 +2,7 @@
 // It uses figures, profile, layout and byte_writes; its laws use lists and order.
 #![tactic(auto)]
 
-ghost use Rattle.std.specs.Prelude.{◌≡◌, ◌+◌, ◌*◌, ◌-◌, ◌≤◌, ◌<◌, length, take, drop};
+ghost use Rattle.std.specs.Prelude.{◌≡◌, ◌+◌, ◌*◌, ◌≤◌, length};
 ghost use Rattle.std.proofs.lemmas.List.Edits.{sets};
 ghost use Rattle.rows.specs.Rows.{figures_of, encode_row, low_at, row_at};
 ghost use Rattle.rows.specs.Held.{follows_at, place_at, insert_at, row_of, offer_at};

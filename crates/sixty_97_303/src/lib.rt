@@ -1,12 +1,11 @@
 // The 60 m band: its discrete channels, its segment, and the emissions allowed there (97.303(h)(3), 97.305(c),
-// 97.307(f)(14), 97.313(i)). It uses figures, codes, profile, layout, table, find, decision, part97, advice_97_313,
+// 97.307(f)(14), 97.313(i)). It uses figures, codes, profile, layout, whole, table, find, decision, part97, advice_97_313,
 // findings and privileges_97_301; its definitions use scan.
 #![tactic(auto)]
 
 ghost use Rattle.std.specs.Prelude.{◌≡◌};
 ghost use Rattle.scan.specs.First.{on_found};
-ghost use Rattle.layout.specs.Form.{Whole};
-ghost use Rattle.layout.specs.Layout.{general_of, segments};
+ghost use Rattle.layout.specs.Layout.{segments};
 ghost use Rattle.table.specs.Table.{Table, table_of};
 ghost use Rattle.part97.specs.Finding.{concluded};
 ghost use Rattle.find.specs.Question.{first_in};

@@ -2,7 +2,7 @@
 // profile, occupancy, layout and whole; its clauses use scan.
 #![tactic(auto)]
 
-ghost use Rattle.std.specs.Prelude.{◌≡◌, ◌+◌, ◌*◌, ◌≤◌, ◌<◌, ℕ, Bool, length};
+ghost use Rattle.std.specs.Prelude.{◌≡◌, ◌<◌, ℕ, Bool};
 ghost use Rattle.scan.specs.First.{first, some, on_found};
 ghost use Rattle.layout.specs.Layout.{count_of};
 ghost use Rattle.table.specs.Table.{count_in, record_in};

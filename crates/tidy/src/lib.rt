@@ -1,11 +1,10 @@
-// The tidy question on an image. A public call. It uses codes, scan, layout, table, find and image.
+// The tidy question on an image. A public call. It uses codes, scan, layout, whole, table, find and image.
 #![tactic(auto)]
 
 ghost use Rattle.std.specs.Prelude.{◌≡◌, ◌<◌, ◌≤◌, ◌+◌, ◌*◌, length};
 ghost use Rattle.scan.specs.First.{some};
 ghost use Rattle.layout.specs.Layout.{record_at};
 ghost use Rattle.find.specs.Question.{asks};
-ghost use Rattle.layout.specs.Form.{Whole};
 ghost use Rattle.table.specs.Table.{table_of};
 ghost use Rattle.tidy.specs.Tidy.{pair_question, two_share, tidy_table, tidy_of};
 
