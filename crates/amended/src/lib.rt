@@ -169,11 +169,7 @@ fn held(found: Option<usize>) -> u32
 fn found(held: u32) -> Option<usize>
     ensures { result ≡ found_from held }
 {
-    if held == 0 {
-        None
-    } else {
-        Some(held as usize - 1)
-    }
+    (held as usize).checked_sub(1)
 }
 
 // The effective image: an image, a list and a day, with the index that tells which amendments are in force.

@@ -35,11 +35,7 @@ fn envelope_so_far(w: WalkState) -> Option<Edges>
 fn rung_so_far(place: u32) -> Option<usize>
     ensures { result ≡ rung_so_far place }
 {
-    if place == 0 {
-        None
-    } else {
-        Some(place as usize - 1)
-    }
+    (place as usize).checked_sub(1)
 }
 
 // A walk's end. A swap that waited takes force.
