@@ -98,6 +98,10 @@ abbrev pub census_tests : StationRecord → ℕ → ℕ → Edges → List ℕ �
 census_tests r kind direction e l first last =
     test refusal.StationCode (not (mark_valid r.dial_known)) ∷ (evaluate_tests (undialled r) kind direction e l ++ stretch_tests first last)
 
+-- those before the stretch's
+abbrev pub front_tests : StationRecord → ℕ → ℕ → Edges → List ℕ → List Test
+front_tests r kind direction e l = test refusal.StationCode (not (mark_valid r.dial_known)) ∷ evaluate_tests (undialled r) kind direction e l
+
 abbrev pub counted : List ℕ → Census
 counted counts = record { refusal = Ok tt; counts = counts }
 

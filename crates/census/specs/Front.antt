@@ -1,10 +1,13 @@
 -- The answer by what the tests say, and what an accepted call knows of its image and its stretch.
-use Rattle.std.specs.Prelude.{◌≡◌, ℕ, not, List, [], ◌∷◌, ◌++◌, replicate, ℤ, Ok, Err}
+use Rattle.std.specs.Prelude.{◌≡◌, ℕ, not, List, [], ◌∷◌, ◌++◌, replicate, ℤ, FitsSigned, Result, Ok, Err}
+use Rattle.std.specs.Result.{result_and}
+use Rattle.std.specs.Int.{w64}
+use Rattle.std.proofs.lemmas.Int.{to_z-of_z}
 use Rattle.codes.specs.declared.Refusal.TheVariants as refusal
 use Rattle.codes.specs.declared.Refusal.{Refusal}
 use Rattle.codes.specs.Refusal.{Checked, test, refusal_of}
 use Rattle.std.proofs.Math.Path.{sym}
-use Rattle.std.proofs.Common.{ap, ◌∙◌}
+use Rattle.std.proofs.Common.{ap, ◌∙◌, to_z, of_z}
 use Rattle.codes.specs.Read.{kind_of, direction_of}
 use Rattle.codes.specs.Laws.{refusal_both}
 use Rattle.codes.specs.declared.Policy.TheVariants.{Rules}
@@ -20,7 +23,8 @@ use Rattle.entry.specs.Entry.{edges_read}
 use Rattle.verdict.specs.Verdict.{beside_valid, edge_tests, evaluate_tests}
 use Rattle.verdict.specs.Laws.{rules_whole}
 use Rattle.census.specs.declared.Census.{Census}
-use Rattle.census.specs.Census.{dial_at, dials_of, code_at, counts_of, dialled, undialled, stretch_tests, census_tests, counted, unless_refused, census_of}
+use Rattle.census.specs.Census.{dial_at, dials_of, code_at, counts_of, dialled, undialled, stretch_tests, front_tests, census_tests, counted, unless_refused, census_of}
+use Rattle.census.specs.Lifted.{in_turn_holds, unless, stretch_of, and_unless}
 
 -- the counts of a call
 abbrev pub counts_in : StationRecord → ℕ → ℕ → Edges → List ℕ → ℤ → ℕ → List ℕ
@@ -54,6 +58,20 @@ module _ (r : StationRecord) (kind direction : ℕ) (e : Edges) (l : List ℕ) (
       → counted (counts_in r kind direction e l first (dials_of first last)) ≡ census_of r kind direction e l first last
   unfolding census_of by
   census_counted q = sym (ap by q)
+
+-- what the front and the stretch, whose ends are read back from their bits, say one after the other
+pub census_said :
+    (r : StationRecord) (kind direction : ℕ) (e : Edges) (l : List ℕ) (first last : ℤ) → FitsSigned w64 first → FitsSigned w64 last
+    → (front : Checked) (dials both : Result ℕ Refusal)
+    → front ≡ refusal_of (front_tests r kind direction e l) → dials ≡ stretch_of (to_z w64 (of_z w64 first)) (to_z w64 (of_z w64 last))
+    → both ≡ result_and front dials → both ≡ unless (refusal_of (census_tests r kind direction e l first last)) (dials_of first last)
+census_said r kind direction e l first last f g front dials both p q b =
+    let tests = front_tests r kind direction e l in
+    b ∙ ap (λ (x : Checked). result_and x dials) p
+    ∙ ap (λ (x : Result ℕ Refusal). result_and (refusal_of tests) x)
+    (q ∙ ap (λ (z : ℤ). stretch_of z (to_z w64 (of_z w64 last))) (to_z-of_z w64 first f) ∙ ap (λ (z : ℤ). stretch_of first z) (to_z-of_z w64 last g))
+    ∙ and_unless (refusal_of tests) (refusal_of (stretch_tests first last)) (dials_of first last)
+    ∙ sym (ap (λ (x : Checked). unless x (dials_of first last)) (in_turn_holds tests (stretch_tests first last)))
 
 module _ (r : StationRecord) (kind direction : ℕ) (e : Edges) (l : List ℕ) (first last : ℤ)
     (accepted : refusal_of (census_tests r kind direction e l first last) ≡ Ok tt) where

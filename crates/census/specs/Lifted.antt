@@ -1,8 +1,9 @@
 -- Signed numbers of 64 bits counted from the least, and the refusals of a stretch by these; tests taken in turn.
 use Rattle.std.specs.Prelude.{◌≡◌, ℕ, zero, suc, ◌+◌, ◌-◌, ◌<◌, ◌≤◌, Bool, true, false, cond, not, ◌||◌, ltb, List, [], ◌∷◌, ◌++◌, ℤ, pos, negsuc, ◌+ℤ◌, FitsSigned, ◌==◌, nat_le, nat_lt, unsigned_abs, refl}
-use Rattle.std.specs.Prelude.{Ok, Err}
+use Rattle.std.specs.Prelude.{Result, Ok, Err}
 use Rattle.std.specs.Result.{result_and}
 use Rattle.codes.specs.declared.Refusal.TheVariants as refusal
+use Rattle.codes.specs.declared.Refusal.{Refusal}
 use Rattle.codes.specs.Refusal.{Checked, Test, test, refusal_of}
 use Rattle.std.proofs.Common.{sym, ap, ◌∙◌, arith, lt-ltb, le-ltb, le-leb, ne_eqb, ltb-false}
 use Rattle.std.proofs.Math.Decide.{dec_le, dec_lt}
@@ -52,13 +53,25 @@ in_turn_holds (t ∷ ts) b = go t.fails (in_turn_holds ts b)
     go true next = refl
     go false next = next
 
-pub in_turns : (a b c : List Test) (x y z : Checked) → x ≡ refusal_of a → y ≡ refusal_of b → z ≡ refusal_of c
-    → in_turn x (in_turn y z) ≡ refusal_of (a ++ (b ++ c))
-in_turns a b c x y z p q r =
-    ap (λ (t : Checked). in_turn t (in_turn y z)) p
-    ∙ ap (λ (t : Checked). in_turn (refusal_of a) (in_turn t z)) q
-    ∙ ap (λ (t : Checked). in_turn (refusal_of a) (in_turn (refusal_of b) t)) r
-    ∙ sym (in_turn_holds a (b ++ c) ∙ ap (in_turn (refusal_of a)) (in_turn_holds b c))
+-- how many there are, unless refused
+abbrev pub unless : Checked → ℕ → Result ℕ Refusal
+unless (Ok tt) n = Ok n
+unless (Err e) n = Err e
+
+abbrev pub stretch_of : ℤ → ℤ → Result ℕ Refusal
+stretch_of first last = unless (refusal_of (stretch_tests first last)) (dials_of first last)
+
+pub and_unless : (x y : Checked) (n : ℕ) → result_and x (unless y n) ≡ unless (in_turn x y) n
+and_unless (Ok tt) y n = refl
+and_unless (Err e) y n = refl
+
+pub unless_err : (x : Checked) (n : ℕ) (e : Refusal) → unless x n ≡ Err e → x ≡ Err e
+unless_err (Ok tt) n e q = cc
+unless_err (Err f) n e q = cc
+
+pub unless_ok : (x : Checked) (n k : ℕ) → unless x n ≡ Ok k → (x ≡ Ok tt) × (k ≡ n)
+unless_ok (Ok tt) n k q = (refl, cc)
+unless_ok (Err f) n k q = (cc, cc)
 
 abbrev pub marked : ℕ → Checked
 marked known = refusal_of (test refusal.StationCode (not (mark_valid known)) ∷ [])

@@ -4,8 +4,8 @@
 
 ghost use Rattle.std.specs.Prelude.{◌≡◌, ◌-◌, ◌<◌, ◌≤◌, unsigned_abs};
 ghost use Rattle.codes.specs.Refusal.{refusal_of};
-ghost use Rattle.census.specs.Census.{farthest, most, undialled, dial_at, dials_of, code_on, counts_of, counted, stretch_tests, census_tests, census_of};
-ghost use Rattle.census.specs.Lifted.{lift, no_stretch, far_of, marked};
+ghost use Rattle.census.specs.Census.{farthest, most, undialled, dial_at, code_on, counts_of, counted, front_tests, census_of};
+ghost use Rattle.census.specs.Lifted.{lift, no_stretch, far_of, marked, stretch_of};
 
 use codes::{Checked, Refusal};
 use occupancy::Edges;
@@ -52,9 +52,9 @@ fn far(at: u64) -> bool
     at < NOUGHT - FARTHEST || at > NOUGHT + FARTHEST
 }
 
-// Refusals 33 and 34.
-fn stretch_refusals(first: i64, last: i64) -> Checked
-    ensures { result ≡ refusal_of (stretch_tests first last) }
+// How many dials a stretch has, or refusals 33 and 34.
+fn stretch(first: i64, last: i64) -> Result<u64, Refusal>
+    ensures { result ≡ stretch_of first last }
 {
     let from = lifted(first);
     let to = lifted(last);
@@ -64,7 +64,7 @@ fn stretch_refusals(first: i64, last: i64) -> Checked
     if far(from) || far(to) {
         return Err(Refusal::FarDial);
     }
-    Ok(())
+    Ok((to - from) + 1)
 }
 
 // The presence byte of the record's own dial is a code, whatever the dial.
@@ -87,18 +87,16 @@ fn without_dial(r: StationRecord) -> StationRecord
     x
 }
 
-// The refusals in order: 20 to 22, 1 to 14, 15, 33, 34.
-fn census_refusals(q: &Call, first: i64, last: i64) -> Checked
-    ensures { result ≡ refusal_of (census_tests q.now.record q.now.kind q.now.direction q.now.edges q.now.image.now first last) }
+// The refusals before those of the stretch, in order: 20 to 22, 1 to 14, 15.
+fn front_refusals(q: &Call) -> Checked
+    ensures { result ≡ refusal_of (front_tests q.now.record q.now.kind q.now.direction q.now.edges q.now.image.now) }
 {
     let mark = mark_refusal(q.record.dial_known);
     let own = Call {
         record: without_dial(q.record),
         ..*q
     };
-    let front = verdict::evaluate_refusals(&own);
-    let stretch = stretch_refusals(first, last);
-    mark.and(front.and(stretch))
+    mark.and(verdict::evaluate_refusals(&own))
 }
 
 // Dial k of a stretch.
@@ -128,14 +126,6 @@ fn place(code: u8) -> usize
     ensures { result ≡ code - 1 }
 {
     code as usize - 1
-}
-
-// The dials of a stretch that is accepted.
-fn dials(first: i64, last: i64) -> u64
-    requires { refusal_of (stretch_tests first last) ≡ Ok tt }
-    ensures { result ≡ dials_of first last }
-{
-    (lifted(last) - lifted(first)) + 1
 }
 
 // Every dial of a stretch judged, and its code counted.
@@ -176,12 +166,14 @@ pub fn census_of(
         edges: e,
         image,
     };
-    match census_refusals(&q, first, last) {
+    let front = front_refusals(&q);
+    let dials = stretch(first, last);
+    match front.and(dials) {
         Err(n) => Census {
             refusal: Err(n),
             counts: [0u32; 25],
         },
-        Ok(()) => {
+        Ok(count) => {
             let station = Station::of(station::situation_of(r), image);
             let x = Transmission {
                 station: &station,
@@ -190,7 +182,6 @@ pub fn census_of(
                 direction: direction.into(),
                 edges: entry::edges_read(e),
             };
-            let count = dials(first, last);
             count_all(&x, first, count)
         }
     }
