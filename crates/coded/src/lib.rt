@@ -90,6 +90,7 @@ fn coded_plan(r: Record) -> bool
 }
 
 // A record of table t.
+#[tactic(auto, unfolding(crate::specs::Coded::coded_of))]
 pub fn coded_record(t: usize, r: Record) -> bool
     ensures { result ≡ coded_of t r }
 {
@@ -147,6 +148,7 @@ fn coded_plans(g: General, areas: u16, avoid: u16) -> bool
 }
 
 // The general block, with the counts of the channels' table and the two plan tables.
+#[tactic(auto, unfolding(crate::specs::Coded::coded_general))]
 pub fn coded_general(g: General, count: u16, areas: u16, avoid: u16) -> bool
     ensures { result ≡ coded_general g count areas avoid }
 {

@@ -37,12 +37,14 @@ pub enum Question {
     ChannelOverlaps(f64, Range),
 }
 
+#[tactic(auto, unfolding(crate::specs::Question::sound_bits))]
 pub fn sound_bits(bits: u64) -> bool
     ensures { result ≡ sound_bits bits }
 {
     figures::in_size(figures::LIMIT, figures::figure(bits)) && bits != 0x8000_0000_0000_0000
 }
 
+#[tactic(auto, unfolding(crate::specs::Question::sound_record))]
 fn sound_record(r: Record) -> bool
     ensures { result ≡ sound_record r }
 {
@@ -59,6 +61,7 @@ fn no_limit(own: Option<f64>) -> bool
 }
 
 // Whether a question fits a record.
+#[tactic(auto, unfolding(crate::specs::Question::asks))]
 pub fn answers(q: Question, r: Record) -> bool
     ensures { result ≡ asks q r }
 {
@@ -83,24 +86,28 @@ pub fn answers(q: Question, r: Record) -> bool
 
 // The questions that judging asks most, each with a loop of its own that reads no more than it needs.
 // The high end comes first: in a table in order it tells the most records apart.
+#[tactic(auto, unfolding(crate::specs::Question::asks))]
 fn holding(r: Record, a: Range) -> bool
     ensures { result ≡ asks (Question.Holds a) r }
 {
     a.high_hz <= figures::figure(r.high) && figures::figure(r.low) <= a.low_hz
 }
 
+#[tactic(auto, unfolding(crate::specs::Question::asks))]
 fn class_holding(r: Record, n: u8, a: Range) -> bool
     ensures { result ≡ asks (Question.ClassHolds n a) r }
 {
     r.class == n && holding(r, a)
 }
 
+#[tactic(auto, unfolding(crate::specs::Question::asks))]
 fn overlapping(r: Record, a: Range) -> bool
     ensures { result ≡ asks (Question.Overlaps a) r }
 {
     table::span_of(r).overlaps(a)
 }
 
+#[tactic(auto, unfolding(crate::specs::Question::asks))]
 fn of_band(r: Record, n: u8) -> bool
     ensures { result ≡ asks (Question.OfBand n) r }
 {
@@ -151,6 +158,7 @@ pub fn pick_class(s: &Image, t: usize, n: u8, a: Range) -> Option<(usize, Record
 }
 
 // Its index alone.
+#[tactic(auto, unfolding(crate::specs::Question::pick_in))]
 pub fn find_in(s: &Image, t: usize, q: Question) -> Option<usize>
     requires { t < 9 }
     ensures { result ≡ first_in (table_of s.now) t q }

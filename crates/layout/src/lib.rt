@@ -101,6 +101,7 @@ pub fn byte_at(s: &[u8], at: usize) -> u8
     s[at]
 }
 
+#[tactic(auto, unfolding(crate::specs::Bytes::u16_at))]
 pub fn u16_at(s: &[u8], at: usize) -> u16
     requires { at + 2 ≤ length s.now }
     ensures { result ≡ u16_at s.now at }
@@ -108,6 +109,7 @@ pub fn u16_at(s: &[u8], at: usize) -> u16
     byte_at(s, at) as u16 + byte_at(s, at + 1) as u16 * 256
 }
 
+#[tactic(auto, unfolding(crate::specs::Bytes::u32_at))]
 pub fn u32_at(s: &[u8], at: usize) -> u32
     requires { at + 4 ≤ length s.now }
     ensures { result ≡ u32_at s.now at }
@@ -115,6 +117,7 @@ pub fn u32_at(s: &[u8], at: usize) -> u32
     u16_at(s, at) as u32 + u16_at(s, at + 2) as u32 * 65536
 }
 
+#[tactic(auto, unfolding(crate::specs::Bytes::u64_at))]
 pub fn u64_at(s: &[u8], at: usize) -> u64
     requires { at + 8 ≤ length s.now }
     ensures { result ≡ u64_at s.now at }
@@ -123,6 +126,7 @@ pub fn u64_at(s: &[u8], at: usize) -> u64
 }
 
 // Single fields of the record that begins at a place.
+#[tactic(auto, unfolding(crate::specs::Layout::record_at))]
 pub fn low_at(s: &[u8], at: usize) -> u64
     requires { at + 32 ≤ length s.now }
     ensures { result ≡ (record_at s.now at).low }
@@ -130,6 +134,7 @@ pub fn low_at(s: &[u8], at: usize) -> u64
     u64_at(s, at)
 }
 
+#[tactic(auto, unfolding(crate::specs::Layout::record_at))]
 pub fn high_at(s: &[u8], at: usize) -> u64
     requires { at + 32 ≤ length s.now }
     ensures { result ≡ (record_at s.now at).high }
@@ -137,6 +142,7 @@ pub fn high_at(s: &[u8], at: usize) -> u64
     u64_at(s, at + 8)
 }
 
+#[tactic(auto, unfolding(crate::specs::Layout::record_at))]
 pub fn band_at(s: &[u8], at: usize) -> u8
     requires { at + 32 ≤ length s.now }
     ensures { result ≡ (record_at s.now at).band }
@@ -144,6 +150,7 @@ pub fn band_at(s: &[u8], at: usize) -> u8
     byte_at(s, at + 24)
 }
 
+#[tactic(auto, unfolding(crate::specs::Layout::record_at))]
 pub fn class_at(s: &[u8], at: usize) -> u8
     requires { at + 32 ≤ length s.now }
     ensures { result ≡ (record_at s.now at).class }
@@ -151,6 +158,7 @@ pub fn class_at(s: &[u8], at: usize) -> u8
     byte_at(s, at + 25)
 }
 
+#[tactic(auto, unfolding(crate::specs::Layout::record_at))]
 pub fn figure_at(s: &[u8], at: usize) -> u64
     requires { at + 32 ≤ length s.now }
     ensures { result ≡ (record_at s.now at).figure }
@@ -159,6 +167,7 @@ pub fn figure_at(s: &[u8], at: usize) -> u64
 }
 
 // Band, class, emission bits and flags as one number.
+#[tactic(auto, using(crate::specs::Laws::lists_read))]
 pub fn lists_at(s: &[u8], at: usize) -> u32
     requires { at + 32 ≤ length s.now }
     ensures { result ≡ lists_of (record_at s.now at) }
@@ -167,6 +176,7 @@ pub fn lists_at(s: &[u8], at: usize) -> u32
 }
 
 // The two rules as one number.
+#[tactic(auto, using(crate::specs::Laws::rules_read))]
 pub fn rules_at(s: &[u8], at: usize) -> u32
     requires { at + 32 ≤ length s.now }
     ensures { result ≡ rules_of (record_at s.now at) }
@@ -174,6 +184,7 @@ pub fn rules_at(s: &[u8], at: usize) -> u32
     u32_at(s, at + 28)
 }
 
+#[tactic(auto, unfolding(crate::specs::Layout::record_at))]
 pub fn record_at(s: &[u8], at: usize) -> Record
     requires { at + 32 ≤ length s.now }
     ensures { result ≡ record_at s.now at }
@@ -201,6 +212,7 @@ pub fn edition_of(s: &[u8]) -> u16
 }
 
 // A figure that edition 2 has at a place, or the fixed one of edition 1.
+#[tactic(auto, unfolding(crate::specs::Layout::watts_at))]
 fn watts_at(s: &[u8], at: usize, fixed: u64) -> u64
     requires { (28 ≤ length s.now) × (at + 8 ≤ length s.now) }
     ensures { result ≡ watts_at s.now at fixed }
@@ -211,6 +223,7 @@ fn watts_at(s: &[u8], at: usize, fixed: u64) -> u64
     fixed
 }
 
+#[tactic(auto, unfolding(crate::specs::Layout::general_of))]
 pub fn general_of(s: &[u8]) -> General
     requires { 92 ≤ length s.now }
     ensures { result ≡ general_of s.now }
@@ -250,6 +263,7 @@ pub fn count_of(s: &[u8], t: usize) -> u16
 }
 
 // The records of the tables before t.
+#[tactic(auto, unfolding(crate::specs::Layout::records_before))]
 pub fn records_before(s: &[u8], t: usize) -> u32
     requires { (28 ≤ length s.now) × (t ≤ 9) }
     ensures { result ≡ records_before s.now t }
@@ -262,6 +276,7 @@ pub fn records_before(s: &[u8], t: usize) -> u32
 }
 
 // Where the tables begin: after the general block, which is longer in edition 2.
+#[tactic(auto, unfolding(crate::specs::Layout::tables_from))]
 pub fn tables_from(s: &[u8]) -> usize
     requires { 28 ≤ length s.now }
     ensures { result ≡ tables_from s.now }
@@ -273,6 +288,7 @@ pub fn tables_from(s: &[u8]) -> usize
 }
 
 // Where table t begins.
+#[tactic(auto, using(crate::specs::Laws::tables_near))]
 pub fn start_of(s: &[u8], t: usize) -> usize
     requires { (28 ≤ length s.now) × (t ≤ 9) }
     ensures { result ≡ start_of s.now t }

@@ -130,22 +130,22 @@ fn put_text(out: &mut [u8], negative: bool, whole: u64, width: usize, places: us
     put_point(out, sign + width, places, part);
 }
 
-// The text of a figure with so many places, in the bytes lent. Its length comes first.
+// The text of a figure with so many places, in the bytes lent. Its length comes first. Its divisions are by a constant.
 #[tactic(auto, using(crate::specs::Laws::ten_power, crate::specs::Laws::text_length, crate::specs::Laws::text_short, crate::specs::Laws::shown_few, crate::specs::Laws::sign_short, crate::specs::Laws::count_most))]
-fn show(out: &mut [u8], x: f64, places: usize) -> Result<u32, Refusal>
-    requires { Within 43 x × (places ≤ 3) }
-    ensures { Shown (text_of places x) out.old out.new result }
+fn show<const PLACES: usize>(out: &mut [u8], x: f64) -> Result<u32, Refusal>
+    requires { Within 43 x × (PLACES ≤ 3) }
+    ensures { Shown (text_of PLACES x) out.old out.new result }
 {
-    let units = 10u64.pow(places as u32);
+    let units = 10u64.pow(PLACES as u32);
     let d = decimal::rounded(x, units);
     let whole = d.count / units;
     let part = d.count % units;
     let width = digit_count(whole);
-    let length = sign_length(d.negative) + width + point_length(places);
+    let length = sign_length(d.negative) + width + point_length(PLACES);
     if out.len() < length {
         return Err(Refusal::Text);
     }
-    put_text(out, d.negative, whole, width, places, part);
+    put_text(out, d.negative, whole, width, PLACES, part);
     Ok(length as u32)
 }
 
@@ -168,38 +168,29 @@ fn near_whole(k: f64) -> bool
     figures::abs(k - decimal::round(k)) < 1e-6
 }
 
-// The decimals of khz: none, one or three.
-#[tactic(auto, unfolding(crate::specs::Text::khz_places))]
-fn khz_places(k: f64) -> usize
-    requires { Within 43 k × Within 43 (mul binary64 k ten) }
-    ensures { result ≡ khz_places k }
-{
-    if near_whole(k) {
-        return 0;
-    }
-    if near_whole(k * 10.0) {
-        return 1;
-    }
-    3
-}
-
 // The text of a frequency in kilohertz, with three decimals.
 #[tactic(auto, using(crate::specs::Laws::texted_size, crate::specs::Laws::texted_shown, crate::specs::Laws::khz_within), unfolding(crate::specs::Text::at_text))]
 pub fn at(hz: f64, out: &mut [u8]) -> Result<u32, Refusal>
     ensures { Texted hz (at_text hz) out.old out.new result }
 {
     sized(hz)?;
-    show(out, hz / 1000.0, 3)
+    show::<3>(out, hz / 1000.0)
 }
 
 // The text of a frequency in kilohertz, with as many decimals as it needs: none, one or three.
-#[tactic(auto, using(crate::specs::Laws::texted_size, crate::specs::Laws::texted_shown, crate::specs::Laws::khz_within, crate::specs::Laws::khz_ten_within, crate::specs::Laws::places_few), unfolding(crate::specs::Text::khz_text))]
+#[tactic(auto, using(crate::specs::Laws::texted_size, crate::specs::Laws::texted_shown, crate::specs::Laws::khz_within, crate::specs::Laws::khz_ten_within), unfolding(crate::specs::Text::khz_text, crate::specs::Text::khz_places))]
 pub fn khz(hz: f64, out: &mut [u8]) -> Result<u32, Refusal>
     ensures { Texted hz (khz_text hz) out.old out.new result }
 {
     sized(hz)?;
     let k = hz / 1000.0;
-    show(out, k, khz_places(k))
+    if near_whole(k) {
+        return show::<0>(out, k);
+    }
+    if near_whole(k * 10.0) {
+        return show::<1>(out, k);
+    }
+    show::<3>(out, k)
 }
 
 // The text of a figure in whole hertz.
@@ -208,5 +199,5 @@ pub fn hertz(hz: f64, out: &mut [u8]) -> Result<u32, Refusal>
     ensures { Texted hz (hertz_text hz) out.old out.new result }
 {
     sized(hz)?;
-    show(out, hz, 0)
+    show::<0>(out, hz)
 }

@@ -246,6 +246,7 @@ pub fn is_rough(s: &Image) -> bool
 }
 
 // Whether band j holds a range, by the bits of its ends.
+#[tactic(auto, using(layout::specs::Laws::first_table), unfolding(crate::specs::Home::held_bits))]
 fn held_by(s: &Image, j: usize, low: u64, high: u64) -> bool
     requires { j < count_of s.now 0 }
     ensures { result ≡ held_bits s.now low high j }

@@ -6,6 +6,7 @@ ghost use Rattle.std.specs.Prelude.{◌≡◌, ◌<◌, ℕ, Bool};
 ghost use Rattle.scan.specs.First.{first, some};
 
 // The first of count indices that passes a test. A test that answers as p does, index by index, finds what p finds.
+#[tactic(auto, using(crate::specs::Laws::passed_step, crate::specs::Laws::found_here, crate::specs::Laws::found_none))]
 pub fn first<F: Fn(usize) -> bool>(count: usize, test: F) -> Option<usize>
     requires { (i : ℕ) → i < count → F.pre test i }
     ensures { (p : ℕ → Bool) → ((i : ℕ) (b : Bool) → i < count → F.post test i b → b ≡ p i) → result ≡ first p count }

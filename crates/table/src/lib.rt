@@ -85,6 +85,7 @@ pub struct Channels {
 }
 
 // Record i of table t.
+#[tactic(auto, using(crate::specs::Laws::read_in))]
 pub fn record_of(s: &Image, t: usize, i: usize) -> Record
     requires { (t < 9) × (i < count_of s.now t) }
     ensures { result ≡ record_in s.now t i }

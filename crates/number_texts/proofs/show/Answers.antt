@@ -5,11 +5,11 @@ use Rattle.number_texts.specs.Laws.{text_is, text_length, shown_all}
 use Rattle.number_texts.proofs.show.Goals as goal
 
 pub returns : goal.returns
-returns c =
+returns g c =
     let a = c.args in
     let u = c.pow-units.ensures in
     let d = c.rounded-d.ensures in
     shown_all _ _ _ _
-    (text_length a.x a.places _ _ u d _ _ _ c.sign_length.ensures c.digit_count-width.ensures c.point_length.ensures)
+    (text_length a.x g.row.PLACES _ _ u d _ _ _ c.sign_length.ensures c.digit_count-width.ensures c.point_length.ensures)
     c.if-out-length.false
-    (c.put_text.ensures ∙ ap (λ (t : List ℕ). sets a.out.now 0 t) (text_is a.x a.places _ _ u d))
+    (c.put_text.ensures ∙ ap (λ (t : List ℕ). sets a.out.now 0 t) (text_is a.x g.row.PLACES _ _ u d))
