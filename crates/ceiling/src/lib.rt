@@ -29,6 +29,7 @@ pub struct Climb {
 
 #[derive(Clone, Copy)]
 pub struct CeilingAnswer {
+    // Beside the rest: an answer whose refusal nobody looks at must still read Blocked.
     pub refusal: Checked,
     pub rung: Option<usize>,
     // Where a rung is blocked, the whole decision on its envelope.

@@ -23,6 +23,7 @@ const NOUGHT: u64 = 9223372036854775808;
 
 #[derive(Clone, Copy)]
 pub struct Census {
+    // Beside the counts, which are noughts then.
     pub refusal: Checked,
     // How many dials get each code, code 1 first; noughts on a refusal.
     pub counts: [u32; 25],

@@ -1,5 +1,6 @@
 // The coded terms of document 01 as enums: policy, control, licence class, sideband, kind of emission and
-// direction. A definition gives document 01's number for each case. It uses nothing.
+// direction. A definition gives document 01's number for each case; a case is read from its number by a match, which no derive gives. It
+// uses nothing.
 #![tactic(auto)]
 
 ghost use Rattle.std.specs.Prelude.{◌≡◌, ◌<◌};

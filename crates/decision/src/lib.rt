@@ -138,6 +138,7 @@ pub struct Advice {
 
 #[derive(Clone, Copy)]
 pub struct Decision {
+    // Beside the rest, and no Result around it: an answer whose refusal nobody looks at must still read Blocked.
     pub refusal: Checked,
     pub verdict: Verdict,
     pub code: Option<Code>,

@@ -15,6 +15,7 @@ use find::Question;
 use layout::General;
 use whole::Image;
 
+// Two places, neither the absence of the other.
 #[derive(Clone, Copy)]
 pub enum Fault {
     // In the general block.

@@ -33,7 +33,8 @@ pub const SEGMENT_WATTS: u64 = 0x4022_4ccc_cccc_cccd;
 // The trailer's last bytes.
 pub const LETTERS: [u8; 4] = *b"EDGE";
 
-// The tables, in their order.
+// The tables, in their order. A table is a number and no enum: the trailer counts tables by number, the definitions speak of table t, and most
+// loops go over all nine.
 pub const TABLES: usize = 9;
 
 pub const BANDS: usize = 0;
@@ -204,7 +205,7 @@ pub fn record_at(s: &[u8], at: usize) -> Record
     }
 }
 
-// What follows up to `form` is read of bytes that are long enough and not yet known to be whole; `whole::Image` has it for those that are.
+// What follows up to `form` is read of bytes that are long enough and not yet known to be whole; the crate whole has it for those that are.
 // The edition that the trailer names.
 pub fn edition_of(s: &[u8]) -> u16
     requires { 28 ≤ length s.now }
@@ -226,6 +227,7 @@ fn watts_at(s: &[u8], at: usize, fixed: u64) -> u64
     fixed
 }
 
+// Field by field, each from its own place.
 #[tactic(auto, unfolding(crate::specs::Layout::general_of))]
 pub fn general_of(s: &[u8]) -> General
     requires { 92 ≤ length s.now }

@@ -65,6 +65,7 @@ impl<'a> Cursor<'a> {
         Some(*first)
     }
 
+    // One for each width: `from_le_bytes` is no trait's.
     pub fn u16(&mut self) -> Option<u16> {
         Some(u16::from_le_bytes(self.array()?))
     }

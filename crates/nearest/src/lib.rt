@@ -22,7 +22,7 @@ use station::{Situation, StationRecord};
 use transmission::Call;
 use whole::Image;
 
-// The dial to move to, that no dial would be allowed, or that a premise fails.
+// The dial to move to, that no dial would be allowed, or that a premise fails: three answers, and no Option.
 #[derive(Clone, Copy)]
 pub enum Nearest {
     Dial(f64),

@@ -37,6 +37,7 @@ pub fn edge_number(e: Edge) -> u8
     e.into()
 }
 
+// Of a case that holds values, and of none: by a match, which no derive gives.
 pub fn overshoot_number(o: Option<Overshoot>) -> u8
     ensures { result ≡ overshoot_number o }
 {

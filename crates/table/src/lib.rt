@@ -132,7 +132,7 @@ pub fn some_of<F: Fn(Record) -> bool>(s: &Image, t: usize, test: F) -> bool
     first_of(s, t, test).is_some()
 }
 
-// A record's range.
+// Here and below what a record or the general block says is read field by field, since names and types differ. A record's range.
 pub fn span_of(r: Record) -> Range
     ensures { result ≡ span_of r }
 {

@@ -27,6 +27,7 @@ pub struct WalkState {
 // The answer of a swap and of an opening.
 #[derive(Clone, Copy)]
 pub struct WalkAnswer {
+    // Beside the state, which is the one that came.
     pub refusal: Checked,
     pub state: WalkState,
 }

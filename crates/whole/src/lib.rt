@@ -1,5 +1,5 @@
 // An image that refusals 1 to 4 let pass, with its general block read. A contract sees its bytes; that they are whole is the
-// type's own invariant. It uses layout.
+// type's own invariant. Its methods read what layout reads of bytes, each with the promise of its own part. It uses layout.
 #![tactic(auto)]
 
 ghost use Rattle.std.specs.Prelude.{◌≡◌, ◌≤◌, ◌<◌, ◌*◌, ◌+◌, length, ℕ, List};
