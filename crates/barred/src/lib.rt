@@ -54,7 +54,7 @@ pub fn in_brief(x: &Transmission) -> Brief
         Policy::NoProfile => settled(false, Code::NoRules),
         Policy::Rules => {
             let image = x.station.in_force();
-            match verdict::prepare(image, x) {
+            match verdict::ready(image, x) {
                 Ok(c) => brief_of(judge::judge_case(image, c)),
                 Err(m) => settled(true, m.code),
             }
@@ -80,7 +80,7 @@ pub fn barring(x: &Transmission) -> Option<Finding>
         Policy::NoProfile => None,
         Policy::Rules => {
             let image = x.station.in_force();
-            match verdict::prepare(image, x) {
+            match verdict::ready(image, x) {
                 Ok(c) => {
                     let f = judge::judge_case(image, c);
                     if blocks(f) { Some(f) } else { None }
@@ -100,13 +100,13 @@ pub fn answer(x: &Transmission, f: Finding) -> Decision
     match x.station.situation.policy {
         Policy::Rules => {
             let image = x.station.in_force();
-            match verdict::prepare(image, x) {
+            match verdict::ready(image, x) {
                 Ok(c) => judge::conclude(image, c, f),
                 Err(m) => verdict::unmet(image, x, m),
             }
         }
         Policy::Unset | Policy::NoProfile | Policy::Broken => {
-            verdict::unruled(x, f.verdict, f.code)
+            verdict::unruled(x.station.situation, x.dial, x.edges, f.verdict, f.code)
         }
     }
 }

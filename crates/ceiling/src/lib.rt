@@ -48,11 +48,17 @@ impl CeilingAnswer {
     }
 }
 
+// A station that sends data, and in which direction.
+#[derive(Drop)]
+pub struct Sender<'a> {
+    pub station: Station<'a>,
+    pub direction: Direction,
+}
+
 // A call for a ceiling that is not refused, as it is read.
 #[derive(Drop)]
 pub struct Ladder<'a> {
-    pub station: Station<'a>,
-    pub direction: Direction,
+    pub sender: Sender<'a>,
     pub rungs: Rungs<'a>,
     pub ghost marked: { length rungs.floors.now ≡ length rungs.figures.now / 4 },
     pub ghost few: { length rungs.figures.now / 4 ≤ 256 },
@@ -68,38 +74,10 @@ fn joined(envelope: Option<Edges>, more: Edges) -> Edges
     }
 }
 
-impl<'a> Ladder<'a> {
+impl<'a> Sender<'a> {
     ghost use Rattle.barred.specs.Barring.{led_on};
     ghost use Rattle.verdict.specs.Verdict.{decision_on};
-    ghost use Rattle.ceiling.specs.Ladder.{judge_on, lead_on, bursts_on};
-
-    // The call, read.
-    #[tactic(auto, using(rungs::specs::Laws::rungs_marked, rungs::specs::Laws::rungs_few))]
-    pub fn of(q: &Call<'a>) -> Self
-        requires { refusal_of (ceiling_tests q.now.record q.now.direction q.now.rungs.ordinary q.now.rungs.floor q.now.image.now
-            q.now.rungs.figures.now q.now.rungs.floors.now) ≡ Ok tt }
-        ensures judges { judge_on result ≡ judge_by (table_of q.now.image.now) (situation_of q.now.record) (direction_of q.now.direction) }
-        ensures bursts { bursts_on result.rungs ≡ burst_of (edges_read q.now.rungs.ordinary) (edges_read q.now.rungs.floor)
-            q.now.rungs.figures.now q.now.rungs.floors.now }
-        ensures counts { length result.rungs.figures.now ≡ length q.now.rungs.figures.now }
-    {
-        Ladder {
-            station: Station::of(station::situation_of(q.record), q.image),
-            direction: q.direction.into(),
-            rungs: Rungs {
-                ordinary: entry::edges_read(q.rungs.ordinary),
-                floor: entry::edges_read(q.rungs.floor),
-                ..q.rungs
-            },
-        }
-    }
-
-    // How many rungs there are.
-    pub fn count(&self) -> usize
-        ensures { result ≡ length self.now.rungs.figures.now / 4 }
-    {
-        self.rungs.figures.len() / 4
-    }
+    ghost use Rattle.ceiling.specs.Ladder.{judge_on, lead_on};
 
     // The transmission of an envelope: data.
     #[tactic(auto, unfolding(crate::specs::Ceiling::judge_by, crate::specs::Ceiling::lead_by))]
@@ -134,20 +112,54 @@ impl<'a> Ladder<'a> {
     {
         barred::answer(&self.sent(envelope), f)
     }
+}
+
+impl<'a> Ladder<'a> {
+    ghost use Rattle.ceiling.specs.Ladder.{judge_on, bursts_on};
+
+    // The call, read.
+    #[tactic(auto, using(rungs::specs::Laws::rungs_marked, rungs::specs::Laws::rungs_few))]
+    pub fn of(q: &Call<'a>) -> Self
+        requires { refusal_of (ceiling_tests q.now.record q.now.direction q.now.rungs.ordinary q.now.rungs.floor q.now.image.now
+            q.now.rungs.figures.now q.now.rungs.floors.now) ≡ Ok tt }
+        ensures judges { judge_on result.sender ≡ judge_by (table_of q.now.image.now) (situation_of q.now.record) (direction_of q.now.direction) }
+        ensures bursts { bursts_on result.rungs ≡ burst_of (edges_read q.now.rungs.ordinary) (edges_read q.now.rungs.floor)
+            q.now.rungs.figures.now q.now.rungs.floors.now }
+        ensures counts { length result.rungs.figures.now ≡ length q.now.rungs.figures.now }
+    {
+        Ladder {
+            sender: Sender {
+                station: Station::of(station::situation_of(q.record), q.image),
+                direction: q.direction.into(),
+            },
+            rungs: Rungs {
+                ordinary: entry::edges_read(q.rungs.ordinary),
+                floor: entry::edges_read(q.rungs.floor),
+                ..q.rungs
+            },
+        }
+    }
+
+    // How many rungs there are.
+    pub fn count(&self) -> usize
+        ensures { result ≡ length self.now.rungs.figures.now / 4 }
+    {
+        self.rungs.figures.len() / 4
+    }
 
     // The climb over all rungs. It ends at the first that is blocked.
     #[tactic(auto, using(crate::specs::Laws::climb_done))]
     fn climb(&self) -> Climb
-        ensures { result ≡ climbed (judge_on self.now) (bursts_on self.now.rungs) (length self.now.rungs.figures.now / 4) }
+        ensures { result ≡ climbed (judge_on self.now.sender) (bursts_on self.now.rungs) (length self.now.rungs.figures.now / 4) }
     {
         let count = self.count();
         let mut envelope = None;
         let mut rung = None;
         for i in 0..count {
             let more = self.rungs.burst(i);
-            match self.rung_step(envelope, more) {
+            match self.sender.rung_step(envelope, more) {
                 Err((reached, f)) => {
-                    let limit = self.rung_decision(reached, f);
+                    let limit = self.sender.rung_decision(reached, f);
                     return Climb {
                         envelope: Some(reached),
                         rung,

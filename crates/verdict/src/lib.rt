@@ -13,10 +13,11 @@ use codes::{
     Checked, ControlMode, Direction, EmissionKind, LicenseClass, Policy, Refusal, Sideband,
 };
 use decision::{Code, Decision, Draft, Verdict};
+use layout::General;
 use occupancy::{Edges, Reading};
 use part97::Case;
 use profile::Range;
-use station::StationRecord;
+use station::{Situation, StationRecord};
 use transmission::{Call, Station, Transmission};
 use whole::Image;
 
@@ -64,24 +65,25 @@ pub fn signal_of(dial: Option<f64>, sideband: Option<Sideband>, audio: Range) ->
 // The facts that judging works from.
 #[tactic(auto, unfolding(crate::specs::Verdict::case_of))]
 pub fn case_of(
-    x: &Transmission,
+    s: Situation,
     control: ControlMode,
     class: LicenseClass,
     sideband: Sideband,
     dial: f64,
+    kind: EmissionKind,
+    direction: Direction,
     audio: Range,
 ) -> Case
-    ensures { result ≡ case_of x.now.station.now.situation control class sideband dial x.now.kind x.now.direction audio }
+    ensures { result ≡ case_of s control class sideband dial kind direction audio }
 {
-    let s = x.station.situation;
     let on_air = air::rf_range(dial, sideband, audio);
     let guarded = air::guarded(s.margin, on_air);
     Case {
         class,
         sideband,
-        direction: x.direction,
-        kind: x.kind,
-        automatic: automatic_97_221::applies(control, x.direction),
+        direction,
+        kind,
+        automatic: automatic_97_221::applies(control, direction),
         dial_hz: dial,
         audio,
         width: air::width(audio),
@@ -93,15 +95,21 @@ pub fn case_of(
     }
 }
 
-// The prerequisites in order: the case to judge under an image, or the first that is missing, with its rule. Not inlined it costs a ceiling a
-// tenth more instructions, and a verdict 6%.
+// The prerequisites in order: the case to judge at a dial, or the first that is missing, with its rule. Not inlined it costs a ceiling a tenth
+// more instructions, and a verdict 6%.
 #[tactic(auto, unfolding(crate::specs::Verdict::ready_of))]
 #[inline]
-pub fn prepare(image: &Image, x: &Transmission) -> Result<Case, Missing>
-    ensures { result ≡ ready_on image.now x.now }
+pub fn prepare(
+    g: General,
+    s: Situation,
+    dial: Option<f64>,
+    kind: EmissionKind,
+    direction: Direction,
+    audio: Range,
+) -> Result<Case, Missing>
+    ensures { result ≡ ready_of g s dial kind direction audio }
 {
-    let s = x.station.situation;
-    if s.itu_region != image.general.region {
+    if s.itu_region != g.region {
         return Err(Missing::new(Code::Region, decision::RULE_97_301));
     }
     let Some(control) = s.control else {
@@ -113,11 +121,20 @@ pub fn prepare(image: &Image, x: &Transmission) -> Result<Case, Missing>
     let Some(sideband) = s.sideband else {
         return Err(Missing::new(Code::NoSideband, decision::NO_RULE));
     };
-    let Some(hz) = x.dial else {
+    let Some(hz) = dial else {
         return Err(Missing::new(Code::NoDial, decision::NO_RULE));
     };
-    let audio = x.edges.range(table::reading_of(image.general));
-    Ok(case_of(x, control, class, sideband, hz, audio))
+    Ok(case_of(s, control, class, sideband, hz, kind, direction, audio))
+}
+
+// The same of a transmission, under an image.
+#[inline]
+pub fn ready(image: &Image, x: &Transmission) -> Result<Case, Missing>
+    ensures { result ≡ ready_on image.now x.now }
+{
+    let g = image.general;
+    let audio = x.edges.range(table::reading_of(g));
+    prepare(g, x.station.situation, x.dial, x.kind, x.direction, audio)
 }
 
 // Blocked under an image by what is missing.
@@ -131,11 +148,10 @@ pub fn unmet(image: &Image, x: &Transmission, m: Missing) -> Decision
 
 // Without a table, by the wider reading: the policy alone decides.
 #[tactic(auto, unfolding(crate::specs::Verdict::unruled_of))]
-pub fn unruled(x: &Transmission, verdict: Verdict, code: Code) -> Decision
-    ensures { result ≡ unruled_of x.now.station.now.situation x.now.dial x.now.edges verdict code }
+pub fn unruled(s: Situation, dial: Option<f64>, e: Edges, verdict: Verdict, code: Code) -> Decision
+    ensures { result ≡ unruled_of s dial e verdict code }
 {
-    let audio = x.edges.range(Reading::Wider);
-    let signal = signal_of(x.dial, x.station.situation.sideband, audio);
+    let signal = signal_of(dial, s.sideband, e.range(Reading::Wider));
     decision::simple(signal, verdict, code, decision::NO_RULE)
 }
 
@@ -144,17 +160,18 @@ pub fn unruled(x: &Transmission, verdict: Verdict, code: Code) -> Decision
 pub fn decide(x: &Transmission) -> Decision
     ensures { result ≡ decision_on x.now }
 {
-    match x.station.situation.policy {
-        Policy::Unset => unruled(x, Verdict::Blocked, Code::NoProfile),
-        Policy::NoProfile => unruled(x, Verdict::Legal, Code::NoRules),
+    let s = x.station.situation;
+    match s.policy {
+        Policy::Unset => unruled(s, x.dial, x.edges, Verdict::Blocked, Code::NoProfile),
+        Policy::NoProfile => unruled(s, x.dial, x.edges, Verdict::Legal, Code::NoRules),
         Policy::Rules => {
             let image = x.station.in_force();
-            match prepare(image, x) {
+            match ready(image, x) {
                 Ok(c) => judge::conclude(image, c, judge::judge_case(image, c)),
                 Err(m) => unmet(image, x, m),
             }
         }
-        Policy::Broken => unruled(x, Verdict::Blocked, Code::ProfileBroken),
+        Policy::Broken => unruled(s, x.dial, x.edges, Verdict::Blocked, Code::ProfileBroken),
     }
 }
 

@@ -98,7 +98,7 @@ fn step_none(w: WalkState) -> StepAnswer
 
 // A step of what is not refused: the rung at its place, judged once.
 fn step_by(w: WalkState, ladder: &Ladder) -> StepAnswer
-    ensures { result ≡ step_by (judge_on ladder.now) (bursts_on ladder.now.rungs) (length ladder.now.rungs.figures.now / 4) w }
+    ensures { result ≡ step_by (judge_on ladder.now.sender) (bursts_on ladder.now.rungs) (length ladder.now.rungs.figures.now / 4) w }
 {
     let count = ladder.count();
     let place = w.place as usize;
@@ -106,14 +106,14 @@ fn step_by(w: WalkState, ladder: &Ladder) -> StepAnswer
         return step_none(w);
     }
     let more = ladder.rungs.burst(place);
-    match ladder.rung_step(envelope_so_far(w), more) {
+    match ladder.sender.rung_step(envelope_so_far(w), more) {
         Err((reached, f)) => StepAnswer {
             state: ended(w),
             over: true,
             ceiling: CeilingAnswer {
                 refusal: Ok(()),
                 rung: rung_so_far(w.place),
-                limit: Some(ladder.rung_decision(reached, f)),
+                limit: Some(ladder.sender.rung_decision(reached, f)),
             },
         },
         Ok(reached) => {

@@ -9,17 +9,17 @@ returns-in-Unset c = rw c.bar_by.ensures (bar_unset _ _ _ _ _ _ _ c.in-Unset.is)
 pub returns-then-blocks : goal.returns-then-blocks
 returns-then-blocks c =
     bar_rules _ _ _ _ _ _ _ _ _ c.in_force-image.ensures c.in-Rules.is
-    (bar_met _ _ _ _ _ _ _ _ (sym c.prepare.ensures ∙ c.in-Ok.is) c.judge_case-f.ensures (sym c.blocks-in-Ok.ensures ∙ c.if-blocks.true))
+    (bar_met _ _ _ _ _ _ _ _ (sym c.ready.ensures ∙ c.in-Ok.is) c.judge_case-f.ensures (sym c.blocks-in-Ok.ensures ∙ c.if-blocks.true))
 
 pub returns-else-blocks : goal.returns-else-blocks
 returns-else-blocks c =
     bar_rules _ _ _ _ _ _ _ _ _ c.in_force-image.ensures c.in-Rules.is
-    (bar_free _ _ _ _ _ _ _ _ (sym c.prepare.ensures ∙ c.in-Ok.is) c.judge_case-f.ensures (sym c.blocks-in-Ok.ensures ∙ c.if-blocks.false))
+    (bar_free _ _ _ _ _ _ _ _ (sym c.ready.ensures ∙ c.in-Ok.is) c.judge_case-f.ensures (sym c.blocks-in-Ok.ensures ∙ c.if-blocks.false))
 
 pub returns-in-Err : goal.returns-in-Err
 returns-in-Err c =
     rw c.bar_by-in-Err.ensures
-    (bar_rules _ _ _ _ _ _ _ _ _ c.in_force-image.ensures c.in-Rules.is (bar_missing _ _ _ _ _ _ _ (sym c.prepare.ensures ∙ c.in-Err.is)))
+    (bar_rules _ _ _ _ _ _ _ _ _ c.in_force-image.ensures c.in-Rules.is (bar_missing _ _ _ _ _ _ _ (sym c.ready.ensures ∙ c.in-Err.is)))
 
 pub returns-in-Broken : goal.returns-in-Broken
 returns-in-Broken c = rw c.bar_by-in-Broken.ensures (bar_broken _ _ _ _ _ _ _ c.in-Broken.is)

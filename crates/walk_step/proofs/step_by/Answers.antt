@@ -12,7 +12,7 @@ returns-then-count-place c = rw c.step_none.ensures (rw (← c.count-count.ensur
 pub returns-in-Err : goal.returns-in-Err
 returns-in-Err c =
     let a = c.args in
-    let judge = judge_on a.ladder.now in
+    let judge = judge_on a.ladder.now.sender in
     let burst = bursts_on a.ladder.now.rungs in
     rw (← c.count-count.ensures)
     (rw c.rung_decision.ensures
@@ -24,7 +24,7 @@ returns-in-Err c =
 pub returns-then-over : goal.returns-then-over
 returns-then-over c =
     let a = c.args in
-    let judge = judge_on a.ladder.now in
+    let judge = judge_on a.ladder.now.sender in
     let burst = bursts_on a.ladder.now.rungs in
     rw (← c.count-count.ensures)
     (rw c.ended-then-over.ensures
@@ -36,7 +36,7 @@ returns-then-over c =
 pub returns-else-over : goal.returns-else-over
 returns-else-over c =
     let a = c.args in
-    let judge = judge_on a.ladder.now in
+    let judge = judge_on a.ladder.now.sender in
     let burst = bursts_on a.ladder.now.rungs in
     rw (← c.count-count.ensures)
     (rw c.goes_on.ensures

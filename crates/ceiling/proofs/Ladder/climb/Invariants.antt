@@ -4,4 +4,4 @@ use Rattle.ceiling.specs.Laws.{Free}
 use Rattle.ceiling.proofs.Ladder.climb.Given as goal
 
 abbrev pub invariant-loop-i : goal.invariant-loop-i
-invariant-loop-i l = Free (judge_on l.self) (bursts_on l.self.rungs) l.count l.i l.envelope l.rung
+invariant-loop-i l = Free (judge_on l.self.sender) (bursts_on l.self.rungs) l.count l.i l.envelope l.rung
