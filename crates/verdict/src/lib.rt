@@ -6,7 +6,7 @@ ghost use Rattle.std.specs.Prelude.{◌≡◌};
 ghost use Rattle.codes.specs.Refusal.{refusal_of};
 ghost use Rattle.decision.specs.Decision.{simple_of};
 ghost use Rattle.decision.specs.declared.Verdict.TheVariants.{Blocked};
-ghost use Rattle.verdict.specs.Verdict.{missing, air_of, signal_of, case_of, unruled_of, audio_on, ready_on, decision_on};
+ghost use Rattle.verdict.specs.Verdict.{missing, ready_of, air_of, signal_of, case_of, unruled_of, audio_on, ready_on, decision_on};
 ghost use Rattle.verdict.specs.Verdict.{beside_valid, evaluate_tests, evaluate_of, unmeasured_of};
 
 use codes::{
