@@ -4,6 +4,7 @@ use Rattle.codes.specs.declared.Refusal.TheVariants as refusal
 use Rattle.codes.specs.Refusal.{Checked, refusal_of}
 use Rattle.std.proofs.Math.Bool.{false, cond}
 use Rattle.std.proofs.Common.{true≢false, append_assoc, ◌∙◌, eq-eqb, eqb-true, length-drop, drop-drop}
+use Rattle.std.proofs.lemmas.Bool.{false≢true}
 use Rattle.std.proofs.lemmas.Bool.{not-false}
 use Rattle.std.proofs.Math.Path.{sym, ap}
 use native.Mathlib.Omega.{arith}
@@ -42,6 +43,18 @@ module _ (l : List ℕ) where
       go false true e c p = absurd (true≢false p)
       go false false e c p = (refl, refl)
 
+  pub from_early : (edition : ℕ) → early (refusal_of (form_tests l)) ≡ true → refusal_of (form_tests l) ≡ refusal_of (from_tests edition l)
+  from_early edition p = go (size_wrong l) (letters_wrong l) (edition_wrong l) (counts_wrong l) _ p
+    where
+      go :
+          (s w e c : Bool) (x : Checked) → early (formed s w e c) ≡ true
+          → formed s w e c ≡ cond s (Err refusal.ImageLength) (cond w (Err refusal.Letters) x)
+      go true w e c x p = refl
+      go false true e c x p = refl
+      go false false true c x p = absurd (false≢true p)
+      go false false false true x p = absurd (false≢true p)
+      go false false false false x p = absurd (false≢true p)
+
   module _ (edition : ℕ) (size : size_wrong l ≡ false) (lettered : letters_wrong l ≡ false) where
     abbrev tested : Bool → Bool → Bool → Checked
     tested s w e =
@@ -49,6 +62,9 @@ module _ (l : List ℕ) where
 
     past : (e : Bool) → tested (size_wrong l) (letters_wrong l) e ≡ tested false false e
     past e = ap (λ (s : Bool). tested s (letters_wrong l) e) size ∙ ap (λ (w : Bool). tested false w e) lettered
+
+    pub from_other : eqb (edition_of l) edition ≡ false → Err refusal.Edition ≡ refusal_of (from_tests edition l)
+    from_other h = sym (past (not (eqb (edition_of l) edition)) ∙ ap (λ (b : Bool). tested false false (not b)) h)
 
     pub from_same : neither_edition edition ≡ false → edition_of l ≡ edition → check_of l ≡ refusal_of (from_tests edition l)
     unfolding check_of

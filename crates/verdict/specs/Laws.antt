@@ -1,10 +1,10 @@
 -- Laws of the verdict: all prerequisites met, one missing, and what the refusals leave.
-use Rattle.std.specs.Prelude.{ℕ, Bool, true, false, not, cond, List, [], ◌∷◌, ◌++◌, ◌≡◌, refl, eqb, Float, Option, Some, Result, Ok, Err}
+use Rattle.std.specs.Prelude.{ℕ, Bool, true, false, not, cond, List, [], ◌∷◌, ◌++◌, ◌≡◌, refl, eqb, Float, Option, Some, None, Result, Ok, Err}
 use Rattle.codes.specs.declared.Refusal.TheVariants as refusal
 use Rattle.codes.specs.Refusal.{Checked, Test, test, refusal_of}
 use Rattle.std.proofs.Math.Path.{sym, ap}
 use Rattle.std.proofs.Common.{◌∙◌}
-use Rattle.scan.specs.Laws.{cond_yes}
+use Rattle.scan.specs.Laws.{cond_yes, cond_not}
 use Rattle.codes.specs.Read.{policy_of, kind_of, direction_of}
 use Rattle.codes.specs.Laws.{refusal_both, refusal_next}
 use Rattle.codes.specs.declared.Policy.TheVariants.{Unset, NoProfile as NoneApply, Rules, Broken}
@@ -28,7 +28,7 @@ use Rattle.decision.specs.declared.Verdict.TheVariants.{Blocked}
 use Rattle.part97.specs.Part97.{judge}
 use Rattle.part97.specs.declared.Case.{Case}
 use Rattle.decision.specs.Number.{no_rule, §97-301, §97-109}
-use Rattle.decision.specs.declared.Code.TheVariants.{NoControl, NoLicense, NoSideband, NoDial}
+use Rattle.decision.specs.declared.Code.TheVariants.{Region, NoControl, NoLicense, NoSideband, NoDial}
 use Rattle.verdict.specs.declared.Missing.{Missing}
 use Rattle.verdict.specs.Verdict.{missing, required, signal_of, case_of, ready_of, judged_of}
 use Rattle.verdict.specs.Verdict.{under_rules_of, decide_of, beside_valid, edge_tests, unless_refused, evaluate_of}
@@ -46,6 +46,32 @@ module _ (g : General) (s : Situation) (dial : Option Float) (kind : EmissionKin
 
   abbrev at_control : Option ControlMode → Result Case Missing
   at_control set = required set (missing NoControl §97-109) (λ control. at_license control s.license)
+
+  pub ready_region : eqb s.itu_region g.region ≡ false → Err (missing Region §97-301) ≡ ready_of g s dial kind direction audio
+  unfolding ready_of
+  ready_region e = sym (cond_not (at_control s.control) _ e)
+
+  module _ (here : eqb s.itu_region g.region ≡ true) where
+    pub ready_control : s.control ≡ None → Err (missing NoControl §97-109) ≡ ready_of g s dial kind direction audio
+    unfolding ready_of
+    ready_control c = sym (cond_yes (at_control s.control) _ here ∙ ap at_control c)
+
+    module _ (control : ControlMode) (c : s.control ≡ Some control) where
+      pub ready_license : s.license ≡ None → Err (missing NoLicense §97-301) ≡ ready_of g s dial kind direction audio
+      unfolding ready_of
+      ready_license l = sym (cond_yes (at_control s.control) _ here ∙ ap at_control c ∙ ap (at_license control) l)
+
+      module _ (class : LicenseClass) (l : s.license ≡ Some class) where
+        pub ready_sideband : s.sideband ≡ None → Err (missing NoSideband no_rule) ≡ ready_of g s dial kind direction audio
+        unfolding ready_of
+        ready_sideband b = sym (cond_yes (at_control s.control) _ here ∙ ap at_control c ∙ ap (at_license control) l ∙ ap (at_sideband control class) b)
+
+        pub ready_dial : (sideband : Sideband) → s.sideband ≡ Some sideband → dial ≡ None → Err (missing NoDial no_rule) ≡ ready_of g s dial kind direction audio
+        unfolding ready_of
+        ready_dial sideband b d =
+            sym
+            (cond_yes (at_control s.control) _ here ∙ ap at_control c ∙ ap (at_license control) l ∙ ap (at_sideband control class) b
+            ∙ ap (at_dial control class sideband) d)
 
   pub ready_met :
       eqb s.itu_region g.region ≡ true → (control : ControlMode) → s.control ≡ Some control → (class : LicenseClass) → s.license ≡ Some class
