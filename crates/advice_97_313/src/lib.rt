@@ -99,7 +99,7 @@ fn plan_warns(g: Option<Guidance>) -> bool
 
 // A lawful data transmission over a range, with what the operator should know.
 #[tactic(auto, unfolding(part97::specs::Part97::advised, part97::specs::Part97::advice_warns, part97::specs::Part97::advice_of))]
-pub fn advise(s: &Image, c: Case, r: Range, draft: Draft, code: Code, rule: u16) -> Decision
+pub fn advise(s: &Image, c: Case, r: Range, draft: Draft, code: Option<Code>, rule: u16) -> Decision
     ensures { result ≡ advised (table_of s.now) c r draft code rule }
 {
     let notes = notes_of(s, c, r);

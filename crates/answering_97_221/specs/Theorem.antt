@@ -31,7 +31,7 @@ use Rattle.decision.specs.Decision.{simple_of, finish_of, refused_of}
 use Rattle.decision.specs.declared.Draft.{Draft}
 use Rattle.decision.specs.declared.Decision.{Decision}
 use Rattle.decision.specs.declared.Verdict.TheVariants.{Blocked}
-use Rattle.decision.specs.declared.Code.TheVariants.{Permitted, AutomaticSegment, AutomaticBandwidth, AutomaticOriginate, AutomaticResponse, OutOfBand}
+use Rattle.decision.specs.Reason.{Permitted, AutomaticSegment, AutomaticBandwidth, AutomaticOriginate, AutomaticResponse, OutOfBand}
 use Rattle.decision.specs.Number.{§97-301}
 use Rattle.air.specs.Air.{wider}
 use Rattle.part97.specs.Part97.{limit_for, band_at, segment_at, draft_of, draft_inside, draft_automatic, privileged_of, under_privilege, advised}

@@ -20,7 +20,7 @@ use Rattle.find.specs.declared.Question.TheVariants.{Holds, OfBand}
 use Rattle.entry.specs.Entry.{edges_read}
 use Rattle.decision.specs.declared.Decision.{Decision}
 use Rattle.decision.specs.declared.Verdict.TheVariants.{Blocked}
-use Rattle.decision.specs.declared.Code.TheVariants.{AutomaticOriginate}
+use Rattle.decision.specs.Reason.{AutomaticOriginate}
 use Rattle.air.specs.Air.{wider}
 use Rattle.part97.specs.Part97.{limit_for, band_at, privileged_of}
 use Rattle.part97.specs.declared.Case.{Case}
@@ -85,4 +85,4 @@ pub record Answering (r : StationRecord) (e : Edges) (l : List ℕ) (dial : Floa
 -- "gets verdict code 20, automatic_originate"
 pub record Answered (d : Decision) : Type 0 where
   pub verdict : d.verdict ≡ Blocked
-  pub code : d.code ≡ Some AutomaticOriginate
+  pub code : d.code ≡ AutomaticOriginate

@@ -25,7 +25,7 @@ fn must_respond(e: Elsewhere, direction: Direction) -> bool
 }
 
 // Lawful; the advice goes by the guarded range with the margin taken off again.
-fn lawful(c: Case, p: Place, inside: Option<Range>, code: Code, rule: u16) -> Finding
+fn lawful(c: Case, p: Place, inside: Option<Range>, code: Option<Code>, rule: u16) -> Finding
     ensures { result ≡ lawful_in p.band p.segment p.own inside c.advised code rule }
 {
     findings::lawful_in(p, inside, c.advised, code, rule)
@@ -37,14 +37,14 @@ fn automatic_elsewhere(g: General, c: Case, p: Place, rule: Option<Elsewhere>) -
     ensures { (table : Table) → g ≡ table.general → concluded table c result ≡ automatic_elsewhere table c (draft_inside c p.band p.segment p.own) rule }
 {
     let Some(e) = rule else {
-        return findings::in_segment(p, Code::AutomaticOutside, g.automatic_rule);
+        return findings::in_segment(p, Some(Code::AutomaticOutside), g.automatic_rule);
     };
     if e.max_bandwidth_hz < c.width {
-        findings::in_segment(p, Code::AutomaticBandwidth, e.rule)
+        findings::in_segment(p, Some(Code::AutomaticBandwidth), e.rule)
     } else if must_respond(e, c.direction) {
-        findings::in_segment(p, Code::AutomaticOriginate, e.rule)
+        findings::in_segment(p, Some(Code::AutomaticOriginate), e.rule)
     } else {
-        lawful(c, p, None, Code::AutomaticResponse, e.rule)
+        lawful(c, p, None, Some(Code::AutomaticResponse), e.rule)
     }
 }
 
@@ -59,7 +59,7 @@ pub fn automatic_data(s: &Image, c: Case, p: Place) -> Finding
                 c,
                 p,
                 Some(table::span_of(r)),
-                Code::AutomaticSegment,
+                Some(Code::AutomaticSegment),
                 s.general.automatic_rule,
             )
         }

@@ -1,12 +1,14 @@
 -- Whether a finding blocks and its code, and that the decision from it then does and has it.
-use Rattle.std.specs.Prelude.{Bool, true, false, ◌≡◌, Option, Some, None}
+use Rattle.std.specs.Prelude.{ℕ, Bool, true, false, ◌≡◌, Option, Some, None}
 use Rattle.profile.specs.declared.Range.{Range}
 use Rattle.std.proofs.Math.Path.{refl, sym, ap}
 use Rattle.std.proofs.Common.{◌∙◌}
 use Rattle.table.specs.Table.{Table}
-use Rattle.decision.specs.Decision.{is_blocked, finish_of}
+use Rattle.decision.specs.Decision.{is_blocked, finish_of, simple_of}
 use Rattle.decision.specs.declared.Verdict.{Verdict}
+use Rattle.decision.specs.declared.Verdict.TheVariants.{Blocked}
 use Rattle.decision.specs.declared.Code.{Code}
+use Rattle.decision.specs.declared.Draft.{Draft}
 use Rattle.decision.specs.declared.Decision.{Decision}
 use Rattle.part97.specs.Part97.{warned, advice_warns, advised}
 use Rattle.part97.specs.Finding.{concluded_over, concluded}
@@ -14,8 +16,8 @@ use Rattle.part97.specs.declared.Case.{Case}
 use Rattle.part97.specs.declared.Finding.{Finding}
 use Rattle.barred.specs.declared.Brief.{Brief}
 
-abbrev pub settled_of : Bool → Code → Brief
-settled_of blocked code = record { blocked = blocked; code = Some code }
+abbrev pub settled_of : Bool → Option Code → Brief
+settled_of blocked code = record { blocked = blocked; code = code }
 
 -- a decision in brief
 abbrev pub brief_of : Decision → Brief
@@ -29,6 +31,12 @@ blocked_over verdict None = is_blocked verdict
 -- a finding in brief
 abbrev pub brief_over : Finding → Brief
 brief_over f = settled_of (blocked_over f.verdict f.over) f.code
+
+-- a decision that is known to block
+pub simply_blocked : (signal : Draft) (code : Option Code) (rule : ℕ) (d : Decision) → simple_of signal Blocked code rule ≡ d
+    → settled_of true code ≡ brief_of d
+unfolding simple_of finish_of
+simply_blocked signal code rule d e = ap brief_of e
 
 warned_free : (b : Bool) → is_blocked (warned b) ≡ false
 warned_free true = refl

@@ -28,13 +28,10 @@ fn blocks(f: Finding) -> bool
 }
 
 // One that needs no judging.
-fn settled(blocked: bool, code: Code) -> Brief
+fn settled(blocked: bool, code: Option<Code>) -> Brief
     ensures { result ≡ settled_of blocked code }
 {
-    Brief {
-        blocked,
-        code: Some(code),
-    }
+    Brief { blocked, code }
 }
 
 // A finding in brief.
@@ -50,21 +47,21 @@ pub fn in_brief(x: &Transmission) -> Brief
     ensures { result ≡ brief_of (decision_on x.now) }
 {
     match x.station.situation.policy {
-        Policy::Unset => settled(true, Code::NoProfile),
-        Policy::NoProfile => settled(false, Code::NoRules),
+        Policy::Unset => settled(true, Some(Code::NoProfile)),
+        Policy::NoProfile => settled(false, Some(Code::NoRules)),
         Policy::Rules => {
             let image = x.station.in_force();
             match verdict::ready(image, x) {
                 Ok(c) => brief_of(judge::judge_case(image, c)),
-                Err(m) => settled(true, m.code),
+                Err(m) => settled(true, Some(m.code)),
             }
         }
-        Policy::Broken => settled(true, Code::ProfileBroken),
+        Policy::Broken => settled(true, Some(Code::ProfileBroken)),
     }
 }
 
 // What blocks where nothing is judged: a policy, or a prerequisite that is missing.
-fn bar_by(code: Code, rule: u16) -> Option<Finding>
+fn bar_by(code: Option<Code>, rule: u16) -> Option<Finding>
     ensures { result ≡ bar_by code rule }
 {
     Some(findings::on_band(None, Verdict::Blocked, code, rule))
@@ -76,7 +73,7 @@ pub fn barring(x: &Transmission) -> Option<Finding>
     ensures { Barred (led_on x.now) (decision_on x.now) result }
 {
     match x.station.situation.policy {
-        Policy::Unset => bar_by(Code::NoProfile, decision::NO_RULE),
+        Policy::Unset => bar_by(Some(Code::NoProfile), decision::NO_RULE),
         Policy::NoProfile => None,
         Policy::Rules => {
             let image = x.station.in_force();
@@ -85,10 +82,10 @@ pub fn barring(x: &Transmission) -> Option<Finding>
                     let f = judge::judge_case(image, c);
                     if blocks(f) { Some(f) } else { None }
                 }
-                Err(m) => bar_by(m.code, m.rule),
+                Err(m) => bar_by(Some(m.code), m.rule),
             }
         }
-        Policy::Broken => bar_by(Code::ProfileBroken, decision::NO_RULE),
+        Policy::Broken => bar_by(Some(Code::ProfileBroken), decision::NO_RULE),
     }
 }
 

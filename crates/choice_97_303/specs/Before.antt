@@ -13,7 +13,7 @@ use Rattle.find.specs.declared.Question.TheVariants.{Holds, OfBand, ChannelOverl
 use Rattle.decision.specs.Decision.{simple_of}
 use Rattle.decision.specs.Number.{§97-301}
 use Rattle.decision.specs.declared.Verdict.TheVariants.{Legal, Blocked}
-use Rattle.decision.specs.declared.Code.TheVariants.{Permitted, Privilege, OutOfBand, AutomaticExcluded, SixtyEmission, SixtyOffChannel}
+use Rattle.decision.specs.Reason.{Permitted, Privilege, OutOfBand, AutomaticExcluded, SixtyEmission, SixtyOffChannel}
 use Rattle.decision.specs.declared.Decision.{Decision}
 use Rattle.part97.specs.Part97.{band_at, draft_of, some_privilege, off_sixty, sixty_channel, in_sixty_segment, touching}
 use Rattle.part97.specs.declared.Case.{Case}

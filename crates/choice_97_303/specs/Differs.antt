@@ -27,7 +27,7 @@ use Rattle.decision.specs.Number.{§97-301}
 use Rattle.decision.specs.declared.Decision.{Decision}
 use Rattle.decision.specs.declared.Verdict.{Verdict}
 use Rattle.decision.specs.declared.Verdict.TheVariants.{Legal, Warning, Blocked}
-use Rattle.decision.specs.declared.Code.TheVariants.{OutOfBand, AutomaticExcluded, TooWide, SixtyOffChannel, SixtyChannel, SixtySegment}
+use Rattle.decision.specs.Reason.{OutOfBand, AutomaticExcluded, TooWide, SixtyOffChannel, SixtyChannel, SixtySegment}
 use Rattle.part97.specs.Part97.{band_at, segment_at, draft_of, draft_inside, some_privilege, general_limit, exceeds, channel_watts_of, segment_watts_of, is_data}
 use Rattle.part97.specs.Part97.{cw_on_channel, same_sideband, data_on_channel, on_channel, allowed_on_sixty, warned, sixty_channel, sixty_segment}
 use Rattle.part97.specs.Part97.{in_sixty_segment, sixty_overlap, sixty_place}
@@ -51,10 +51,10 @@ pub record Changed (table : Table) (c : Case) (old new : Decision) : Type 0 wher
   pub segment : ℕ
   pub held : first_in table segments (BandHolds ch.band c.guarded) ≡ Some segment
   -- it was 24, and legal or a warning only for a CW carrier on centre
-  pub was : old.code ≡ Some SixtyChannel
+  pub was : old.code ≡ SixtyChannel
   pub was_allowed : sent old.verdict ≡ true → (c.kind ≡ Cw) × (cw_on_channel c ch (centre_of (table.at channels channel)) ≡ true)
   -- it is 25, legal or a warning, or data is too wide
-  pub is : ((new.code ≡ Some SixtySegment) × (sent new.verdict ≡ true)) ⊎ ((c.kind ≡ Data) × (new.code ≡ Some TooWide) × (new.verdict ≡ Blocked))
+  pub is : ((new.code ≡ SixtySegment) × (sent new.verdict ≡ true)) ⊎ ((c.kind ≡ Data) × (new.code ≡ TooWide) × (new.verdict ≡ Blocked))
 
 abbrev pub Differs : Table → Case → Decision → Decision → Type 0
 Differs table c old new = (new ≡ old) ⊎ Changed table c old new
@@ -69,11 +69,11 @@ module _ (table : Table) (c : Case) (ch : Channels) (centre : Float) where
       ch.rule (record { channel_power = exceeds c.power (channel_watts_of table); shared = true; segment_power = false }))
       (simple_of (draft_inside c ch.band (channel_range_of ch.width_hz centre) ch.rule) Blocked SixtyChannel ch.rule)
 
-  channel_24 : (sixty_channel table c ch centre).code ≡ Some SixtyChannel
+  channel_24 : (sixty_channel table c ch centre).code ≡ SixtyChannel
   unfolding sixty_channel allowed_on_sixty simple_of finish_of
   channel_24 = go (on_channel c ch centre c.kind)
     where
-      go : (b : Bool) → (on_it b).code ≡ Some SixtyChannel
+      go : (b : Bool) → (on_it b).code ≡ SixtyChannel
       go true = refl
       go false = refl
 
@@ -120,15 +120,15 @@ module _ (table : Table) (c : Case) (band : ℕ) (s : Segment) where
   data_only NoEmission b e = absurd (false≢true e)
 
   segment_25 :
-      (((sixty_segment table c band s).code ≡ Some SixtySegment) × (sent (sixty_segment table c band s).verdict ≡ true))
-      ⊎ ((c.kind ≡ Data) × ((sixty_segment table c band s).code ≡ Some TooWide) × ((sixty_segment table c band s).verdict ≡ Blocked))
+      (((sixty_segment table c band s).code ≡ SixtySegment) × (sent (sixty_segment table c band s).verdict ≡ true))
+      ⊎ ((c.kind ≡ Data) × ((sixty_segment table c band s).code ≡ TooWide) × ((sixty_segment table c band s).verdict ≡ Blocked))
   unfolding sixty_segment allowed_on_sixty simple_of finish_of
   segment_25 = go (is_data c.kind && wider c.width (general_limit table).max_bandwidth_hz) refl
     where
       go :
           (b : Bool) → (is_data c.kind && wider c.width (general_limit table).max_bandwidth_hz) ≡ b
-          → (((in_it b).code ≡ Some SixtySegment) × (sent (in_it b).verdict ≡ true))
-          ⊎ ((c.kind ≡ Data) × ((in_it b).code ≡ Some TooWide) × ((in_it b).verdict ≡ Blocked))
+          → (((in_it b).code ≡ SixtySegment) × (sent (in_it b).verdict ≡ true))
+          ⊎ ((c.kind ≡ Data) × ((in_it b).code ≡ TooWide) × ((in_it b).verdict ≡ Blocked))
       go true e = inr (data_only c.kind (wider c.width (general_limit table).max_bandwidth_hz) e, refl, refl)
       go false e = inl (refl, allowed_sent (exceeds c.power (segment_watts_of table)))
 

@@ -44,7 +44,7 @@ fn outside_segments(s: &Image, c: Case, band: u8) -> Finding
             findings::on_band(
                 Some(band),
                 Verdict::Blocked,
-                Code::NoDataHere,
+                Some(Code::NoDataHere),
                 decision::RULE_97_305C,
             )
         }
@@ -62,14 +62,14 @@ fn inside_segment(s: &Image, c: Case, band: u8, segment: Segment) -> Finding
             if c.automatic {
                 automatic_data_97_221::automatic_data(s, c, place)
             } else {
-                findings::lawful_in(place, None, c.air, Code::Permitted, segment.rule)
+                findings::lawful_in(place, None, c.air, Some(Code::Permitted), segment.rule)
             }
         }
         Privileged::Forbidden => {
-            findings::in_segment(place, Code::Privilege, decision::RULE_97_307F9)
+            findings::in_segment(place, Some(Code::Privilege), decision::RULE_97_307F9)
         }
         Privileged::Unheld => {
-            findings::in_segment(place, Code::Privilege, decision::RULE_97_301)
+            findings::in_segment(place, Some(Code::Privilege), decision::RULE_97_301)
         }
     }
 }
@@ -89,7 +89,12 @@ pub fn judge_data(s: &Image, c: Case, band: u8) -> Finding
         None => general,
     };
     if limit.max_bandwidth_hz < c.width {
-        return findings::on_band(Some(band), Verdict::Blocked, Code::TooWide, limit.rule);
+        return findings::on_band(
+            Some(band),
+            Verdict::Blocked,
+            Some(Code::TooWide),
+            limit.rule,
+        );
     }
     match found {
         Some(segment) => inside_segment(s, c, band, segment),

@@ -28,12 +28,12 @@ is_blocked Warning = false
 is_blocked Blocked = true
 
 -- a decision from its draft
-unfoldable pub finish_of : Draft → Verdict → Code → ℕ → Option Overshoot → Advice → Decision
+unfoldable pub finish_of : Draft → Verdict → Option Code → ℕ → Option Overshoot → Advice → Decision
 finish_of d verdict code rule overshoot advice =
     record {
       refusal = Ok tt;
       verdict = verdict;
-      code = Some code;
+      code = code;
       rule = Some rule;
       band = d.band;
       segment = d.segment;
@@ -46,7 +46,7 @@ finish_of d verdict code rule overshoot advice =
     }
 
 -- with no overshoot and nothing to say besides
-unfoldable pub simple_of : Draft → Verdict → Code → ℕ → Decision
+unfoldable pub simple_of : Draft → Verdict → Option Code → ℕ → Decision
 unfolding finish_of no_advice
 simple_of d verdict code rule = finish_of d verdict code rule None no_advice
 

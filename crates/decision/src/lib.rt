@@ -181,7 +181,7 @@ pub fn no_advice() -> Advice
 pub fn finish(
     d: Draft,
     verdict: Verdict,
-    code: Code,
+    code: Option<Code>,
     rule: u16,
     overshoot: Option<Overshoot>,
     advice: Advice,
@@ -191,7 +191,7 @@ pub fn finish(
     Decision {
         refusal: Ok(()),
         verdict,
-        code: Some(code),
+        code,
         rule: Some(rule),
         band: d.band,
         segment: d.segment,
@@ -206,7 +206,7 @@ pub fn finish(
 
 // A decision with no overshoot and nothing to say besides.
 #[tactic(auto, unfolding(crate::specs::Decision::simple_of))]
-pub fn simple(d: Draft, verdict: Verdict, code: Code, rule: u16) -> Decision
+pub fn simple(d: Draft, verdict: Verdict, code: Option<Code>, rule: u16) -> Decision
     ensures { result ≡ simple_of d verdict code rule }
 {
     finish(d, verdict, code, rule, None, no_advice())

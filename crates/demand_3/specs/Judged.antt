@@ -26,8 +26,8 @@ use Rattle.decision.specs.Number.{§97-301, §97-305c, §97-307f9}
 use Rattle.decision.specs.Decision.{no_advice, finish_of, simple_of}
 use Rattle.decision.specs.declared.Verdict.TheVariants.{Blocked}
 use Rattle.decision.specs.declared.Code.{Code}
-use Rattle.decision.specs.declared.Code.TheVariants.{OutOfBand, AutomaticExcluded, TooWide, OutsideDataSegment, NoDataHere, Privilege}
-use Rattle.decision.specs.declared.Code.TheVariants.{Permitted, AutomaticSegment, AutomaticBandwidth, AutomaticOriginate, AutomaticResponse}
+use Rattle.decision.specs.Reason.{OutOfBand, AutomaticExcluded, TooWide, OutsideDataSegment, NoDataHere, Privilege}
+use Rattle.decision.specs.Reason.{Permitted, AutomaticSegment, AutomaticBandwidth, AutomaticOriginate, AutomaticResponse}
 use Rattle.decision.specs.declared.Draft.{Draft}
 use Rattle.decision.specs.declared.Decision.{Decision}
 use Rattle.part97.specs.Part97.{band_at, segment_at, limit_for, blocked_too_wide, warned, advice_warns, automatic_rule_of, draft_of, draft_inside, draft_automatic}
@@ -41,11 +41,11 @@ use Rattle.demand_3.specs.Words.{sent, allows}
 
 -- ---- the answers' verdicts
 
-simple_blocked : (d : Draft) (code : Code) (rule : ℕ) → allows (simple_of d Blocked code rule) ≡ false
+simple_blocked : (d : Draft) (code : Option Code) (rule : ℕ) → allows (simple_of d Blocked code rule) ≡ false
 unfolding simple_of finish_of
 simple_blocked d code rule = refl
 
-advised_sent : (table : Table) (c : Case) (r : Range) (d : Draft) (code : Code) (rule : ℕ) → allows (advised table c r d code rule) ≡ true
+advised_sent : (table : Table) (c : Case) (r : Range) (d : Draft) (code : Option Code) (rule : ℕ) → allows (advised table c r d code rule) ≡ true
 unfolding advised finish_of
 advised_sent table c r d code rule = go (advice_warns table c r)
   where

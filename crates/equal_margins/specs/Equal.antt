@@ -35,7 +35,7 @@ use Rattle.entry.specs.Entry.{image_tests, entry_tests, edges_valid, edges_read}
 use Rattle.decision.specs.declared.Decision.{Decision}
 use Rattle.decision.specs.Decision.{simple_of}
 use Rattle.decision.specs.Number.{no_rule}
-use Rattle.decision.specs.declared.Code.TheVariants.{Unmeasured}
+use Rattle.decision.specs.Reason.{Unmeasured}
 use Rattle.decision.specs.declared.Verdict.TheVariants.{Blocked}
 use Rattle.verdict.specs.Verdict.{signal_of, case_of, ready_of, under_rules_of, unruled_of, decide_of, unless_refused, beside_valid, edge_tests, evaluate_of, unmeasured_of}
 use Rattle.ceiling.specs.Ceiling.{judge_by, climbed, ceiling_unless_refused, ceiling_of}

@@ -12,7 +12,7 @@ use profile::Range;
 
 // On a band or on none, against no segment.
 #[tactic(auto, unfolding(part97::specs::Finding::on_band))]
-pub fn on_band(band: Option<u8>, verdict: Verdict, code: Code, rule: u16) -> Finding
+pub fn on_band(band: Option<u8>, verdict: Verdict, code: Option<Code>, rule: u16) -> Finding
     ensures { result ≡ on_band band verdict code rule }
 {
     Finding {
@@ -38,7 +38,7 @@ pub struct Place {
 
 // Blocked, against a place.
 #[tactic(auto, unfolding(part97::specs::Finding::on_band, part97::specs::Finding::in_segment))]
-pub fn in_segment(p: Place, code: Code, rule: u16) -> Finding
+pub fn in_segment(p: Place, code: Option<Code>, rule: u16) -> Finding
     ensures { result ≡ in_segment p.band p.segment p.own code rule }
 {
     Finding {
@@ -54,13 +54,19 @@ pub fn beyond_segment(p: Place, overshoot: Option<Overshoot>) -> Finding
 {
     Finding {
         overshoot,
-        ..in_segment(p, Code::OutsideDataSegment, p.own)
+        ..in_segment(p, Some(Code::OutsideDataSegment), p.own)
     }
 }
 
 // Lawful data in a segment, and perhaps in one for automatic control: power limits and the plan are asked over a range.
 #[tactic(auto, unfolding(part97::specs::Finding::in_segment, part97::specs::Finding::lawful_in))]
-pub fn lawful_in(p: Place, inside: Option<Range>, r: Range, code: Code, rule: u16) -> Finding
+pub fn lawful_in(
+    p: Place,
+    inside: Option<Range>,
+    r: Range,
+    code: Option<Code>,
+    rule: u16,
+) -> Finding
     ensures { result ≡ lawful_in p.band p.segment p.own inside r code rule }
 {
     Finding {
@@ -80,7 +86,7 @@ pub fn warned_if(b: bool) -> Verdict
 
 // Allowed on 60 m, with its notes.
 #[tactic(auto, unfolding(part97::specs::Finding::in_segment, part97::specs::Finding::on_sixty))]
-pub fn on_sixty(p: Place, warn: bool, code: Code, marks: SixtyNotes) -> Finding
+pub fn on_sixty(p: Place, warn: bool, code: Option<Code>, marks: SixtyNotes) -> Finding
     ensures { result ≡ on_sixty p.band p.segment warn code p.own marks }
 {
     Finding {

@@ -86,7 +86,7 @@ by_nearest : (f : Option (ℕ × Float)) {g : ℕ → Decision} {d : Decision} �
 by_nearest (Some (i, by)) p q = p i
 by_nearest None p q = q
 
-simple : (t : Draft) (v : Verdict) (k : Code) (n : ℕ) → Settled (simple_of t v k n)
+simple : (t : Draft) (v : Verdict) (k : Option Code) (n : ℕ) → Settled (simple_of t v k n)
 unfolding simple_of finish_of no_advice
 simple t v k n = record { few = omega arith; judged = refl }
 
@@ -95,11 +95,11 @@ by_privilege Granted t q = q
 by_privilege Forbidden t q = simple t _ _ _
 by_privilege Unheld t q = simple t _ _ _
 
-outside : (t : Draft) (v : Verdict) (k : Code) (n : ℕ) (o : Option Overshoot) → Settled (finish_of t v k n o no_advice)
+outside : (t : Draft) (v : Verdict) (k : Option Code) (n : ℕ) (o : Option Overshoot) → Settled (finish_of t v k n o no_advice)
 unfolding finish_of no_advice
 outside t v k n o = record { few = omega arith; judged = refl }
 
-on_sixty_holds : (t : Draft) (b : Bool) (k : Code) (n : ℕ) (marks : SixtyNotes) → Settled (allowed_on_sixty t b k n marks)
+on_sixty_holds : (t : Draft) (b : Bool) (k : Option Code) (n : ℕ) (marks : SixtyNotes) → Settled (allowed_on_sixty t b k n marks)
 unfolding allowed_on_sixty finish_of
 on_sixty_holds t b k n marks = record { few = omega arith; judged = refl }
 
@@ -142,7 +142,7 @@ module _ (l : List ℕ) (w : Whole l) (c : Case) where
       go true = plan_says_holds r
       go false = omega arith
 
-  with_advice : (r : Range) (t : Draft) (k : Code) (n : ℕ) → Settled (advised table c r t k n)
+  with_advice : (r : Range) (t : Draft) (k : Option Code) (n : ℕ) → Settled (advised table c r t k n)
   unfolding advised finish_of advice_of
   with_advice r t k n = record { few = told r; judged = refl }
 
@@ -257,7 +257,7 @@ under_rules_holds l w s dial kind direction audio =
     (λ b. by_required dial (missing NoDial no_rule) (λ hz. record { settled = λ signal. judged l w _ })))))
     ).settled (signal_of dial s.sideband audio)
 
-unruled : (s : Situation) (dial : Option Float) (e : Edges) (v : Verdict) (k : Code) → Settled (unruled_of s dial e v k)
+unruled : (s : Situation) (dial : Option Float) (e : Edges) (v : Verdict) (k : Option Code) → Settled (unruled_of s dial e v k)
 unfolding unruled_of
 unruled s dial e v k = simple _ _ _ _
 

@@ -36,10 +36,11 @@ use Rattle.decision.specs.Number.{no_rule, §97-301, §97-109, §97-305a, §97-3
 use Rattle.decision.specs.declared.Verdict.{Verdict}
 use Rattle.decision.specs.declared.Verdict.TheVariants.{Legal, Blocked}
 use Rattle.decision.specs.declared.Code.{Code}
-use Rattle.decision.specs.declared.Code.TheVariants.{Region, NoControl, NoLicense, NoSideband, NoDial, OutOfBand}
-use Rattle.decision.specs.declared.Code.TheVariants.{AutomaticExcluded, TooWide, Privilege, Permitted, AutomaticSegment}
-use Rattle.decision.specs.declared.Code.TheVariants.{AutomaticBandwidth, AutomaticOriginate, AutomaticResponse}
-use Rattle.decision.specs.declared.Code.TheVariants.{SixtyEmission, SixtyOffChannel, SixtyChannel, SixtySegment}
+use Rattle.decision.specs.declared.Code.TheVariants.{Region, NoControl, NoLicense, NoSideband, NoDial}
+use Rattle.decision.specs.Reason.{OutOfBand}
+use Rattle.decision.specs.Reason.{AutomaticExcluded, TooWide, Privilege, Permitted, AutomaticSegment}
+use Rattle.decision.specs.Reason.{AutomaticBandwidth, AutomaticOriginate, AutomaticResponse}
+use Rattle.decision.specs.Reason.{SixtyEmission, SixtyOffChannel, SixtyChannel, SixtySegment}
 use Rattle.decision.specs.declared.SixtyNotes.{SixtyNotes}
 use Rattle.automatic_97_221.specs.Automatic.{responds}
 use Rattle.profile.specs.Range.{holds_of, channel_range_of}
@@ -117,11 +118,11 @@ on_required :
 on_required (Some k) m p = p k
 on_required None m p = record { alike = λ signal. record { same = refl } }
 
-leaf : (d : Draft) (v : Verdict) (code : Code) (rule : ℕ) → Same (simple_of d v code rule) (simple_of d v code rule)
+leaf : (d : Draft) (v : Verdict) (code : Option Code) (rule : ℕ) → Same (simple_of d v code rule) (simple_of d v code rule)
 leaf d v code rule = record { same = refl }
 
 allowed_same :
-    (d : Draft) (w w' : Bool) (code : Code) (rule : ℕ) (m m' : SixtyNotes) → Same (allowed_on_sixty d w code rule m) (allowed_on_sixty d w' code rule m')
+    (d : Draft) (w w' : Bool) (code : Option Code) (rule : ℕ) (m m' : SixtyNotes) → Same (allowed_on_sixty d w code rule m) (allowed_on_sixty d w' code rule m')
 unfolding allowed_on_sixty finish_of
 allowed_same d w w' code rule m m' = record { same = refl }
 
@@ -130,7 +131,7 @@ module _ (table : Table) (c : Case) (power : Option Float) (plan : Bool) where
   unfolding privileged_of
   privileged_same kind = refl
 
-  advised_same : (r : Range) (d : Draft) (code : Code) (rule : ℕ) → Same (advised table (other c power plan) r d code rule) (advised table c r d code rule)
+  advised_same : (r : Range) (d : Draft) (code : Option Code) (rule : ℕ) → Same (advised table (other c power plan) r d code rule) (advised table c r d code rule)
   unfolding advised finish_of
   advised_same r d code rule = record { same = refl }
 

@@ -49,7 +49,7 @@ fn judge_in_band(s: &Image, c: Case, band: u8) -> Finding
         return findings::on_band(
             Some(band),
             Verdict::Blocked,
-            Code::AutomaticExcluded,
+            Some(Code::AutomaticExcluded),
             table::excluded_of(r).rule,
         );
     }
@@ -74,7 +74,7 @@ pub fn judge_case(s: &Image, c: Case) -> Finding
         None => findings::on_band(
             touching_band(s, c),
             Verdict::Blocked,
-            Code::OutOfBand,
+            Some(Code::OutOfBand),
             decision::RULE_97_301,
         ),
     }

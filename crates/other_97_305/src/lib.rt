@@ -30,9 +30,17 @@ pub fn judge_emitted(s: &Image, c: Case, band: u8, kind: EmissionKind) -> Findin
     ensures { concluded (table_of s.now) c result ≡ emitted (table_of s.now) c band kind }
 {
     let (verdict, code, rule) = match privileges_97_301::privileged(s, c, kind) {
-        Privileged::Granted => (Verdict::Legal, Code::Permitted, other_rule(kind)),
-        Privileged::Forbidden => (Verdict::Blocked, Code::Privilege, decision::RULE_97_307F9),
-        Privileged::Unheld => (Verdict::Blocked, Code::Privilege, decision::RULE_97_301),
+        Privileged::Granted => (Verdict::Legal, Some(Code::Permitted), other_rule(kind)),
+        Privileged::Forbidden => (
+            Verdict::Blocked,
+            Some(Code::Privilege),
+            decision::RULE_97_307F9,
+        ),
+        Privileged::Unheld => (
+            Verdict::Blocked,
+            Some(Code::Privilege),
+            decision::RULE_97_301,
+        ),
     };
     findings::on_band(Some(band), verdict, code, rule)
 }
@@ -47,9 +55,13 @@ pub fn judge_keyed(s: &Image, c: Case, band: u8) -> Finding
         high_hz: c.dial_hz,
     };
     let (verdict, code, rule) = if privileges_97_301::some_privilege(s, c, dial) {
-        (Verdict::Legal, Code::Permitted, decision::RULE_97_301)
+        (Verdict::Legal, Some(Code::Permitted), decision::RULE_97_301)
     } else {
-        (Verdict::Blocked, Code::Privilege, s.general.privileges_rule)
+        (
+            Verdict::Blocked,
+            Some(Code::Privilege),
+            s.general.privileges_rule,
+        )
     };
     findings::on_band(Some(band), verdict, code, rule)
 }

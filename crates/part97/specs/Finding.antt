@@ -8,7 +8,7 @@ use Rattle.decision.specs.Decision.{no_notes, no_marks, no_advice, finish_of, si
 use Rattle.decision.specs.declared.Verdict.{Verdict}
 use Rattle.decision.specs.declared.Verdict.TheVariants.{Legal, Blocked}
 use Rattle.decision.specs.declared.Code.{Code}
-use Rattle.decision.specs.declared.Code.TheVariants.{OutsideDataSegment}
+use Rattle.decision.specs.Reason.{OutsideDataSegment}
 use Rattle.decision.specs.declared.Overshoot.{Overshoot}
 use Rattle.decision.specs.declared.SixtyNotes.{SixtyNotes}
 use Rattle.decision.specs.declared.Draft.{Draft}
@@ -21,7 +21,7 @@ use Rattle.part97.specs.Part97.{draft_of, draft_inside, draft_automatic, advised
 -- ---- the findings
 
 -- on a band or on none, against no segment
-unfoldable pub on_band : Option ℕ → Verdict → Code → ℕ → Finding
+unfoldable pub on_band : Option ℕ → Verdict → Option Code → ℕ → Finding
 on_band band verdict code rule =
     record {
       band = band;
@@ -36,7 +36,7 @@ on_band band verdict code rule =
     }
 
 -- blocked, against a segment that has a rule
-unfoldable pub in_segment : ℕ → Range → ℕ → Code → ℕ → Finding
+unfoldable pub in_segment : ℕ → Range → ℕ → Option Code → ℕ → Finding
 in_segment band segment own code rule =
     record {
       band = Some band;
@@ -66,7 +66,7 @@ beyond_segment band segment own overshoot =
     }
 
 -- lawful data in a segment, and perhaps in one for automatic control: power limits and the plan are asked over a range
-unfoldable pub lawful_in : ℕ → Range → ℕ → Option Range → Range → Code → ℕ → Finding
+unfoldable pub lawful_in : ℕ → Range → ℕ → Option Range → Range → Option Code → ℕ → Finding
 lawful_in band segment own inside r code rule =
     record {
       band = Some band;
@@ -81,7 +81,7 @@ lawful_in band segment own inside r code rule =
     }
 
 -- allowed on 60 m, with its notes
-unfoldable pub on_sixty : ℕ → Range → Bool → Code → ℕ → SixtyNotes → Finding
+unfoldable pub on_sixty : ℕ → Range → Bool → Option Code → ℕ → SixtyNotes → Finding
 on_sixty band segment warn code own marks =
     record {
       band = Some band;
@@ -121,12 +121,12 @@ concluded table c f = concluded_over table c f f.over
 -- ---- each finding, concluded
 
 module _ (table : Table) (c : Case) where
-  pub on_band_holds : (band : Option ℕ) (verdict : Verdict) (code : Code) (rule : ℕ)
+  pub on_band_holds : (band : Option ℕ) (verdict : Verdict) (code : Option Code) (rule : ℕ)
       → concluded table c (on_band band verdict code rule) ≡ simple_of (draft_of c band) verdict code rule
   unfolding concluded concluded_over draft_at on_band draft_of simple_of no_advice
   on_band_holds band verdict code rule = refl
 
-  pub in_segment_holds : (band : ℕ) (segment : Range) (own : ℕ) (code : Code) (rule : ℕ)
+  pub in_segment_holds : (band : ℕ) (segment : Range) (own : ℕ) (code : Option Code) (rule : ℕ)
       → concluded table c (in_segment band segment own code rule) ≡ simple_of (draft_inside c band segment own) Blocked code rule
   unfolding concluded concluded_over draft_at in_segment draft_inside simple_of no_advice
   in_segment_holds band segment own code rule = refl
@@ -137,18 +137,18 @@ module _ (table : Table) (c : Case) where
   unfolding concluded concluded_over draft_at beyond_segment draft_inside no_advice
   beyond_segment_holds band segment own over = refl
 
-  pub lawful_in_holds : (band : ℕ) (segment : Range) (own : ℕ) (r : Range) (code : Code) (rule : ℕ)
+  pub lawful_in_holds : (band : ℕ) (segment : Range) (own : ℕ) (r : Range) (code : Option Code) (rule : ℕ)
       → concluded table c (lawful_in band segment own None r code rule) ≡ advised table c r (draft_inside c band segment own) code rule
   unfolding concluded concluded_over draft_at lawful_in draft_inside
   lawful_in_holds band segment own r code rule = refl
 
-  pub lawful_automatic : (band : ℕ) (segment : Range) (own : ℕ) (inside r : Range) (code : Code) (rule : ℕ)
+  pub lawful_automatic : (band : ℕ) (segment : Range) (own : ℕ) (inside r : Range) (code : Option Code) (rule : ℕ)
       → concluded table c (lawful_in band segment own (Some inside) r code rule)
       ≡ advised table c r (draft_automatic c band segment own inside) code rule
   unfolding concluded concluded_over draft_at lawful_in draft_automatic
   lawful_automatic band segment own inside r code rule = refl
 
-  pub on_sixty_holds : (band : ℕ) (segment : Range) (warn : Bool) (code : Code) (own : ℕ) (marks : SixtyNotes)
+  pub on_sixty_holds : (band : ℕ) (segment : Range) (warn : Bool) (code : Option Code) (own : ℕ) (marks : SixtyNotes)
       → concluded table c (on_sixty band segment warn code own marks) ≡ allowed_on_sixty (draft_inside c band segment own) warn code own marks
   unfolding concluded concluded_over draft_at on_sixty draft_inside allowed_on_sixty
   on_sixty_holds band segment warn code own marks = refl

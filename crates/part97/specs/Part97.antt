@@ -33,9 +33,9 @@ use Rattle.decision.specs.Decision.{no_notes, no_marks, no_advice, finish_of, si
 use Rattle.decision.specs.declared.Verdict.{Verdict}
 use Rattle.decision.specs.declared.Verdict.TheVariants.{Legal, Warning, Blocked}
 use Rattle.decision.specs.declared.Code.{Code}
-use Rattle.decision.specs.declared.Code.TheVariants.{OutOfBand, AutomaticExcluded, TooWide, OutsideDataSegment, NoDataHere, Privilege}
-use Rattle.decision.specs.declared.Code.TheVariants.{Permitted, AutomaticSegment, AutomaticOutside, AutomaticBandwidth, AutomaticOriginate}
-use Rattle.decision.specs.declared.Code.TheVariants.{AutomaticResponse, SixtyEmission, SixtyOffChannel, SixtyChannel, SixtySegment}
+use Rattle.decision.specs.Reason.{OutOfBand, AutomaticExcluded, TooWide, OutsideDataSegment, NoDataHere, Privilege}
+use Rattle.decision.specs.Reason.{Permitted, AutomaticSegment, AutomaticOutside, AutomaticBandwidth, AutomaticOriginate}
+use Rattle.decision.specs.Reason.{AutomaticResponse, SixtyEmission, SixtyOffChannel, SixtyChannel, SixtySegment}
 use Rattle.decision.specs.declared.Edge.{Edge}
 use Rattle.decision.specs.declared.Edge.TheVariants.{Lower, Upper}
 use Rattle.decision.specs.declared.Overshoot.{Overshoot}
@@ -192,7 +192,7 @@ unfoldable pub advice_warns : Table → Case → Range → Bool
 advice_warns table c r = any_note (note_at table c r) (table.count power) || plan_warns (guidance_of table c r)
 
 -- lawful, with what the operator should know
-unfoldable pub advised : Table → Case → Range → Draft → Code → ℕ → Decision
+unfoldable pub advised : Table → Case → Range → Draft → Option Code → ℕ → Decision
 advised table c r draft code rule = finish_of draft (warned (advice_warns table c r)) code rule None (advice_of table c r)
 
 -- ---- 97.221: automatically controlled digital stations
@@ -202,7 +202,7 @@ abbrev pub automatic_rule_of : Table → ℕ
 automatic_rule_of table = table.general.automatic_rule
 
 -- an automatic station's advice goes by the guarded range with the margin taken off again
-abbrev pub advised_automatic : Table → Case → Draft → Code → ℕ → Decision
+abbrev pub advised_automatic : Table → Case → Draft → Option Code → ℕ → Decision
 advised_automatic table c draft code rule = advised table c c.advised draft code rule
 
 -- 97.221(c), outside the segments of 97.221(b): only where the table allows it at all, no wider than its limit, and, where it
@@ -331,7 +331,7 @@ abbrev pub segment_watts_of : Table → Float
 segment_watts_of table = figure_of table.general.segment_watts
 
 -- allowed on 60 m, with its notes
-unfoldable pub allowed_on_sixty : Draft → Bool → Code → ℕ → SixtyNotes → Decision
+unfoldable pub allowed_on_sixty : Draft → Bool → Option Code → ℕ → SixtyNotes → Decision
 allowed_on_sixty draft warn code rule marks =
     finish_of draft (warned warn) code rule None (record { guidance = None; notes = no_notes; sixty = marks })
 

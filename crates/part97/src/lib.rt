@@ -46,7 +46,7 @@ pub struct Finding {
     pub segment: Option<(Range, u16)>,
     pub automatic_segment: Option<Range>,
     pub verdict: Verdict,
-    pub code: Code,
+    pub code: Option<Code>,
     pub rule: u16,
     pub overshoot: Option<Overshoot>,
     pub sixty: SixtyNotes,

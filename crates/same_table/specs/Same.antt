@@ -29,7 +29,7 @@ use Rattle.profile.specs.Range.{range}
 use Rattle.decision.specs.Number.{no_rule}
 use Rattle.decision.specs.Decision.{simple_of}
 use Rattle.decision.specs.declared.Verdict.TheVariants.{Blocked}
-use Rattle.decision.specs.declared.Code.TheVariants.{Unmeasured}
+use Rattle.decision.specs.Reason.{Unmeasured}
 use Rattle.verdict.specs.Verdict.{signal_of, beside_valid, edge_tests, decide_of, unless_refused, evaluate_of, unmeasured_of}
 use Rattle.ceiling.specs.Ceiling.{judge_by, climbed, ceiling_unless_refused, ceiling_of}
 use Rattle.rungs.specs.Rungs.{burst_of, rung_tests}

@@ -63,7 +63,7 @@ fn sixty_channel(g: General, c: Case, ch: Channels, centre: f64) -> Finding
         own: ch.rule,
     };
     if !on_channel(c, ch, centre, c.kind) {
-        return findings::in_segment(place, Code::SixtyChannel, ch.rule);
+        return findings::in_segment(place, Some(Code::SixtyChannel), ch.rule);
     }
     let warn = advice_97_313::above(c.power, figures::figure(g.channel_watts));
     let marks = SixtyNotes {
@@ -71,7 +71,7 @@ fn sixty_channel(g: General, c: Case, ch: Channels, centre: f64) -> Finding
         shared: true,
         segment_power: false,
     };
-    findings::on_sixty(place, warn, Code::SixtyChannel, marks)
+    findings::on_sixty(place, warn, Some(Code::SixtyChannel), marks)
 }
 
 // In the segment: the general width is tested, and no other.
@@ -86,7 +86,7 @@ fn sixty_segment(g: General, c: Case, band: u8, segment: Segment) -> Finding
         own: segment.rule,
     };
     if c.kind == EmissionKind::Data && general.max_bandwidth_hz < c.width {
-        return findings::in_segment(place, Code::TooWide, general.rule);
+        return findings::in_segment(place, Some(Code::TooWide), general.rule);
     }
     let warn = advice_97_313::above(c.power, figures::figure(g.segment_watts));
     let marks = SixtyNotes {
@@ -94,7 +94,7 @@ fn sixty_segment(g: General, c: Case, band: u8, segment: Segment) -> Finding
         shared: false,
         segment_power: warn,
     };
-    findings::on_sixty(place, warn, Code::SixtySegment, marks)
+    findings::on_sixty(place, warn, Some(Code::SixtySegment), marks)
 }
 
 // The first data segment of the channels' band that holds the guarded range.
@@ -137,7 +137,7 @@ fn sixty_place(s: &Image, c: Case, ch: Channels) -> Finding
         None => findings::on_band(
             Some(ch.band),
             Verdict::Blocked,
-            Code::SixtyOffChannel,
+            Some(Code::SixtyOffChannel),
             ch.rule,
         ),
     }
@@ -152,7 +152,7 @@ fn sixty_emission(s: &Image, c: Case, ch: Channels, allowed: Option<(u8, u16)>) 
         Some((bits, rule)) if !codes::has_kind(bits, c.kind) => findings::on_band(
             Some(ch.band),
             Verdict::Blocked,
-            Code::SixtyEmission,
+            Some(Code::SixtyEmission),
             rule,
         ),
         _ => sixty_place(s, c, ch),
@@ -168,7 +168,7 @@ fn sixty_kind(s: &Image, c: Case, ch: Channels, kind: EmissionKind) -> Finding
         return findings::on_band(
             Some(ch.band),
             Verdict::Legal,
-            Code::Permitted,
+            Some(Code::Permitted),
             decision::RULE_97_301,
         );
     }
@@ -185,7 +185,7 @@ pub fn sixty(s: &Image, c: Case, ch: Channels) -> Finding
         return findings::on_band(
             Some(ch.band),
             Verdict::Blocked,
-            Code::Privilege,
+            Some(Code::Privilege),
             decision::RULE_97_301,
         );
     }

@@ -21,8 +21,8 @@ use Rattle.decision.specs.Decision.{no_advice, finish_of, simple_of, refused_of}
 use Rattle.decision.specs.declared.Verdict.{Verdict}
 use Rattle.decision.specs.declared.Verdict.TheVariants.{Legal, Blocked}
 use Rattle.decision.specs.declared.Code.{Code}
-use Rattle.decision.specs.declared.Code.TheVariants.{Permitted, Privilege, OutsideDataSegment, NoDataHere, TooWide}
-use Rattle.decision.specs.declared.Code.TheVariants.{AutomaticSegment, AutomaticOriginate, AutomaticResponse, SixtyChannel}
+use Rattle.decision.specs.Reason.{Permitted, Privilege, OutsideDataSegment, NoDataHere, TooWide}
+use Rattle.decision.specs.Reason.{AutomaticSegment, AutomaticOriginate, AutomaticResponse, SixtyChannel}
 use Rattle.decision.specs.declared.Edge.TheVariants.{Upper}
 use Rattle.decision.specs.declared.Overshoot.{Overshoot}
 use Rattle.decision.specs.declared.Overshoot.TheVariants.{Beyond, TooClose}
@@ -54,8 +54,8 @@ pub record Stated : Type 0 where
 abbrev pub stated : Decision → Stated
 stated d = record { verdict = d.verdict; code = d.code; overshoot = d.overshoot }
 
-abbrev pub says : Verdict → Code → Option Overshoot → Stated
-says v c o = record { verdict = v; code = Some c; overshoot = o }
+abbrev pub says : Verdict → Option Code → Option Overshoot → Stated
+says v c o = record { verdict = v; code = c; overshoot = o }
 
 -- data at a dial, by control (0 local, 2 automatic) and direction (0 originating, 1 responding)
 abbrev pub data_at : ℕ → ℕ → Edges → Float → Stated

@@ -92,7 +92,7 @@ module _ (table : Table) (s : Situation) (dial : Option Float) (kind : EmissionK
 
   pub under_missing :
       (m : Missing) → ready_of table.general s dial kind direction audio ≡ Err m
-      → simple_of (signal_of dial s.sideband audio) Blocked m.code m.rule ≡ under_rules_of table s dial kind direction audio
+      → simple_of (signal_of dial s.sideband audio) Blocked (Some m.code) m.rule ≡ under_rules_of table s dial kind direction audio
   unfolding under_rules_of
   under_missing m e = ap (judged_of table (signal_of dial s.sideband audio)) (sym e)
 

@@ -31,7 +31,8 @@ use Rattle.decision.specs.Decision.{simple_of, refused_of}
 use Rattle.decision.specs.declared.Verdict.{Verdict}
 use Rattle.decision.specs.declared.Verdict.TheVariants.{Legal, Blocked}
 use Rattle.decision.specs.declared.Code.{Code}
-use Rattle.decision.specs.declared.Code.TheVariants.{NoProfile, ProfileBroken, NoRules, Unmeasured, Region, NoControl, NoLicense, NoSideband, NoDial}
+use Rattle.decision.specs.declared.Code.TheVariants.{Region, NoControl, NoLicense, NoSideband, NoDial}
+use Rattle.decision.specs.Reason.{NoProfile, ProfileBroken, NoRules, Unmeasured}
 use Rattle.decision.specs.declared.Draft.{Draft}
 use Rattle.decision.specs.declared.Decision.{Decision}
 use Rattle.part97.specs.Part97.{judge}
@@ -100,7 +101,7 @@ ready_of g s dial kind direction audio =
 -- Part 97 judges a case; what is missing blocks
 abbrev pub judged_of : Table → Draft → Result Case Missing → Decision
 judged_of table signal (Ok c) = judge table c
-judged_of table signal (Err m) = simple_of signal Blocked m.code m.rule
+judged_of table signal (Err m) = simple_of signal Blocked (Some m.code) m.rule
 
 -- the verdict under an accepted table, at a dial
 unfoldable pub under_rules_of : Table → Situation → Option Float → EmissionKind → Direction → Range → Decision
@@ -108,7 +109,7 @@ under_rules_of table s dial kind direction audio =
     judged_of table (signal_of dial s.sideband audio) (ready_of table.general s dial kind direction audio)
 
 -- without a table the policy alone decides, and the reading is Wider
-unfoldable pub unruled_of : Situation → Option Float → Edges → Verdict → Code → Decision
+unfoldable pub unruled_of : Situation → Option Float → Edges → Verdict → Option Code → Decision
 unruled_of s dial e verdict code = simple_of (signal_of dial s.sideband (range_of e Wider)) verdict code no_rule
 
 -- by the policy, at a dial

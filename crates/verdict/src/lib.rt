@@ -2,7 +2,7 @@
 // table, transmission, entry, decision, part97, automatic_97_221 and judge; its definitions use layout, its laws scan.
 #![tactic(auto)]
 
-ghost use Rattle.std.specs.Prelude.{◌≡◌};
+ghost use Rattle.std.specs.Prelude.{◌≡◌, Some};
 ghost use Rattle.codes.specs.Refusal.{refusal_of};
 ghost use Rattle.decision.specs.Decision.{simple_of};
 ghost use Rattle.decision.specs.declared.Verdict.TheVariants.{Blocked};
@@ -139,16 +139,22 @@ pub fn ready(image: &Image, x: &Transmission) -> Result<Case, Missing>
 
 // Blocked under an image by what is missing.
 pub fn unmet(image: &Image, x: &Transmission, m: Missing) -> Decision
-    ensures { result ≡ simple_of (signal_of x.now.dial x.now.station.now.situation.sideband (audio_on image.now x.now)) Blocked m.code m.rule }
+    ensures { result ≡ simple_of (signal_of x.now.dial x.now.station.now.situation.sideband (audio_on image.now x.now)) Blocked (Some m.code) m.rule }
 {
     let audio = x.edges.range(table::reading_of(image.general));
     let signal = signal_of(x.dial, x.station.situation.sideband, audio);
-    decision::simple(signal, Verdict::Blocked, m.code, m.rule)
+    decision::simple(signal, Verdict::Blocked, Some(m.code), m.rule)
 }
 
 // Without a table, by the wider reading: the policy alone decides.
 #[tactic(auto, unfolding(crate::specs::Verdict::unruled_of))]
-pub fn unruled(s: Situation, dial: Option<f64>, e: Edges, verdict: Verdict, code: Code) -> Decision
+pub fn unruled(
+    s: Situation,
+    dial: Option<f64>,
+    e: Edges,
+    verdict: Verdict,
+    code: Option<Code>,
+) -> Decision
     ensures { result ≡ unruled_of s dial e verdict code }
 {
     let signal = signal_of(dial, s.sideband, e.range(Reading::Wider));
@@ -162,8 +168,8 @@ pub fn decide(x: &Transmission) -> Decision
 {
     let s = x.station.situation;
     match s.policy {
-        Policy::Unset => unruled(s, x.dial, x.edges, Verdict::Blocked, Code::NoProfile),
-        Policy::NoProfile => unruled(s, x.dial, x.edges, Verdict::Legal, Code::NoRules),
+        Policy::Unset => unruled(s, x.dial, x.edges, Verdict::Blocked, Some(Code::NoProfile)),
+        Policy::NoProfile => unruled(s, x.dial, x.edges, Verdict::Legal, Some(Code::NoRules)),
         Policy::Rules => {
             let image = x.station.in_force();
             match ready(image, x) {
@@ -171,7 +177,13 @@ pub fn decide(x: &Transmission) -> Decision
                 Err(m) => unmet(image, x, m),
             }
         }
-        Policy::Broken => unruled(s, x.dial, x.edges, Verdict::Blocked, Code::ProfileBroken),
+        Policy::Broken => unruled(
+            s,
+            x.dial,
+            x.edges,
+            Verdict::Blocked,
+            Some(Code::ProfileBroken),
+        ),
     }
 }
 
@@ -238,7 +250,7 @@ pub fn unmeasured(r: StationRecord, image: &[u8]) -> Decision
     decision::simple(
         signal_of(s.dial, s.sideband, audio),
         Verdict::Blocked,
-        Code::Unmeasured,
+        Some(Code::Unmeasured),
         decision::NO_RULE,
     )
 }
