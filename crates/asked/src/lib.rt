@@ -2,6 +2,9 @@
 // in it, and edges. It uses profile, occupancy, air, station and lines.
 #![tactic(auto)]
 
+ghost use Rattle.std.specs.Prelude.{◌+◌};
+ghost use Rattle.lines.specs.Left.{Reads};
+
 use air::Margins;
 use lines::Cursor;
 use occupancy::Edges;
@@ -9,7 +12,9 @@ use profile::Range;
 use station::StationRecord;
 
 // Eight bytes, those that are the case's own, and four figures.
-pub fn record<const OWN: usize>(input: &mut Cursor<'_>) -> Option<(StationRecord, [u8; OWN])> {
+pub fn record<const OWN: usize>(input: &mut Cursor<'_>) -> Option<(StationRecord, [u8; OWN])>
+    ensures { Reads (40 + OWN) input.old.left.now input.new.left.now result }
+{
     let codes = input.array::<8>()?;
     let own = input.array()?;
     let margin = Margins {
@@ -32,7 +37,9 @@ pub fn record<const OWN: usize>(input: &mut Cursor<'_>) -> Option<(StationRecord
     Some((record, own))
 }
 
-fn range(input: &mut Cursor<'_>) -> Option<Range> {
+fn range(input: &mut Cursor<'_>) -> Option<Range>
+    ensures { Reads 16 input.old.left.now input.new.left.now result }
+{
     Some(Range {
         low_hz: input.f64()?,
         high_hz: input.f64()?,
@@ -40,7 +47,9 @@ fn range(input: &mut Cursor<'_>) -> Option<Range> {
 }
 
 // Four figures.
-pub fn edges(input: &mut Cursor<'_>) -> Option<Edges> {
+pub fn edges(input: &mut Cursor<'_>) -> Option<Edges>
+    ensures { Reads 32 input.old.left.now input.new.left.now result }
+{
     Some(Edges {
         power: range(input)?,
         spectral: range(input)?,

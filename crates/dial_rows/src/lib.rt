@@ -15,7 +15,7 @@ ghost use Rattle.rows.specs.declared.SafeDial.{SafeDial};
 ghost use Rattle.dial_rows.specs.Dials.{request_of, piece_rows, cut, may_use, too_wide, excluded_band};
 ghost use Rattle.dial_rows.specs.Dials.{centre_span, some_centre, channel_found, channels_open, channel_row, channel_rows_at};
 ghost use Rattle.dial_rows.specs.Next.{rows_in, cut_next, segment_next, cuts, automatic_in, cut_at, cuts_from, privilege_from, pair_from};
-ghost use Rattle.dial_rows.specs.Next.{behind_of, privileges_from, closed_of, channel_count_of, channels_from, Searched};
+ghost use Rattle.dial_rows.specs.Next.{behind_of, privileges_from, closed_of, channel_count_of, channels_from, Known, Searched};
 
 use air::Margins;
 use codes::{ControlMode, Direction, EmissionKind, LicenseClass, Sideband};
@@ -152,6 +152,21 @@ fn too_wide(q: Request, s: Segment) -> bool
     ensures { result ≡ too_wide q s }
 {
     profile::data_limit(s.own, s.second, q.data).max_bandwidth_hz < q.width_hz
+}
+
+// Whether 97.221 keeps the signal out of a segment's band.
+fn excluded(image: &Image, q: Request, s: Segment) -> bool
+    ensures { result ≡ excluded_band (table_of image.now) q s }
+{
+    q.automatic && find::some_in(image, layout::EXCLUDED, Question::OfBand(s.band))
+}
+
+// Whether a segment's record is passed over: the signal is too wide for it, or kept out of its band.
+pub fn closed(image: &Image, q: Request, r: Record) -> bool
+    ensures { result ≡ closed_of (table_of image.now) q (segment_of r) }
+{
+    let s = table::segment_of(r);
+    too_wide(q, s) || excluded(image, q, s)
 }
 
 // The first privilege of a class; where there is none, how many privileges there are.
@@ -316,20 +331,22 @@ fn places_of(image: &Image, q: Request, band: Option<Channels>) -> Search
     }
 }
 
-// A search for the rows of a request in an image, with those of the channels of a band, if it has one.
-#[derive(Drop)]
+// A search for the rows of a request in an image, with those of the channels of a band, if it has one. That it goes through as many
+// channels as the band asks for is what `of` promises, and no part of the type: no search here needs it.
+#[derive(Clone, Copy)]
 pub struct RowSearch<'a> {
     pub image: &'a Image<'a>,
     pub request: Request,
     pub band: Option<Channels>,
     pub places: Search,
-    pub ghost searched: { Searched image.now request band places },
+    pub ghost known: { Known image.now request places },
 }
 
 impl<'a> RowSearch<'a> {
     // The search for the rows of a request, with those of the channels of a band.
     pub fn of(image: &'a Image<'a>, q: Request, band: Option<Channels>) -> Self
-        ensures { (result.image.now ≡ image.now) × (result.request ≡ q) × (result.band ≡ band) }
+        ensures { (result.image.now ≡ image.now) × (result.request ≡ q) × (result.band ≡ band)
+            × (result.places.channel_count ≡ channel_count_of (table_of result.image.now) result.request result.band) }
     {
         RowSearch {
             image,
@@ -378,15 +395,14 @@ impl<'a> RowSearch<'a> {
         }
     }
 
-    // The same of a segment's record and privilege i: its class and its range's bits are asked before the rest is read.
-    #[tactic(auto, using(layout::specs::Laws::table_within, crate::specs::Apart::apart_nothing), unfolding(crate::specs::Next::privilege_from))]
-    fn pair_from(&self, r: Record, i: usize, from: usize) -> Option<(SafeDial, usize)>
-        requires { i < self.now.places.end }
-        ensures { pair_from self.now.image.now self.now.request r (self.now.places.privileges + 32 * i) from
-            ≡ cut_next (pair_from self.now.image.now self.now.request r (self.now.places.privileges + 32 * i)) result }
+    // The same of a segment's record and the privilege that begins at a place: its class and its range's bits are asked before the rest is
+    // read.
+    #[tactic(auto, using(crate::specs::Apart::apart_nothing), unfolding(crate::specs::Next::privilege_from))]
+    fn pair_from(&self, r: Record, at: usize, from: usize) -> Option<(SafeDial, usize)>
+        requires { at + 32 ≤ length self.now.image.now }
+        ensures { pair_from self.now.image.now self.now.request r at from ≡ cut_next (pair_from self.now.image.now self.now.request r at) result }
     {
         let image = self.image;
-        let at = self.places.privileges + layout::RECORD_SIZE * i;
         if image.class_at(at) != self.request.class {
             return None;
         }
@@ -399,34 +415,20 @@ impl<'a> RowSearch<'a> {
     }
 
     // The first row of a segment's record under the privileges from a place on.
+    #[tactic(auto, using(layout::specs::Laws::table_within))]
     pub fn privileges_from(&self, r: Record, spot: Spot) -> Option<(SafeDial, Spot)>
         ensures { privileges_from (table_of self.now.image.now) self.now.request (segment_of r) spot
             ≡ segment_next (privileges_from (table_of self.now.image.now) self.now.request (segment_of r)) result }
     {
         let mut from = spot.cut;
         for i in spot.privilege..self.places.end {
-            if let Some((row, k)) = self.pair_from(r, i, from) {
+            let at = self.places.privileges + layout::RECORD_SIZE * i;
+            if let Some((row, k)) = self.pair_from(r, at, from) {
                 return Some((row, behind(self.places, i, k)));
             }
             from = 0;
         }
         None
-    }
-
-    // Whether 97.221 keeps the signal out of a segment's band.
-    fn excluded(&self, s: Segment) -> bool
-        ensures { result ≡ excluded_band (table_of self.now.image.now) self.now.request s }
-    {
-        self.request.automatic
-            && find::some_in(self.image, layout::EXCLUDED, Question::OfBand(s.band))
-    }
-
-    // Whether a segment's record is passed over: the signal is too wide for it, or kept out of its band.
-    pub fn closed(&self, r: Record) -> bool
-        ensures { result ≡ closed_of (table_of self.now.image.now) self.now.request (segment_of r) }
-    {
-        let s = table::segment_of(r);
-        too_wide(self.request, s) || self.excluded(s)
     }
 
     // The row of channel i.

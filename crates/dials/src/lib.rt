@@ -8,6 +8,7 @@ ghost use Rattle.table.specs.Parts.{segment_of};
 ghost use Rattle.rows.specs.Pour.{Poured};
 ghost use Rattle.nearest_rows.specs.Over.{nearest_over};
 ghost use Rattle.dial_rows.specs.Dials.{privileges_rows, segment_rows, data_rows, band_rows, searched_rows};
+ghost use Rattle.dial_rows.specs.Next.{channel_count_of};
 ghost use Rattle.dials.specs.List.{situation_rows, Filled, SafeDials};
 
 use codes::{Direction, Refusal};
@@ -72,7 +73,7 @@ fn segment_rows(search: &RowSearch, rows: &mut [u8], r: Record, h: Here, before:
         × (result.best ≡ nearest_over h.dial_hz h.flags h.channel_band before.best
         (segment_rows (table_of search.now.image.now) search.now.request (segment_of r))) }
 {
-    if search.closed(r) {
+    if dial_rows::closed(search.image, search.request, r) {
         before
     } else {
         privileges_rows(search, rows, r, h, before)
@@ -101,7 +102,8 @@ pub fn data_rows(search: &RowSearch, rows: &mut [u8], h: Here) -> Tally
 // The rows of the channels.
 #[tactic(auto, using(rows::specs::Pour::pouring_none, rows::specs::Pour::pouring_step, rows::specs::Pour::pouring_done, dial_rows::specs::Next::band_all, dial_rows::specs::Laws::open_few))]
 fn channel_rows(search: &RowSearch, rows: &mut [u8], c: Channels, before: usize) -> usize
-    requires { (search.now.band ≡ Some c) × (before + 256 ≤ 0x1_0000_0000) }
+    requires { (search.now.places.channel_count ≡ channel_count_of (table_of search.now.image.now) search.now.request (Some c))
+        × (before + 256 ≤ 0x1_0000_0000) }
     ensures { Poured rows.old before rows.new result (band_rows (table_of search.now.image.now) search.now.request (Some c)) }
 {
     let mut from = 0;
@@ -126,6 +128,7 @@ fn channel_rows(search: &RowSearch, rows: &mut [u8], c: Channels, before: usize)
 // Every row; and their count.
 #[tactic(auto, using(rows::specs::Pour::poured_none, rows::specs::Pour::poured_more, dial_rows::specs::Laws::data_few))]
 fn gather(search: &RowSearch, rows: &mut [u8]) -> usize
+    requires { search.now.places.channel_count ≡ channel_count_of (table_of search.now.image.now) search.now.request search.now.band }
     ensures { Poured rows.old 0 rows.new result (searched_rows (table_of search.now.image.now) search.now.request search.now.band) }
 {
     let h = Here {
@@ -142,6 +145,7 @@ fn gather(search: &RowSearch, rows: &mut [u8]) -> usize
 
 // Fills the bytes with them, in their order.
 fn fill_rows(search: &RowSearch, rows: &mut [u8]) -> Result<usize, Refusal>
+    requires { search.now.places.channel_count ≡ channel_count_of (table_of search.now.image.now) search.now.request search.now.band }
     ensures { Filled (searched_rows (table_of search.now.image.now) search.now.request search.now.band) rows.old rows.new result }
 {
     let mut own = [0u8; OWN];

@@ -1,11 +1,11 @@
 // The distance of a dial from the rows of a finished dial list. A public call. It uses figures, codes and rows.
 #![tactic(auto)]
 
-ghost use Rattle.std.specs.Prelude.{◌≡◌, ◌*◌, ◌≤◌, length};
-ghost use Rattle.distance.specs.Distance.{is_outside, distance_to, counts, nearer_of, considered_of, least_up_to, distance_of};
+ghost use Rattle.std.specs.Prelude.{◌≡◌, ◌+◌, ◌*◌, ◌≤◌, length};
+ghost use Rattle.rows.specs.Rows.{low_at, high_at, row_band};
+ghost use Rattle.distance.specs.Distance.{is_outside, distance_to, counts, nearer_of, considered_at, least_up_to, distance_of};
 
 use codes::Refusal;
-use rows::SafeDial;
 
 // What rows are held against: a dial, and which band is the channel band, by bytes 42 and 43 of the image that the rows are of.
 #[derive(Clone, Copy)]
@@ -15,20 +15,22 @@ pub struct Here {
     pub channel_band: u8,
 }
 
-impl Here {
-    // A band that is not the channel band.
-    #[tactic(auto, unfolding(crate::specs::Distance::is_outside))]
-    pub fn is_outside(self, band: u8) -> bool
-        ensures { result ≡ is_outside self.flags self.channel_band band }
-    {
-        !(codes::bit(self.flags, 2) && band == self.channel_band)
-    }
+// A band that is not the channel band.
+#[tactic(auto, unfolding(crate::specs::Distance::is_outside))]
+pub fn is_outside(flags: u8, channel_band: u8, band: u8) -> bool
+    ensures { result ≡ is_outside flags channel_band band }
+{
+    !(codes::bit(flags, 2) && band == channel_band)
+}
 
-    // Whether a row counts.
-    fn counts(self, x: SafeDial) -> bool
-        ensures { result ≡ counts self.flags self.channel_band x.band x.dial_low_hz x.dial_high_hz }
+impl Here {
+    // Whether the row that begins at a place counts. Of one that does not no more is read than says so.
+    fn counts(self, rows: &[u8], at: usize) -> bool
+        requires { at + 36 ≤ length rows.now }
+        ensures { result ≡ counts self.flags self.channel_band (row_band rows.now at) (low_at rows.now at) (high_at rows.now at) }
     {
-        self.is_outside(x.band) && x.dial_low_hz <= x.dial_high_hz
+        is_outside(self.flags, self.channel_band, rows::band_at(rows, at))
+            && rows::low_at(rows, at) <= rows::high_at(rows, at)
     }
 }
 
@@ -55,25 +57,28 @@ fn nearer(best: Option<f64>, by: f64) -> Option<f64>
     }
 }
 
-fn consider(h: Here, best: Option<f64>, x: SafeDial) -> Option<f64>
-    ensures { result ≡ considered_of h.dial_hz h.flags h.channel_band best x }
+#[tactic(auto, unfolding(crate::specs::Distance::considered_at))]
+fn consider(h: Here, best: Option<f64>, rows: &[u8], at: usize) -> Option<f64>
+    requires { at + 36 ≤ length rows.now }
+    ensures { result ≡ considered_at h.dial_hz h.flags h.channel_band rows.now best at }
 {
-    if h.counts(x) {
-        nearer(best, distance_to(h.dial_hz, x.dial_low_hz, x.dial_high_hz))
+    if h.counts(rows, at) {
+        let by = distance_to(h.dial_hz, rows::low_at(rows, at), rows::high_at(rows, at));
+        nearer(best, by)
     } else {
         best
     }
 }
 
 // The least over the first count rows.
-#[tactic(auto, using(crate::specs::Laws::least_step), unfolding(crate::specs::Distance::least_up_to))]
+#[tactic(auto, using(crate::specs::Laws::least_more), unfolding(crate::specs::Distance::least_up_to))]
 fn least(h: Here, count: usize, rows: &[u8]) -> Option<f64>
     requires { count * 36 ≤ length rows.now }
     ensures { result ≡ least_up_to h.dial_hz h.flags h.channel_band rows.now count }
 {
     let mut best = None;
     for i in 0..count {
-        best = consider(h, best, rows::row_at(rows, i * rows::ROW_SIZE));
+        best = consider(h, best, rows, i * rows::ROW_SIZE);
     }
     best
 }

@@ -2,7 +2,8 @@
 // behind a buffer. It uses figures.
 #![tactic(auto)]
 
-ghost use Rattle.std.specs.Prelude.{◌<◌, ◌^◌, IfSome};
+ghost use Rattle.std.specs.Prelude.{◌≡◌, ◌<◌, ◌^◌, IfSome};
+ghost use Rattle.lines.specs.Left.{Takes};
 
 use std::alloc::{AllocError, Global};
 use std::io::{BufWriter, Input, Print, Read, Write};
@@ -35,7 +36,9 @@ pub struct Cursor<'a> {
 }
 
 impl<'a> Cursor<'a> {
-    pub fn new(whole: &'a [u8]) -> Self {
+    pub fn new(whole: &'a [u8]) -> Self
+        ensures { result.left.now ≡ whole.now }
+    {
         Cursor { whole, left: whole }
     }
 
@@ -47,55 +50,73 @@ impl<'a> Cursor<'a> {
     }
 
     // So many bytes.
-    pub fn bytes(&mut self, count: usize) -> Option<&'a [u8]> {
+    pub fn bytes(&mut self, count: usize) -> Option<&'a [u8]>
+        ensures { Takes count self.old.left.now self.new.left.now result }
+    {
         let (taken, left) = self.left.split_at_checked(count)?;
         self.left = left;
         Some(taken)
     }
 
-    pub fn array<const N: usize>(&mut self) -> Option<[u8; N]> {
+    pub fn array<const N: usize>(&mut self) -> Option<[u8; N]>
+        ensures { Takes N self.old.left.now self.new.left.now result }
+    {
         let (taken, left) = self.left.split_first_chunk::<N>()?;
         self.left = left;
         Some(*taken)
     }
 
-    pub fn u8(&mut self) -> Option<u8> {
+    pub fn u8(&mut self) -> Option<u8>
+        ensures { Takes 1 self.old.left.now self.new.left.now result }
+    {
         let (first, left) = self.left.split_first()?;
         self.left = left;
         Some(*first)
     }
 
     // One for each width: `from_le_bytes` is no trait's.
-    pub fn u16(&mut self) -> Option<u16> {
+    pub fn u16(&mut self) -> Option<u16>
+        ensures { Takes 2 self.old.left.now self.new.left.now result }
+    {
         Some(u16::from_le_bytes(self.array()?))
     }
 
-    pub fn u32(&mut self) -> Option<u32> {
+    pub fn u32(&mut self) -> Option<u32>
+        ensures { Takes 4 self.old.left.now self.new.left.now result }
+    {
         Some(u32::from_le_bytes(self.array()?))
     }
 
-    pub fn u64(&mut self) -> Option<u64> {
+    pub fn u64(&mut self) -> Option<u64>
+        ensures { Takes 8 self.old.left.now self.new.left.now result }
+    {
         Some(u64::from_le_bytes(self.array()?))
     }
 
-    pub fn i64(&mut self) -> Option<i64> {
+    pub fn i64(&mut self) -> Option<i64>
+        ensures { Takes 8 self.old.left.now self.new.left.now result }
+    {
         Some(i64::from_le_bytes(self.array()?))
     }
 
     // A figure, by its bits.
-    pub fn f64(&mut self) -> Option<f64> {
+    pub fn f64(&mut self) -> Option<f64>
+        ensures { Takes 8 self.old.left.now self.new.left.now result }
+    {
         Some(figures::figure(self.u64()?))
     }
 
     // A number of bytes or of records, or a place, in two bytes and in four.
     pub fn small(&mut self) -> Option<usize>
-        ensures { IfSome result (λ n. n < 2 ^ 16) }
+        ensures within { IfSome result (λ n. n < 2 ^ 16) }
+        ensures takes { Takes 2 self.old.left.now self.new.left.now result }
     {
         Some(self.u16()? as usize)
     }
 
     pub fn size(&mut self) -> Option<usize>
-        ensures { IfSome result (λ n. n < 2 ^ 32) }
+        ensures within { IfSome result (λ n. n < 2 ^ 32) }
+        ensures takes { Takes 4 self.old.left.now self.new.left.now result }
     {
         Some(self.u32()? as usize)
     }

@@ -58,7 +58,7 @@ fn better(dial_hz: f64, best: Option<f64>, x: f64) -> Option<f64>
 pub fn consider(h: Here, best: Option<f64>, x: SafeDial) -> Option<f64>
     ensures { result ≡ considered_of h.dial_hz h.flags h.channel_band best x }
 {
-    if h.is_outside(x.band) {
+    if distance::is_outside(h.flags, h.channel_band, x.band) {
         better(
             h.dial_hz,
             best,

@@ -36,7 +36,7 @@ fn shared_with(m: Option<u8>, window: Range, r: Record) -> Option<Range>
 }
 
 // One table of an image: its number, where its records begin, and how many it has.
-#[derive(Drop)]
+#[derive(Clone, Copy)]
 pub struct Ranges<'a> {
     pub image: &'a Image<'a>,
     pub table: usize,

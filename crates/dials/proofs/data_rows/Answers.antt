@@ -15,7 +15,7 @@ loop-i-preserved c =
     let a = c.args in
     let f = segment_rows_at (table_of a.search.now.image.now) a.search.now.request in
     let over = nearest_over a.h.dial_hz a.h.flags a.h.channel_band in
-    let here = segment_read _ _ _ a.search.now.searched.0 c.loop-i.i c.loop-i-test.true c.record_at-r.result c.record_at-r.ensures in
+    let here = segment_read _ _ _ a.search.now.known c.loop-i.i c.loop-i-test.true c.record_at-r.result c.record_at-r.ensures in
     let step = from_step a.search.now.places.segment_count c.loop-i.i f c.loop-i-test.true in (
       pouring_more _ _ _ _ _ _ _ _ _ _ c.loop-i.invariant.0 step (rw here at c.segment_rows-t.ensures.0),
       ap (λ (x : Option Float). over x (from a.search.now.places.segment_count f (c.loop-i.i + 1))) (c.segment_rows-t.ensures.1 ∙ ap (over c.loop-i.t.best) here)

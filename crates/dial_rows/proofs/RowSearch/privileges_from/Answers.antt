@@ -11,7 +11,7 @@ returns-in-Some c =
     let x = a.self.now in
     let more = privileges_from (table_of x.image.now) x.request (segment_of a.r) in
     c.loop-i.invariant
-    ∙ privilege_turn_holds _ _ _ x.searched.0 _ c.loop-i-test.true a.r _ _ c.pair_from.ensures
+    ∙ privilege_turn_holds _ _ _ x.known _ c.loop-i-test.true a.r _ _ c.pair_from.ensures
     ∙ ap (privilege_turn x.places.cuts c.loop-i.i more) c.in-Some.is
     ∙ ap (λ s. c.in-Some.row ∷ more s) (sym c.behind.ensures)
 
@@ -20,8 +20,8 @@ loop-i-preserved c =
     let a = c.args in
     let x = a.self.now in
     c.loop-i.invariant
-    ∙ privilege_turn_holds _ _ _ x.searched.0 _ c.loop-i-test.true a.r _ _ c.pair_from.ensures
+    ∙ privilege_turn_holds _ _ _ x.known _ c.loop-i-test.true a.r _ _ c.pair_from.ensures
     ∙ ap (privilege_turn x.places.cuts c.loop-i.i (privileges_from (table_of x.image.now) x.request (segment_of a.r))) c.in_default.is
 
 pub returns : goal.returns
-returns c = c.loop-i.invariant ∙ privileges_end _ _ _ _ _ _ c.args.self.now.searched.0.past c.loop-i-test.false
+returns c = c.loop-i.invariant ∙ privileges_end _ _ _ _ _ _ c.args.self.now.known.past c.loop-i-test.false
