@@ -25,11 +25,11 @@ use Rattle.amend.specs.Amend.{amend_tests}
 
 -- ---- what an accepted base leaves to be asked of the effective image
 
-record Kept (table : Table) : Type 0 where
-  coded : coded_block table ≡ true
-  sound : sound_block table.general ≡ true
-  stocked : bare table ≡ false
-  limited : unlimited table.general ≡ false
+pub record Kept (table : Table) : Type 0 where
+  pub coded : coded_block table ≡ true
+  pub sound : sound_block table.general ≡ true
+  pub stocked : bare table ≡ false
+  pub limited : unlimited table.general ≡ false
 
 kept_base : (l : List ℕ) → check_of l ≡ Ok tt → Kept (table_of l)
 unfolding check_of miscoded unsound
@@ -65,6 +65,9 @@ module _ (l a : List ℕ) (day : ℕ) (w : Whole l) where
 
   pub kept_limited : check_of l ≡ Ok tt → unlimited (general_of (effective_of l a day)) ≡ false
   kept_limited e = ap unlimited (general_same l a day w) ∙ (kept_base l e).limited
+
+  pub kept : check_of l ≡ Ok tt → Kept (table_of (effective_of l a day))
+  kept e = record { coded = kept_coded e; sound = kept_sound e; stocked = kept_stocked e; limited = kept_limited e }
 
 -- in form: of its checks those on the content are left
 pub check_content :

@@ -1,2 +1,4 @@
 pub mod Amend
 pub mod Laws
+pub mod Copies
+pub mod Put

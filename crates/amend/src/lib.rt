@@ -30,14 +30,14 @@ fn put_record(out: &mut [u8], e: &Effective, k: usize)
 }
 
 // The effective image, from the first byte on.
-#[tactic(auto, using(crate::specs::Laws::put_none, crate::specs::Laws::put_more), unfolding(amended::specs::Amended::effective_of))]
+#[tactic(auto, using(crate::specs::Copies::put_base, crate::specs::Laws::put_more), unfolding(amended::specs::Amended::effective_of))]
 fn put_image(out: &mut [u8], e: &Effective)
     requires { length e.now.of.image.now ≤ length out.old }
     ensures { out.new ≡ effective_of e.now.of.image.now e.now.of.list.bytes.now e.now.of.day ++ drop (length e.now.of.image.now) out.old }
 {
     let image = e.of.image;
     let bytes = image.bytes;
-    out[..bytes.len()].copy_from_slice(bytes);
+    convert::put_part(out, 0, bytes, 0, bytes.len());
     for k in 0..layout::records_before(bytes, layout::TABLES) as usize {
         put_record(out, e, k);
     }

@@ -40,10 +40,12 @@ pub fn put_figure(out: &mut [u8], at: usize, x: f64)
     put(out, at, 8, bits(x));
 }
 
-// The first bytes of one slice into another.
+// The first bytes of one slice into another, byte by byte.
 pub fn copy(out: &mut [u8], from: &[u8], room: usize)
     requires { (room ≤ length out.old) × (room ≤ length from.now) }
     ensures { out.new ≡ paste out.old 0 from.now room }
 {
-    out[..room].copy_from_slice(&from[..room]);
+    for k in 0..room {
+        out[k] = from[k];
+    }
 }

@@ -1,16 +1,16 @@
 -- Laws of the converters: how their tests stand to the image check's, and that what is put is the other edition's image.
-use Rattle.std.specs.Prelude.{ℕ, ◌+◌, ◌-◌, ◌≤◌, Bool, true, not, List, ◌++◌, ◌≡◌, refl, eqb, drop, Ok, Err}
+use Rattle.std.specs.Prelude.{ℕ, ◌+◌, ◌-◌, ◌≤◌, Bool, true, not, List, [], ◌++◌, ◌≡◌, refl, eqb, drop, Ok, Err}
 use Rattle.codes.specs.declared.Refusal.TheVariants as refusal
 use Rattle.codes.specs.Refusal.{Checked, refusal_of}
 use Rattle.std.proofs.Math.Bool.{false, cond}
-use Rattle.std.proofs.Common.{true≢false, append_assoc, ◌∙◌, eq-eqb, eqb-true, length-drop, drop-drop}
+use Rattle.std.proofs.Common.{true≢false, append_assoc, append-nil, ◌∙◌, le_refl, eq-eqb, eqb-true, length-drop, take-append-drop, drop_of_length-le, drop-drop}
 use Rattle.std.proofs.lemmas.Bool.{false≢true}
 use Rattle.std.proofs.lemmas.Bool.{not-false}
 use Rattle.std.proofs.Math.Path.{sym, ap}
 use native.Mathlib.Omega.{arith}
 use Rattle.std.proofs.Math.ListN.{length, take, length-append}
 use Rattle.std.proofs.lemmas.List.Edits.{sets, sets-eq}
-use Rattle.std.proofs.Math.Seq.{length-take-le}
+use Rattle.std.proofs.Math.Seq.{paste, length-take-le}
 use borrow.Rule.Slice.PartMut.{put_mid}
 use Rattle.codes.specs.Laws.{none_fails}
 use Rattle.layout.specs.Layout.{general_size, watts_size, trailer_size, edition_of, trailer_of, tables_from, fixed_channel_watts, fixed_segment_watts}
@@ -86,15 +86,41 @@ module _ (l : List ℕ) where
 
 -- ---- a part of an image, copied
 
-pub part_put :
+take_whole : (l : List ℕ) (n : ℕ) → length l ≤ n → take n l ≡ l
+take_whole l n h = sym (append-nil (take n l)) ∙ ap (λ (m : List ℕ). take n l ++ m) (sym (drop_of_length-le l h)) ∙ take-append-drop n l
+
+pub part_mid :
     (out image part : List ℕ) (to from count : ℕ) → to + count ≤ length out → from + count ≤ length image
     → part ≡ take (from + count - from) (drop from image)
     → put_mid to (to + count - to) out part ≡ sets out to (take count (drop from image))
-part_put out image part to from count h k e =
+part_mid out image part to from count h k e =
     let t : to + count - to ≡ count = omega arith in
     let f : from + count - from ≡ count = omega arith in
     let v : length (take count (drop from image)) ≡ count = length-take-le count (drop from image) (rw (length-drop from image) (omega arith)) in
     rw t (rw e (rw f (rw (sets-eq (take count (drop from image)) out to (omega arith)) (rw v (rw (drop-drop count to out) (sym (append_assoc (take to out) (take count (drop from image)) (drop (to + count) out))))))))
+
+-- the same, as a copy into what is behind a place leaves it
+pub part_put :
+    (out image : List ℕ) (to from count : ℕ) → to + count ≤ length out → from + count ≤ length image
+    → take to out ++ (paste (take (length out - to) (drop to out)) 0 (take (length image - from) (drop from image)) count
+    ++ drop (length out - to) (drop to out))
+    ≡ sets out to (take count (drop from image))
+part_put out image to from count h k =
+    let part = take count (drop from image) in
+    let a : take (length out - to) (drop to out) ≡ drop to out = take_whole (drop to out) (length out - to) (rw (length-drop to out) (le_refl _)) in
+    let b : take (length image - from) (drop from image) ≡ drop from image =
+    take_whole (drop from image) (length image - from) (rw (length-drop from image) (le_refl _)) in
+    let e : drop (length out - to) (drop to out) ≡ [] = drop_of_length-le (drop to out) {i = length out - to} (rw (length-drop to out) (le_refl _)) in
+    let z : 0 + count ≡ count = omega arith in
+    let v : length part ≡ count = length-take-le count (drop from image) (rw (length-drop from image) (omega arith)) in
+    rw a
+    (rw b
+    (rw e
+    (rw z
+    (ap (λ (m : List ℕ). take to out ++ m) (append-nil (part ++ drop count (drop to out)))
+    ∙ ap (λ (m : List ℕ). take to out ++ (part ++ m)) (drop-drop count to out)
+    ∙ sym (append_assoc (take to out) part (drop (to + count) out))
+    ∙ sym (sets-eq part out to (omega arith) ∙ ap (λ (i : ℕ). take to out ++ part ++ drop (to + i) out) v)))))
 
 -- ---- the raised image
 

@@ -61,7 +61,7 @@ pub fn put_part(out: &mut [u8], to: usize, image: &[u8], from: usize, count: usi
     requires { (to + count ≤ length out.old) × (from + count ≤ length image.now) }
     ensures { out.new ≡ sets out.old to (take count (drop from image.now)) }
 {
-    out[to..to + count].copy_from_slice(&image[from..from + count]);
+    byte_writes::copy(&mut out[to..], &image[from..], count);
 }
 
 // The raised image, where it fits.

@@ -1,5 +1,6 @@
 pub mod Rows
 pub mod Held
+pub mod Shift
 pub mod Turns
 pub mod Pour
 pub mod Back

@@ -1,10 +1,9 @@
 -- What the loops over bytes know at each turn.
 use Prim.Native.Nat.{ℕ, zero, suc, ◌+◌, ◌*◌, ◌-◌, ◌<◌, ◌≤◌}
 use Rattle.std.specs.Prelude.{Bool, true, false, cond, List, ◌∷◌, ◌++◌, ◌≡◌, refl, length, take, drop, set, Float}
-use Rattle.std.proofs.Common.{sym, ap, ◌∙◌, length-append, length-drop, length-take-le}
+use Rattle.std.proofs.Common.{sym, ap, ◌∙◌, length-append}
 use native.Mathlib.Omega.{arith}
-use Rattle.std.proofs.lemmas.List.Edits.{sets, sets-eq}
-use Rattle.std.proofs.Math.Seq.{paste}
+use Rattle.std.proofs.lemmas.List.Edits.{sets}
 use Rattle.std.specs.Float.Ieee.{lt}
 use Rattle.figures.specs.Figure.{total_less}
 use Rattle.byte_writes.specs.Bytes.{figure_bytes, little}
@@ -13,14 +12,6 @@ use Rattle.rows.specs.Rows.{row_size, figures_of, encode_row, low_at}
 use Rattle.order.specs.Total.{above_not_less}
 use Rattle.rows.specs.declared.SafeDial.{SafeDial}
 use Rattle.rows.specs.Held.{follows_at, place_at, insert_from, insert_at}
-
--- bytes moved up by a row, byte after byte
-pub moved_up :
-    (l : List ℕ) (at to : ℕ) → at ≤ to → to + row_size ≤ length l
-    → paste l (at + row_size) (drop at l) (to - at) ≡ sets l (at + row_size) (take (to - at) (drop at l))
-moved_up l at to h fit =
-    let e : length (take (to - at) (drop at l)) ≡ to - at = omega (arith, length-take-le (to - at) (drop at l), length-drop {A = ℕ}) in
-    rw (sets-eq (take (to - at) (drop at l)) l (at + row_size) (omega arith)) (rw e)
 
 -- ---- the place of a row
 

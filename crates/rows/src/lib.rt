@@ -2,9 +2,9 @@
 // It uses figures, profile, layout and byte_writes; its laws use lists and order.
 #![tactic(auto)]
 
-ghost use Rattle.std.specs.Prelude.{◌≡◌, ◌+◌, ◌*◌, ◌≤◌, length};
+ghost use Rattle.std.specs.Prelude.{◌≡◌, ◌+◌, ◌*◌, ◌-◌, ◌≤◌, length, take, drop};
 ghost use Rattle.std.proofs.lemmas.List.Edits.{sets};
-ghost use Rattle.rows.specs.Rows.{figures_of, encode_row, low_at, row_at};
+ghost use Rattle.rows.specs.Rows.{figures_of, encode_row, low_at, high_at, row_band, row_at};
 ghost use Rattle.rows.specs.Held.{follows_at, place_at, insert_at, row_of, offer_at};
 
 use profile::Range;
@@ -71,6 +71,22 @@ pub fn low_at(rows: &[u8], at: usize) -> f64
     figures::figure(layout::u64_at(rows, at + 16))
 }
 
+// Its upper dial and its band.
+pub fn high_at(rows: &[u8], at: usize) -> f64
+    requires { at + 36 ≤ length rows.now }
+    ensures { result ≡ high_at rows.now at }
+{
+    let bits = layout::u64_at(rows, at + 24);
+    figures::figure(bits)
+}
+
+pub fn band_at(rows: &[u8], at: usize) -> u8
+    requires { at + 36 ≤ length rows.now }
+    ensures { result ≡ row_band rows.now at }
+{
+    layout::byte_at(rows, at + 32)
+}
+
 // The place of a lower dial among the first count rows: after the last row that does not lie above it.
 #[tactic(auto, using(crate::specs::Turns::place_below, crate::specs::Turns::place_none))]
 fn place(rows: &[u8], count: usize, dial_low_hz: f64) -> usize
@@ -85,15 +101,25 @@ fn place(rows: &[u8], count: usize, dial_low_hz: f64) -> usize
     0
 }
 
-// Puts a row in its place among the first count rows: the bytes from there to their end move up by a row.
-#[tactic(auto, using(crate::specs::Turns::place_le, crate::specs::Turns::moved_up), unfolding(crate::specs::Held::insert_at, crate::specs::Held::insert_from))]
+// Moves the bytes between two places up by a row, the last first.
+fn shift(rows: &mut [u8], from: usize, to: usize)
+    requires { (from ≤ to) × (to + 36 ≤ length rows.old) }
+    ensures { rows.new ≡ sets rows.old (from + 36) (take (to - from) (drop from rows.old)) }
+{
+    for k in (from..to).rev() {
+        rows[k + ROW_SIZE] = rows[k];
+    }
+}
+
+// Puts a row in its place among the first count rows.
+#[tactic(auto, using(crate::specs::Turns::place_le), unfolding(crate::specs::Held::insert_at, crate::specs::Held::insert_from))]
 fn insert(rows: &mut [u8], count: usize, row: SafeDial)
     requires { count * 36 + 36 ≤ length rows.old }
     ensures { rows.new ≡ insert_at row count rows.old }
 {
     let end = count * ROW_SIZE;
     let at = place(rows, count, row.dial_low_hz) * ROW_SIZE;
-    rows.copy_within(at..end, at + ROW_SIZE);
+    shift(rows, at, end);
     put_row(rows, at, row);
 }
 

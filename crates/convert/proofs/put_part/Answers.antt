@@ -5,4 +5,5 @@ use Rattle.convert.proofs.put_part.Goals as goal
 pub returns : goal.returns
 returns c =
     let a = c.args in
-    part_put a.out.now a.image.now _ a.to a.from a.count c.requires.0 c.requires.1 c.copy_from_slice.ensures.after
+    rw c.copy.ensures
+    (part_put a.out.now a.image.now a.to a.from a.count c.requires.0 c.requires.1)
