@@ -1,7 +1,8 @@
 -- The counts, code by code: one dial more adds one to its code's.
-use Rattle.std.specs.Prelude.{◌≡◌, ℕ, zero, suc, ◌+◌, ◌-◌, ◌<◌, ◌≤◌, Bool, true, false, cond, List, length, set, replicate, ◌==◌, slice_index, slice_set}
+use Rattle.std.specs.Prelude.{◌≡◌, ℕ, zero, suc, ◌+◌, ◌-◌, ◌<◌, ◌≤◌, ◌≢◌, Bool, true, false, cond, List, length, set, replicate, ◌==◌, slice_index, slice_set}
 use Rattle.std.proofs.Math.Path.{refl}
 use Rattle.std.proofs.Common.{sym, ap, ◌∙◌, eq-eqb, ne_eqb, length-set, ext_get_or, get_or-set_same, get_or-set_other}
+use Rattle.std.proofs.lemmas.List.{get_or-replicate}
 use Rattle.std.proofs.Math.Decide.{ℕ_discrete}
 use native.Mathlib.Omega.{arith}
 use Rattle.census.specs.Census.{many, listed, counts_of}
@@ -91,3 +92,36 @@ module _ (code : ℕ → ℕ) where
         ∙ ap (λ (k : List ℕ). set k (code n - 1) (slice_index k (code n - 1) + 1)) held
         ∙ count_step n m.above m.within
         ∙ ap (counts_of code) s
+
+  -- where each has one code: noughts but in its place
+  module _ (c : ℕ) (same : (k : ℕ) → code k ≡ c) where
+    many_same : (n : ℕ) → many code c n ≡ n
+    unfolding many
+    many_same zero = refl
+    many_same (suc n) = ap (λ (t : Bool). many code c n + cond t 1 0) (eq-eqb (code n) c (same n)) ∙ omega (arith, many_same n)
+
+    many_other : (d : ℕ) → d ≢ c → (n : ℕ) → many code d n ≡ 0
+    unfolding many
+    many_other d e zero = refl
+    many_other d e (suc n) =
+        ap (λ (t : Bool). many code d n + cond t 1 0) (ne_eqb (code n) d (λ q. e (sym q ∙ same n))) ∙ omega (arith, many_other d e n)
+
+    pub count_same : Numbered c → (at n : ℕ) → at ≡ c - 1 → slice_set (replicate 25 0) at n ≡ counts_of code n
+    count_same m at n p =
+        let s : length (slice_set (replicate 25 0) at n) ≡ 25 = length-set (replicate 25 0) at n in
+        ext_get_or 0 (slice_set (replicate 25 0) at n) (counts_of code n) (s ∙ sym (count_length n)) (λ i h. each i (omega (arith, s, h)) (ℕ_discrete i at))
+      where
+        each : (i : ℕ) → i < 25 → Dec (i ≡ at) → slice_index (slice_set (replicate 25 0) at n) i ≡ slice_index (counts_of code n) i
+        each i h (yes e) =
+            let q : 1 + i ≡ c = omega (arith, m.above) in
+            ap (λ (j : ℕ). slice_index (slice_set (replicate 25 0) at n) j) e
+            ∙ get_or-set_same (replicate 25 0) at n 0 (omega arith)
+            ∙ sym (count_at n i h ∙ ap (λ (j : ℕ). many code j n) q ∙ many_same n)
+        each i h (no e) =
+            get_or-set_other (replicate 25 0) at i n 0 e
+            ∙ get_or-replicate 25 i 0 0 h
+            ∙ sym (count_at n i h ∙ many_other (1 + i) (λ q. e (omega (arith, m.above))) n)
+
+-- and so the counts of that code itself
+pub counts_one : (code : ℕ → ℕ) (c : ℕ) → ((k : ℕ) → code k ≡ c) → Numbered c → (n : ℕ) → counts_of (λ k. c) n ≡ counts_of code n
+counts_one code c same m n = sym (count_same (λ k. c) c (λ k. refl) m (c - 1) n refl) ∙ count_same code c same m (c - 1) n refl

@@ -4,3 +4,4 @@ pub mod Signed
 pub mod Coded
 pub mod Counts
 pub mod Front
+pub mod Same

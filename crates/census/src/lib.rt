@@ -2,12 +2,14 @@
 // entry, decision, verdict, barred and numbers; its definitions use table too, and its laws profile, layout, part97 and judged.
 #![tactic(auto)]
 
-ghost use Rattle.std.specs.Prelude.{◌≡◌, ◌-◌, ◌<◌, ◌≤◌, unsigned_abs};
+ghost use Rattle.std.specs.Prelude.{◌≡◌, ◌-◌, ◌<◌, ◌≤◌, Float, IfSome, unsigned_abs};
 ghost use Rattle.codes.specs.Refusal.{refusal_of};
 ghost use Rattle.census.specs.Census.{farthest, most, undialled, dial_at, code_on, counts_of, counted, front_tests, census_of};
 ghost use Rattle.census.specs.Lifted.{lift, no_stretch, far_of, marked, stretch_of};
+ghost use Rattle.census.specs.Counts.{Numbered};
 
-use codes::{Checked, Refusal};
+use codes::{Checked, Policy, Refusal};
+use decision::Code;
 use occupancy::Edges;
 use station::StationRecord;
 use transmission::{Call, Station, Transmission};
@@ -121,6 +123,32 @@ fn code_at(x: &Transmission, hz: f64) -> u8
     numbers::code_number(b.code)
 }
 
+// The code of every dial, where no dial is looked at: under another policy than Rules, and under Rules where a prerequisite besides the dial is
+// missing. It is not asked at each.
+fn same_everywhere(x: &Transmission) -> Option<u8>
+    ensures { IfSome result (λ c. (hz : Float) → code_on x.now hz ≡ c) }
+{
+    match x.station.situation.policy {
+        Policy::Rules => {
+            let image = x.station.in_force();
+            let nowhere = Transmission { dial: None, ..*x };
+            match verdict::ready(image, &nowhere) {
+                Ok(_) => None,
+                Err(m) => {
+                    let code = numbers::code_number(Some(m.code));
+                    if code == numbers::code_number(Some(Code::NoDial)) {
+                        return None;
+                    }
+                    Some(code)
+                }
+            }
+        }
+        Policy::Unset => Some(numbers::code_number(Some(Code::NoProfile))),
+        Policy::NoProfile => Some(numbers::code_number(Some(Code::NoRules))),
+        Policy::Broken => Some(numbers::code_number(Some(Code::ProfileBroken))),
+    }
+}
+
 // Where the count of a code stands: code 1 first.
 fn place(code: u8) -> usize
     requires { 0 < code }
@@ -145,6 +173,31 @@ fn count_all(x: &Transmission, first: i64, count: u64) -> Census
     Census {
         refusal: Ok(()),
         counts,
+    }
+}
+
+// A stretch whose dials all have one code.
+fn count_same(code: u8, count: u64) -> Census
+    requires { Numbered code × (count ≤ most) }
+    ensures { result ≡ counted (counts_of (λ k. code) count) }
+{
+    let mut counts = [0u32; 25];
+    let at = place(code);
+    counts[at] = count as u32;
+    Census {
+        refusal: Ok(()),
+        counts,
+    }
+}
+
+// A stretch counted: at once where its dials have one code, and else dial by dial.
+fn count_stretch(x: &Transmission, first: i64, count: u64) -> Census
+    requires { (unsigned_abs first ≤ farthest) × (count ≤ most) }
+    ensures { result ≡ counted (counts_of (λ k. code_on x.now (dial_at first k)) count) }
+{
+    match same_everywhere(x) {
+        Some(code) => count_same(code, count),
+        None => count_all(x, first, count),
     }
 }
 
@@ -183,7 +236,7 @@ pub fn census_of(
                 direction: direction.into(),
                 edges: entry::edges_read(e),
             };
-            count_all(&x, first, count)
+            count_stretch(&x, first, count)
         }
     }
 }

@@ -113,6 +113,20 @@ fn of_band(r: Record, n: u8) -> bool
     r.band == n
 }
 
+#[tactic(auto, unfolding(crate::specs::Question::asks))]
+fn band_holding(r: Record, n: u8, a: Range) -> bool
+    ensures { result ≡ asks (Question.BandHolds n a) r }
+{
+    r.band == n && holding(r, a)
+}
+
+#[tactic(auto, unfolding(crate::specs::Question::asks))]
+fn channel_overlapping(r: Record, width: f64, a: Range) -> bool
+    ensures { result ≡ asks (Question.ChannelOverlaps width a) r }
+{
+    profile::channel_range(width, table::centre_of(r)).overlaps(a)
+}
+
 // The first of the count records from a place on that a question fits.
 pub fn find_from(s: &[u8], start: usize, count: usize, q: Question) -> Option<usize>
     requires { start + 32 * count ≤ length s.now }
@@ -135,6 +149,10 @@ pub fn pick_in(s: &Image, t: usize, q: Question) -> Option<(usize, Record)>
         Question::ClassHolds(n, a) => pick_class(s, t, n, a),
         Question::Overlaps(a) => table::pick_of(s, t, |r| overlapping(r, a)),
         Question::OfBand(n) => table::pick_of(s, t, |r| of_band(r, n)),
+        Question::BandHolds(n, a) => table::pick_of(s, t, |r| band_holding(r, n, a)),
+        Question::ChannelOverlaps(width, a) => {
+            table::pick_of(s, t, |r| channel_overlapping(r, width, a))
+        }
         _ => table::pick_of(s, t, |r| answers(q, r)),
     }
 }

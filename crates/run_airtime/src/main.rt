@@ -59,24 +59,17 @@ impl Rule {
         })
     }
 
-    fn starts(self, alloc: Global, count: usize) -> Result<Vec<u64>, AllocError> {
-        (0..count as u64)
-            .map(|i| self
-                .first
-                .wrapping_add(self.step.wrapping_mul(i / self.alike)))
-            .collect(alloc)
-    }
-
-    fn bands(self, alloc: Global, count: usize) -> Result<Vec<u8>, AllocError> {
-        (0..count)
-            .map(|i| (i % self.bands & 0xff) as u8)
-            .collect(alloc)
-    }
-
-    fn seconds(self, alloc: Global, count: usize) -> Result<Vec<u16>, AllocError> {
-        (0..count as u64)
-            .map(|i| (i.wrapping_mul(u64::from(self.factor)) & 0xffff) as u16)
-            .collect(alloc)
+    fn fill(self, starts: &mut [u64], bands: &mut [u8], seconds: &mut [u16]) {
+        for (i, x) in starts.iter_mut().enumerate() {
+            let turn = i as u64 / self.alike;
+            *x = self.first.wrapping_add(self.step.wrapping_mul(turn));
+        }
+        for (i, x) in bands.iter_mut().enumerate() {
+            *x = (i % self.bands & 0xff) as u8;
+        }
+        for (i, x) in seconds.iter_mut().enumerate() {
+            *x = ((i as u64).wrapping_mul(u64::from(self.factor)) & 0xffff) as u16;
+        }
     }
 }
 
@@ -141,47 +134,93 @@ fn folded(totals: &[u64]) -> u64 {
     h
 }
 
-// The line of a case: of listed runs each total, of those that are made all of them folded.
-fn answer(alloc: Global, out: &mut impl Write, k: u16, case: Case<'_>) -> io::Result<()> {
-    let mut totals = vec![in alloc; FILL; case.lent]?;
-    match case.runs {
-        Runs::Listed {
-            starts,
-            bands,
-            seconds,
-        } => {
-            let starts = lines::longs(alloc, starts)?;
-            let seconds = lines::words(alloc, seconds)?;
-            called(out, k, &starts, bands, &seconds, &mut totals)?;
-            for t in totals.iter() {
-                write!(out, " {t}")?;
+// Room for the runs of every case: made anew for each, they would cost more than the call.
+#[derive(Drop)]
+struct Room {
+    starts: Vec<u64>,
+    bands: Vec<u8>,
+    seconds: Vec<u16>,
+    totals: Vec<u64>,
+}
+
+impl Room {
+    fn new(alloc: Global) -> Result<Self, AllocError> {
+        Ok(Room {
+            starts: vec![in alloc; 0; ROOM]?,
+            bands: vec![in alloc; 0; ROOM]?,
+            seconds: vec![in alloc; 0; ROOM]?,
+            totals: vec![in alloc; FILL; ROOM]?,
+        })
+    }
+
+    // The line of a case: of listed runs each total, of those that are made all of them folded. None where there is no room, which no case asks for.
+    fn answer(
+        &mut self,
+        alloc: Global,
+        out: &mut impl Write,
+        k: u16,
+        case: Case<'_>,
+    ) -> io::Result<Option<()>> {
+        let Some((totals, _)) = self.totals.split_at_mut_checked(case.lent) else {
+            return Ok(None);
+        };
+        totals.fill(FILL);
+        match case.runs {
+            Runs::Listed {
+                starts,
+                bands,
+                seconds,
+            } => {
+                let starts = lines::longs(alloc, starts)?;
+                let seconds = lines::words(alloc, seconds)?;
+                called(out, k, &starts, bands, &seconds, totals)?;
+                for t in totals.iter() {
+                    write!(out, " {t}")?;
+                }
+            }
+            Runs::Made {
+                starts,
+                bands,
+                seconds,
+                rule,
+            } => {
+                let Some((starts, _)) = self.starts.split_at_mut_checked(starts) else {
+                    return Ok(None);
+                };
+                let Some((bands, _)) = self.bands.split_at_mut_checked(bands) else {
+                    return Ok(None);
+                };
+                let Some((seconds, _)) = self.seconds.split_at_mut_checked(seconds) else {
+                    return Ok(None);
+                };
+                rule.fill(starts, bands, seconds);
+                called(out, k, starts, bands, seconds, totals)?;
+                write!(out, " folded {}", folded(totals))?;
             }
         }
-        Runs::Made {
-            starts,
-            bands,
-            seconds,
-            rule,
-        } => {
-            let starts = rule.starts(alloc, starts)?;
-            let bands = rule.bands(alloc, bands)?;
-            let seconds = rule.seconds(alloc, seconds)?;
-            called(out, k, &starts, &bands, &seconds, &mut totals)?;
-            write!(out, " folded {}", folded(&totals))?;
-        }
+        writeln!(out).map(Some)
     }
-    writeln!(out)
+}
+
+// The cases of the input, in their order.
+fn cases(alloc: Global, out: &mut impl Write, input: &[u8]) -> io::Result<()> {
+    let mut room = Room::new(alloc)?;
+    let mut input = Cursor::new(input);
+    for k in 0..input.u16().unwrap_or(0) {
+        let Some(case) = Case::read(&mut input) else {
+            return Ok(());
+        };
+        let Some(()) = room.answer(alloc, out, k, case)? else {
+            return Ok(());
+        };
+    }
+    Ok(())
 }
 
 fn main(rt: HostRuntime) -> io::Result<()> {
     let alloc = rt.alloc();
     let input = lines::input(&rt, 16384)?;
     let mut out = lines::output(&rt)?;
-    lines::cases(
-        &mut out,
-        &input,
-        Case::read,
-        |out, k, case| answer(alloc, out, k, case).map(Some),
-    )?;
+    cases(alloc, &mut out, &input)?;
     out.flush()
 }

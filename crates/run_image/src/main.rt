@@ -21,6 +21,18 @@ struct Patch<'a> {
     body: &'a [u8],
 }
 
+// Bytes, at a place. None where the image has no room for them.
+fn write_at(image: &mut [u8], place: usize, bytes: &[u8]) -> Option<()> {
+    let room = image.len().checked_sub(bytes.len())?;
+    if room < place {
+        return None;
+    }
+    for k in 0..bytes.len() {
+        image[place + k] = bytes[k];
+    }
+    Some(())
+}
+
 impl<'a> Patch<'a> {
     fn read(input: &mut Cursor<'a>) -> Option<Self> {
         let place = input.size()?;
@@ -40,9 +52,7 @@ impl<'a> Patch<'a> {
     fn put(self, image: &mut [u8]) -> Option<()> {
         let mut place = self.place;
         for _ in 0..self.times {
-            let (_, rest) = image.split_at_mut_checked(place)?;
-            let (written, _) = rest.split_at_mut_checked(self.body.len())?;
-            written.copy_from_slice(self.body);
+            write_at(image, place, self.body)?;
             place = place.checked_add(self.stride)?;
         }
         Some(())

@@ -15,8 +15,8 @@ of-station-requires c p =
     front_whole a.r a.kind a.direction a.e a.image.now a.first a.last (unless_ok _ _ _ (sym said ∙ c.in-Ok.is)).0
     (sym (ap (λ (x : Situation). x.policy) c.situation_of.ensures) ∙ p)
 
-pub count_all-requires : goal.count_all-requires
-count_all-requires c =
+pub count_stretch-requires : goal.count_stretch-requires
+count_stretch-requires c =
     let a = c.args in
     let said = census_said a.r a.kind a.direction a.e a.image.now a.first a.last c.ranges.first c.ranges.last _ _ _
     c.front_refusals-front.ensures c.stretch-dials.ensures c.and.ensures in
@@ -39,6 +39,6 @@ returns-in-Ok c =
     let said = census_said a.r a.kind a.direction a.e a.image.now a.first a.last c.ranges.first c.ranges.last _ _ _
     c.front_refusals-front.ensures c.stretch-dials.ensures c.and.ensures in
     let both = unless_ok _ _ _ (sym said ∙ c.in-Ok.is) in
-    c.count_all.ensures
+    c.count_stretch.ensures
     ∙ counts_same c.of-station.ensures.lends (c.of-station.ensures.reads ∙ c.situation_of.ensures) c.into.ensures c.into-in-Ok.ensures c.edges_read.ensures (to_z-of_z w64 a.first c.ranges.first) both.1
     ∙ census_counted a.r a.kind a.direction a.e a.image.now a.first a.last both.0
