@@ -1,6 +1,6 @@
 -- What the pass over a run knows at each record, and that its totals are those worked out afresh.
 use Prim.Native.Nat.{ℕ, zero, suc, ◌+◌, ◌-◌, ◌<◌, ◌≤◌}
-use Rattle.std.specs.Prelude.{Bool, true, false, cond, ◌&&◌, ◌≡◌, eqb, leb, ltb, drop, get_or, replicate, set}
+use Rattle.std.specs.Prelude.{Bool, true, false, cond, ◌&&◌, ◌≡◌, eqb, leb, ltb, drop, get_or, replicate, set, Ok, Err}
 use mathlib.Core.List.{List, [], ◌∷◌, ◌++◌, append_assoc, append-nil}
 use Rattle.std.proofs.Math.Path.{refl, ap}
 use Rattle.std.proofs.Common.{sym, ◌∙◌, le_trans, length-append, length-set, drop_of_length-le, drop-cons, get_or-set_same, get_or-set_other}
@@ -11,7 +11,8 @@ use Rattle.std.proofs.Math.ListN.{length}
 use Rattle.std.proofs.lemmas.List.{length-replicate, get_or-replicate, set_at}
 use Rattle.scan.specs.Laws.{some_false, and_true}
 use Rattle.lists.specs.Each.{each}
-use Rattle.airtime.specs.Airtime.{sum, recent, of_band, total_of, totals_of, falls_of, runs_fit}
+use Rattle.codes.specs.declared.Refusal.TheVariants as refusal
+use Rattle.airtime.specs.Airtime.{sum, recent, of_band, total_of, totals_of, falls_of, runs_fit, Totalled}
 use Rattle.airtime.specs.Sum.{sum_next, sum_grows, sum_few, sum_from}
 
 -- ---- runs in order, of one length
@@ -233,3 +234,18 @@ module _ (starts bands seconds lent : List ℕ) where
       f.held ∙ ap (λ (l : List ℕ). each i (λ (k : ℕ). total_of starts bands seconds k ∷ []) ++ l) (drop_of_length-le lent n)
       ∙ append-nil (each i (λ (k : ℕ). total_of starts bands seconds k ∷ []))
       ∙ ap (λ (n : ℕ). each n (λ (k : ℕ). total_of starts bands seconds k ∷ [])) s
+
+  -- ---- the answer
+
+  pub totalled_falls : falls_of starts ≡ true → Totalled starts bands seconds lent lent (Err refusal.Starts)
+  totalled_falls e = record { answered = rw e; elements = rw e }
+
+  pub totalled_uneven :
+      falls_of starts ≡ false → runs_fit (length starts) (length bands) (length seconds) (length lent) ≡ false
+      → Totalled starts bands seconds lent lent (Err refusal.Runs)
+  totalled_uneven e f = record { answered = rw e (rw f); elements = rw e (rw f) }
+
+  pub totalled_all :
+      (left : List ℕ) → falls_of starts ≡ false → runs_fit (length starts) (length bands) (length seconds) (length lent) ≡ true
+      → left ≡ totals_of starts bands seconds → Totalled starts bands seconds lent left (Ok (length starts))
+  totalled_all left e f h = record { answered = rw e (rw f); elements = rw e (rw f h) }

@@ -2,15 +2,16 @@
 use Prim.Native.Nat.{ℕ, zero, suc, ◌+◌, ◌*◌, ◌-◌, ◌%◌, ◌<◌, ◌≤◌}
 use Rattle.std.specs.Prelude.{Option, Some, None, Bool, true, false, not, cond, ◌&&◌, List, ◌≡◌, refl, eqb, leb, length, get_or, set, replicate}
 use Rattle.std.specs.Option.{IfSome}
-use Rattle.std.proofs.Common.{sym, ap, ◌∙◌, eq-eqb, ne_eqb, eqb-true, leb-false, length-set, get_or-set_same, get_or-set_other}
-use Rattle.std.proofs.lemmas.Bool.{eqb-false}
+use Rattle.std.proofs.Common.{sym, ap, ◌∙◌, eq-eqb, ne_eqb, eqb-true, leb-false, le-leb, length-set, get_or-set_same, get_or-set_other}
+use Rattle.std.proofs.lemmas.Bool.{eqb-false, lt-leb}
 use native.Mathlib.Omega.{arith}
 use Rattle.scan.specs.First.{some}
 use Rattle.scan.specs.Laws.{some_false}
 use Rattle.layout.specs.Layout.{general_size, watts_size, tables, is_second, count_of, records_before, tables_from}
 use Rattle.layout.specs.Laws.{or_false_both, table_within}
 use Rattle.layout.specs.Form.{Whole}
-use Rattle.amended.specs.Amended.{amendment_size, amendments_in, table_at, index_at, stray_at, list_wrong, named_at, in_force, as_late, latest, counting}
+use Rattle.amended.specs.Amended.{amendment_size, amendments_in, table_at, index_at, day_at, stray_at, list_wrong, named_at, in_force, as_late, latest}
+use Rattle.amended.specs.Amended.{counting}
 
 -- ---- a list that is right
 
@@ -119,7 +120,11 @@ superseded_earlier a day f g j n s e h = record { before = λ i q. go i (in_forc
 unfoldable pub found_from : ℕ → Option ℕ
 found_from e = cond (eqb e 0) None (Some (e - 1))
 
-found_entry : (e : ℕ) → (e ≡ 0 → ⊥) → found_from e ≡ Some (e - 1)
+pub found_nothing : (e : ℕ) → e ≡ 0 → found_from e ≡ None
+unfolding found_from
+found_nothing e h = rw (eq-eqb e 0 h)
+
+pub found_entry : (e : ℕ) → (e ≡ 0 → ⊥) → found_from e ≡ Some (e - 1)
 unfolding found_from
 found_entry e h = rw (ne_eqb e 0 h)
 
@@ -128,6 +133,36 @@ found_place j =
     let n : j + 1 ≡ 0 → ⊥ = λ e. omega arith in
     let p : j + 1 - 1 ≡ j = omega arith in
     found_entry (j + 1) n ∙ ap Some p
+
+module _ (a : List ℕ) (day e j : ℕ) where
+  pub next_future : day < day_at a j → found_from e ≡ superseded a day (found_from e) j
+  next_future h =
+      sym (ap (λ (b : Bool). cond (b && as_late a (found_from e) j) (Some j) (found_from e)) (lt-leb (day_at a j) day h))
+
+  in_force_holds : day_at a j ≤ day → superseded a day (found_from e) j ≡ cond (as_late a (found_from e) j) (Some j) (found_from e)
+  in_force_holds h = ap (λ (b : Bool). cond (b && as_late a (found_from e) j) (Some j) (found_from e)) (le-leb (day_at a j) day h)
+
+  pub next_first : day_at a j ≤ day → e ≡ 0 → found_from (j + 1) ≡ superseded a day (found_from e) j
+  next_first h z = found_place j ∙ sym (in_force_holds h ∙ ap (λ (f : Option ℕ). cond (as_late a f j) (Some j) f) (found_nothing e z))
+
+  module _ (h : day_at a j ≤ day) (n : e ≡ 0 → ⊥) where
+    stands : superseded a day (found_from e) j ≡ cond (leb (day_at a (e - 1)) (day_at a j)) (Some j) (Some (e - 1))
+    stands = in_force_holds h ∙ ap (λ (f : Option ℕ). cond (as_late a f j) (Some j) f) (found_entry e n)
+
+    pub next_earlier : day_at a j < day_at a (e - 1) → found_from e ≡ superseded a day (found_from e) j
+    next_earlier d =
+        found_entry e n ∙ sym (stands ∙ ap (λ (b : Bool). cond b (Some j) (Some (e - 1))) (lt-leb (day_at a (e - 1)) (day_at a j) d))
+
+    pub next_later : day_at a (e - 1) ≤ day_at a j → found_from (j + 1) ≡ superseded a day (found_from e) j
+    next_later d =
+        found_place j ∙ sym (stands ∙ ap (λ (b : Bool). cond b (Some j) (Some (e - 1))) (le-leb (day_at a (e - 1)) (day_at a j) d))
+
+module _ (l a : List ℕ) (day k : ℕ) (f : Option ℕ) (j : ℕ) where
+  pub onward_named : named_at l a j ≡ k → superseded a day f j ≡ onward l a day k f j
+  onward_named e = sym (ap (λ (b : Bool). cond (b && (in_force a day j && as_late a f j)) (Some j) f) (eq-eqb _ _ e))
+
+  pub onward_other : (named_at l a j ≡ k → ⊥) → f ≡ onward l a day k f j
+  onward_other e = sym (ap (λ (b : Bool). cond (b && (in_force a day j && as_late a f j)) (Some j) f) (ne_eqb _ _ e))
 
 -- ---- a pass over the list
 

@@ -3,6 +3,7 @@ use Prim.Native.Nat.{ℕ, zero, suc, ◌+◌, ◌-◌, ◌*◌, ◌/◌, ◌%◌
 use Rattle.std.specs.Prelude.{List, [], ◌∷◌, ◌++◌, ◌≡◌, refl, T, length, drop, set, Float}
 use Rattle.std.proofs.Common.{sym, ap, ◌∙◌, add_assoc, get_or-drop, drop_at}
 use native.Mathlib.Omega.{arith}
+use Rattle.std.proofs.Math.ListN.{length-set}
 use Rattle.std.proofs.lemmas.List.Edits.{sets}
 use Rattle.std.specs.Float.{binary64}
 use Rattle.std.specs.Float.Ieee.{fits, to_bits}
@@ -14,9 +15,17 @@ use Rattle.byte_writes.specs.Bytes.{little, figure_bytes}
 -- ---- a number put byte by byte
 
 pub record Putting (l₀ : List ℕ) (at width x : ℕ) (l : List ℕ) (rest k : ℕ) : Type 0 where
+  pub within : k ≤ width
+  pub same : length l ≡ length l₀
   pub left : sets l (at + k) (little (width - k) rest) ≡ sets l₀ at (little width x)
 
 module _ (l₀ : List ℕ) (at width x : ℕ) where
+  pub put_none : Putting l₀ at width x l₀ x 0
+  put_none =
+      let a : at + 0 ≡ at = omega arith in
+      let b : width - 0 ≡ width = omega arith in
+      record { within = omega arith; same = refl; left = rw a (rw b) }
+
   pub put_step :
       (l : List ℕ) (rest k : ℕ) → Putting l₀ at width x l rest k → k < width
       → Putting l₀ at width x (set l (at + k) (rest % 256)) (rest / 256) (k + 1)
@@ -24,7 +33,11 @@ module _ (l₀ : List ℕ) (at width x : ℕ) where
   put_step l rest k p h =
       let a : at + (k + 1) ≡ suc (at + k) = omega arith in
       let b : width - k ≡ suc (width - (k + 1)) = omega arith in
-      record { left = rw a (rw b at p.left) }
+      record {
+        within = omega arith;
+        same = length-set l (at + k) (rest % 256) ∙ p.same;
+        left = rw a (rw b at p.left);
+      }
 
   pub put_done : (l : List ℕ) (rest k : ℕ) → Putting l₀ at width x l rest k → width ≤ k → l ≡ sets l₀ at (little width x)
   unfolding little

@@ -87,6 +87,10 @@ abbrev pub ceiling_unless_refused : Checked → Climb → CeilingAnswer
 ceiling_unless_refused (Ok tt) c = record { refusal = Ok tt; rung = c.rung; limit = c.limit }
 ceiling_unless_refused (Err n) c = record { refusal = Err n; rung = None; limit = None }
 
+-- an absent decision is Blocked: nobody may take it for a permission
+abbrev pub no_decision : Decision
+no_decision = absent_of (Ok tt)
+
 -- the limit to hand out: where none is met, an absent decision, Blocked, with the answer's refusal; nobody may take it for a permission
 abbrev pub limit_or : Checked → Option Decision → Decision
 limit_or refusal (Some d) = d

@@ -19,7 +19,7 @@ use Rattle.entry.specs.Entry.{edges_read}
 use Rattle.decision.specs.Decision.{is_blocked}
 use Rattle.decision.specs.declared.Decision.{Decision}
 use Rattle.ceiling.specs.Ceiling.{joined_of, climb_start, ended_of, went_on, climb_after, judge_by, rung_judged}
-use Rattle.ceiling.specs.Ceiling.{climb_step, climbed, ceiling_unless_refused, limit_or, limit_of, ceiling_of}
+use Rattle.ceiling.specs.Ceiling.{climb_step, climbed, ceiling_unless_refused, no_decision, limit_or, limit_of, ceiling_of}
 use Rattle.rungs.specs.Rungs.{burst_of, ceiling_tests}
 use Rattle.ceiling.specs.declared.Climb.{Climb}
 use Rattle.ceiling.specs.declared.CeilingAnswer.{CeilingAnswer}
@@ -43,6 +43,10 @@ first_more : (test : ℕ → Bool) (n : ℕ) → first test (suc n) ≡ on_found
 first_more test n =
     let e : n + 0 ≡ n = omega arith in
     from_more test n 0 ∙ ap (λ (k : ℕ). on_found (first test n) Some (cond (test k) (Some k) None)) e
+
+-- where no rung is blocked, an absent decision is handed out
+pub no_limit : limit_or (Ok tt) None ≡ no_decision
+no_limit = refl
 
 -- the rung below rung j, and a run of j rungs ends there
 abbrev pub rung_below : ℕ → Option ℕ

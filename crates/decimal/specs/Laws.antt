@@ -1,10 +1,11 @@
 -- What a double's bits say of its exact value, and the roundings by it.
 use Rattle.std.specs.Prelude.{◌≡◌, ℕ, zero, suc, ◌+◌, ◌-◌, ◌*◌, ◌/◌, ◌%◌, ◌^◌, ◌<◌, ◌≤◌, Bool, true, false, cond, not, T, pos, ◌==◌, nat_le, to_bits, refl, Float}
 use Prim.Native.Nat.{compare, Ordering}
-use Rattle.std.proofs.Common.{sym, ap, ◌∙◌, subst, le_trans, le_of_eq, mul-le-mul_right, mul_right_comm, mul_assoc, mul_comm, mul_left_comm, le_of_mul-le-mul_right, mod-lt, mod-eq_of_lt, add-mul, lt_irrefl, le_of_lt, lt_of_le_of_lt, div-mul-le_self, arith, le→leb, eqb→eq, pow-add, pow_pos, pow_mono}
+use Rattle.std.proofs.Common.{sym, ap, ◌∙◌, subst, le_trans, le_of_eq, mul-le-mul_right, mul_right_comm, mul_assoc, mul_comm, mul_left_comm, le_of_mul-le-mul_right, mod-lt, mod-eq_of_lt, add-mul, lt_irrefl, le_of_lt, lt_of_le_of_lt, div-mul-le_self, add-one, arith, le→leb, eqb→eq, pow-add, pow_pos, pow_mono}
 use Rattle.std.proofs.Math.Nat.{eq_of_mul-eq-mul_right, div-eq_of_lt}
 use Rattle.std.proofs.Math.Decide.{dec_le}
-use Rattle.std.proofs.Math.Dec.{is_le, compare_is_eq}
+use Rattle.std.proofs.Math.Arith.{lt→nleb}
+use Rattle.std.proofs.Math.Dec.{is_le, compare_is_eq, eqb_refl}
 use Rattle.std.specs.Float.{nan, inf, fin, binary64}
 use Rattle.std.specs.Float.Ieee.{fits, up, down, neg, hid, top, ones, odd, of_fields, of_bits, of_int, nearest, is_nan}
 use Rattle.std.specs.Float.Ieee.Bits.{of_bits-to_bits}
@@ -172,8 +173,30 @@ below a b h = go (compare a b) (le→leb a b (le_of_lt h)) (λ t. lt_irrefl b (s
     go Ordering.eq l n = absurd (n tt)
     go Ordering.gt l n = absurd l
 
+level : (a b : ℕ) → a ≡ b → compare a b ≡ Ordering.eq
+level a b e = go (compare a b) (subst (λ (n : ℕ). T (a == n)) e (eqb_refl a))
+  where
+    go : (o : Ordering) → T (compare_is_eq o) → o ≡ Ordering.eq
+    go Ordering.lt t = absurd t
+    go Ordering.eq t = refl
+    go Ordering.gt t = absurd t
+
+above : (a b : ℕ) → b < a → compare a b ≡ Ordering.gt
+above a b h = go (compare a b) (lt→nleb a b h)
+  where
+    go : (o : Ordering) → T (not (is_le o)) → o ≡ Ordering.gt
+    go Ordering.lt t = absurd t
+    go Ordering.eq t = absurd t
+    go Ordering.gt t = refl
+
 pub closest_down : (n c : ℕ) → n % c * 2 < c → n / c ≡ closest n c
 closest_down n c h = sym (ap (nearest (n / c)) (below (n % c * 2) c h))
+
+pub closest_tie : (n c : ℕ) → n % c * 2 ≡ c → n / c + n / c % 2 ≡ closest n c
+closest_tie n c h = sym (ap (nearest (n / c)) (level (n % c * 2) c h))
+
+pub closest_up : (n c : ℕ) → c < n % c * 2 → n / c + 1 ≡ closest n c
+closest_up n c h = add-one (n / c) ∙ sym (ap (nearest (n / c)) (above (n % c * 2) c h))
 
 -- far below a half
 pub closest_nought : (n shift : ℕ) → n < 2 ^ 63 → 63 < shift → 0 ≡ closest n (2 ^ shift)

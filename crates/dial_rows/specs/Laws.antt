@@ -4,25 +4,33 @@ use Rattle.std.proofs.Common.{arith, length-append}
 use Rattle.std.specs.Float.{nan, inf, fin, binary64}
 use Rattle.std.specs.Float.Ieee.{fits, is_nan, add, sub, le}
 use Rattle.std.specs.Float.Ieee.Fits.{add-fits, sub-fits}
+use Rattle.codes.specs.Code.{class_code}
+use Rattle.codes.specs.declared.LicenseClass.{LicenseClass}
+use Rattle.codes.specs.declared.ControlMode.{ControlMode}
+use Rattle.codes.specs.declared.Direction.{Direction}
 use Rattle.codes.specs.declared.Sideband.{Sideband}
 use Rattle.codes.specs.declared.Sideband.TheVariants.{Usb, Lsb}
 use Rattle.profile.specs.Range.{holds_of, intersect_of, channel_range_of}
 use Rattle.profile.specs.declared.Range.{Range}
+use Rattle.profile.specs.declared.DataLimit.{DataLimit}
 use Rattle.scan.specs.Laws.{and_true}
-use Rattle.air.specs.Air.{rf_range_of, guarded_of, dial_range_of, dial_ends_of}
+use Rattle.air.specs.Air.{rf_range_of, guarded_of, width_of, dial_range_of, dial_ends_of}
 use Rattle.air.specs.declared.Margins.{Margins}
 use Rattle.layout.specs.Layout.{segments, channels, privileges, automatic, count_of, general_of}
+use Rattle.layout.specs.declared.General.{General}
 use Rattle.layout.specs.Form.{Whole}
 use Rattle.table.specs.Table.{record_in, table_of}
-use Rattle.table.specs.Parts.{span_of, segment_of, centre_of, privilege_of, channels_of}
+use Rattle.table.specs.Parts.{span_of, segment_of, centre_of, privilege_of, data_of, elsewhere_of, channels_of}
 use Rattle.table.specs.declared.Segment.{Segment}
 use Rattle.table.specs.declared.Privilege.{Privilege}
 use Rattle.table.specs.declared.Channels.{Channels}
+use Rattle.table.specs.declared.Elsewhere.{Elsewhere}
+use Rattle.automatic_97_221.specs.Automatic.{applies_of, elsewhere_allows}
 use Rattle.lists.specs.Each.{each}
 use Rattle.lists.specs.Laws.{Every, each_few, every_append, every_each, every_map}
 use Rattle.rows.specs.Back.{LowNumber}
 use Rattle.rows.specs.declared.SafeDial.{SafeDial}
-use Rattle.dial_rows.specs.Dials.{dial_rows, piece_rows, on_shared, automatic_rows_at, automatic_rows, cut, cut_rows}
+use Rattle.dial_rows.specs.Dials.{request_of, dial_rows, piece_rows, on_shared, automatic_rows_at, automatic_rows, cut, cut_rows}
 use Rattle.dial_rows.specs.Dials.{may_use, privilege_rows, privilege_rows_at, too_wide, excluded_band, privileges_rows}
 use Rattle.dial_rows.specs.Dials.{segment_rows, segment_rows_at, data_rows, channel_dial, channel_holds, channel_safe, channel_row}
 use Rattle.dial_rows.specs.Dials.{channel_rows_at, channels_open, channel_found, channel_rows, open_rows, band_rows, rows_of}
@@ -232,3 +240,25 @@ unfolding rows_of
 rows_fit l q = gathered_fit l q (channels_of (general_of l))
 
 -- ---- the request, from its parts
+
+pub request_made :
+    (g : General) (license : LicenseClass) (sideband : Sideband) (control : ControlMode) (direction : Direction) (margin : Margins) (audio : Range)
+    (class : ℕ) (width : Float) (automatic : Bool) (elsewhere : Option Elsewhere) (ok : Bool) (d : DataLimit)
+    → class ≡ class_code license → width ≡ width_of audio → automatic ≡ applies_of control direction → elsewhere ≡ elsewhere_of g
+    → ok ≡ elsewhere_allows elsewhere width direction → d ≡ data_of g
+    → ◌≡◌ {A = Request}
+    (record {
+      class = class;
+      sideband = sideband;
+      audio = audio;
+      width_hz = width;
+      margin = margin;
+      automatic = automatic;
+      elsewhere_ok = ok;
+      «data» = d;
+      segments_rule = g.automatic_rule;
+    })
+    (request_of g license sideband control direction margin audio)
+unfolding request_of
+request_made g license sideband control direction margin audio class width automatic elsewhere ok d a b c e f h =
+    rw a (rw f (rw b (rw c (rw e (rw h)))))

@@ -9,7 +9,8 @@ use Rattle.std.proofs.Common.{◌∙◌, arith, lt-ltb, le-ltb}
 use Rattle.std.proofs.Math.Decide.{dec_le}
 use Rattle.lists.specs.Each.{each}
 use Rattle.lists.specs.Laws.{each_bare}
-use Rattle.lists.specs.From.{from, from_all, from_each, from_end, resume, resume_row, resume_bare, resume_from, resume_over}
+use Rattle.lists.specs.From.{from, from_all, from_each, from_row, from_skip, from_end}
+use Rattle.lists.specs.From.{resume, resume_row, resume_bare, resume_from, resume_over}
 use Rattle.codes.specs.declared.EmissionKind.TheVariants.{Data}
 use Rattle.profile.specs.Limit.{allows_of}
 use Rattle.profile.specs.Range.{intersect_of}
@@ -153,6 +154,27 @@ module _ (l : List ℕ) (q : Request) (w : Search) (h : Known l q w) where
   pub cut_below : (k : ℕ) → k < w.cuts → w.cut ≡ true → k < count_of l automatic
   cut_below k m e = many (cut q) (count_of l automatic) k (sym h.is_cut ∙ e) (rw h.cut_count at m)
 
+  module _ (s : Segment) (piece : Range) where
+    pub cut_whole : (k : ℕ) → w.cut ≡ false → piece_rows q s.band s.rule piece ≡ cut_at (table_of l) q s piece k
+    cut_whole k e =
+        ap (λ (b : Bool). cond b (automatic_rows_at (table_of l) q s.band piece k) (piece_rows q s.band s.rule piece))
+        (sym (sym h.is_cut ∙ e))
+
+    pub cuts_row :
+        (k : ℕ) (x : SafeDial) → k < w.cuts → cut_at (table_of l) q s piece k ≡ x ∷ []
+        → cuts_from (table_of l) q s piece k ≡ x ∷ cuts_from (table_of l) q s piece (k + 1)
+    unfolding cuts_from
+    cuts_row k x m e = from_row (cuts (table_of l) q) k (cut_at (table_of l) q s piece) x (rw h.cut_count at m) e
+
+    pub cuts_over :
+        (k : ℕ) → k < w.cuts → cut_at (table_of l) q s piece k ≡ [] → cuts_from (table_of l) q s piece k ≡ cuts_from (table_of l) q s piece (k + 1)
+    unfolding cuts_from
+    cuts_over k m e = from_skip (cuts (table_of l) q) k (cut_at (table_of l) q s piece) (rw h.cut_count at m) e
+
+    pub cuts_end : (k : ℕ) → w.cuts ≤ k → cuts_from (table_of l) q s piece k ≡ []
+    unfolding cuts_from
+    cuts_end k m = from_end (cuts (table_of l) q) k (cut_at (table_of l) q s piece) (rw h.cut_count at m)
+
 -- ---- privilege by privilege
 
 and_none : (a b : Bool) → a ≡ false → (a && b) ≡ false
@@ -177,6 +199,24 @@ module _ (table : Table) (q : Request) (s : Segment) where
   pub other_class : (r : Record) (k : ℕ) → eqb r.class q.class ≡ false → privilege_from table q s (privilege_of r) k ≡ []
   unfolding privilege_from
   other_class r k e = rw (and_none (eqb r.class q.class) (allows_of (privilege_of r).emissions Data) e)
+
+  pub not_used : (p : Privilege) (k : ℕ) → may_use q p ≡ false → privilege_from table q s p k ≡ []
+  unfolding privilege_from
+  not_used p k e = ap (λ (b : Bool). cond b (on_shared (intersect_of s.range p.range) (λ r. cuts_from table q s r k)) []) e
+
+  pub nothing_shared : (p : Privilege) (k : ℕ) → intersect_of s.range p.range ≡ None → privilege_from table q s p k ≡ []
+  unfolding privilege_from
+  nothing_shared p k e =
+      none_either_way (may_use q p) (on_shared (intersect_of s.range p.range) (λ r. cuts_from table q s r k))
+      (ap (λ (x : Option Range). on_shared x (λ r. cuts_from table q s r k)) e)
+
+  pub used :
+      (p : Privilege) (piece : Range) → may_use q p ≡ true → intersect_of s.range p.range ≡ Some piece
+      → (k : ℕ) → privilege_from table q s p k ≡ cuts_from table q s piece k
+  unfolding privilege_from
+  used p piece e f k =
+      ap (λ (b : Bool). cond b (on_shared (intersect_of s.range p.range) (λ r. cuts_from table q s r k)) []) e
+      ∙ ap (λ (x : Option Range). on_shared x (λ r. cuts_from table q s r k)) f
 
   begun : (i : ℕ) → i < table.count privileges → privilege_from_at table q s i 0 ≡ privilege_rows_at table q s i
   begun i h = privilege_all table q s (privilege_of (table.at privileges i))

@@ -1,2 +1,3 @@
 pub mod Group
 pub mod Table
+pub mod Laws

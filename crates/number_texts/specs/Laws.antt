@@ -21,7 +21,7 @@ use Rattle.decimal.specs.declared.Decimal.{Decimal}
 use Rattle.digit_groups.specs.Group.{group_of}
 use Rattle.digit_groups.specs.declared.Group.{Group}
 use Rattle.decimal.specs.Within.{Within, limit43, ten, in_size_within, within_more, div_within, mul_within}
-use Rattle.number_texts.specs.Text.{digits, digit_count, sign_text, whole_text, point_text, written, text_of, kilohertz, near_whole, khz_places, sized}
+use Rattle.number_texts.specs.Text.{digits, digit_count, sign_text, whole_text, point_text, written, text_of, kilohertz, near_whole, khz_places, khz_text, sized}
 use Rattle.number_texts.specs.Text.{room_tests, Left, Texted}
 
 -- ---- counting digits
@@ -312,6 +312,20 @@ khz_within hz h = within_more 34 43 (omega arith) (kilohertz hz) (div_within hz 
 pub khz_ten_within : (hz : Float) → sized hz ≡ Ok tt → Within 43 (mul binary64 (kilohertz hz) ten)
 khz_ten_within hz h = within_more 38 43 (omega arith) (mul binary64 (kilohertz hz) ten) (mul_within (kilohertz hz) (div_within hz (hertz_within hz h)))
 
+-- ---- the places of khz
+
+pub khz_none : (k : Float) → near_whole k ≡ true → khz_places k ≡ 0
+unfolding khz_places
+khz_none k h = rw h
+
+pub khz_one : (k : Float) → near_whole k ≡ false → near_whole (mul binary64 k ten) ≡ true → khz_places k ≡ 1
+unfolding khz_places
+khz_one k h t = rw h (rw t)
+
+pub khz_three : (k : Float) → near_whole k ≡ false → near_whole (mul binary64 k ten) ≡ false → khz_places k ≡ 3
+unfolding khz_places
+khz_three k h t = rw h (rw t)
+
 pub places_few : (k : Float) → khz_places k ≤ 3
 unfolding khz_places
 places_few k = go (near_whole k) (near_whole (mul binary64 k ten))
@@ -320,3 +334,8 @@ places_few k = go (near_whole k) (near_whole (mul binary64 k ten))
     go true c = omega arith
     go false true = omega arith
     go false false = omega arith
+
+pub texted_khz : (hz : Float) (places : ℕ) (lent left : List ℕ) (r : Result ℕ Refusal) → in_size limit43 hz ≡ true → khz_places (kilohertz hz) ≡ places
+    → Shown (text_of places (kilohertz hz)) lent left r → Texted hz (khz_text hz) lent left r
+unfolding khz_text
+texted_khz hz places lent left r h e s = rw e (texted_shown hz (text_of places (kilohertz hz)) lent left r (rw h) s)

@@ -1,5 +1,5 @@
 -- Whether a figure is in eighths, by any fraction that is its value.
-use Rattle.std.specs.Prelude.{ℕ, ◌+◌, ◌*◌, ◌/◌, ◌%◌, ◌^◌, ◌≤◌, ◌<◌, Bool, true, false, ◌≡◌, refl, eqb, Float}
+use Rattle.std.specs.Prelude.{ℕ, ◌+◌, ◌*◌, ◌/◌, ◌%◌, ◌^◌, ◌≤◌, ◌<◌, Bool, true, false, not, ◌&&◌, ◌≡◌, refl, eqb, Float}
 use Rattle.std.proofs.Common.{sym, ap, ◌∙◌, mul_right_comm, mod-eq_of_lt, div-add-mod', arith, eq-eqb, eqb-true, pow_mono}
 use Rattle.std.proofs.Math.Nat.{eq_of_mul-eq-mul_right, mul-mod_left}
 use Rattle.std.proofs.Math.Pow.{split}
@@ -11,7 +11,11 @@ use Rattle.eighths.specs.Grid.{in_eighths}
 use Rattle.figures.specs.Figure.{in_size, figure_of}
 use Rattle.decimal.specs.Within.{Within, in_size_power, within_more}
 use Rattle.decimal.specs.Laws.{moved_back}
-use Rattle.on_grid.specs.Within.{limit38, figure_met}
+use Rattle.scan.specs.First.{some}
+use Rattle.layout.specs.Layout.{tables}
+use Rattle.layout.specs.declared.General.{General}
+use Rattle.table.specs.Table.{Table}
+use Rattle.on_grid.specs.Within.{limit38, figure_met, block_met, unmet_in, figures_met}
 
 same : (a b : Bool) → (a ≡ true → b ≡ true) → (b ≡ true → a ≡ true) → a ≡ b
 same true b f g = sym (f refl)
@@ -58,6 +62,15 @@ whole_near n s h k =
 pub size_within : (x : Float) → in_size limit38 x ≡ true → Within 43 x
 unfolding of_bits
 size_within x h = within_more 38 43 (omega arith) x (in_size_power 38 x h)
+
+-- a table, by its block and its records
+pub block_not : (table : Table) (g : General) → g ≡ table.general → block_met g ≡ false → false ≡ figures_met table
+unfolding figures_met
+block_not table g e h = ap (λ (b : Bool). b && not (some (unmet_in table) tables)) (sym h ∙ ap block_met e)
+
+pub block_met_holds : (table : Table) (g : General) → g ≡ table.general → block_met g ≡ true → not (some (unmet_in table) tables) ≡ figures_met table
+unfolding figures_met
+block_met_holds table g e h = ap (λ (b : Bool). b && not (some (unmet_in table) tables)) (sym h ∙ ap block_met e)
 
 -- nought
 pub nought_met : true ≡ figure_met (figure_of 0)

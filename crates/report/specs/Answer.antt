@@ -1,10 +1,10 @@
 -- What the call knows on each way to an answer.
-use Rattle.std.specs.Prelude.{ℕ, ◌≤◌, Bool, true, false, List, [], ◌∷◌, ◌++◌, ◌≡◌, ltb, length, Result, Ok, Err}
+use Rattle.std.specs.Prelude.{ℕ, ◌≤◌, ◌<◌, Bool, true, false, List, [], ◌∷◌, ◌++◌, ◌≡◌, ltb, length, Result, Ok, Err}
 use Rattle.codes.specs.declared.Refusal.TheVariants as refusal
 use Rattle.codes.specs.Refusal.{Checked, test, refusal_of}
 use Rattle.codes.specs.declared.Refusal.{Refusal}
 use Rattle.std.proofs.Math.Path.{refl}
-use Rattle.std.proofs.Common.{sym, ◌∙◌, arith, le-ltb}
+use Rattle.std.proofs.Common.{sym, ◌∙◌, arith, lt-ltb, le-ltb}
 use Rattle.codes.specs.Laws.{refusal_stays, refusal_next, refusal_both}
 use Rattle.lists.specs.Pour.{Poured}
 use Rattle.layout.specs.Form.{Whole}
@@ -43,6 +43,12 @@ filled xs lent left a f = go (filling.too_few (length xs) row_size lent) refl
 module _ (l : List ℕ) (class : ℕ) (lent : List ℕ) where
   rows : List ReportRow
   rows = report_rows (table_of l) class
+
+  pub reported_class : 4 < class → Reported l class lent lent (Err refusal.StationCode)
+  reported_class h =
+      answered_as (refusal_of (report_tests l class lent)) (Err refusal.StationCode) (report_rows (table_of l) class) lent lent (Err refusal.StationCode)
+      (rw (lt-ltb 4 class h))
+      (record { answered = refl; bytes = refl })
 
   pub reported_image : (n : Refusal) (a : Result ℕ Refusal) → class ≤ 4 → check_of l ≡ Err n → a ≡ Err n → Reported l class lent lent a
   unfolding check_of

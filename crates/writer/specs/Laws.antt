@@ -10,7 +10,8 @@ use Rattle.std.proofs.Common.{sym, ◌∙◌, le-ltb, lt-ltb, drop_of_length-le}
 use Rattle.std.proofs.Math.Nat.{mul-suc}
 use native.Mathlib.Omega.{arith}
 use Rattle.std.proofs.Math.ListN.{length, drop, length-append}
-use Rattle.std.proofs.Math.Seq.{sets}
+use Rattle.std.proofs.Math.Seq.{sets, length-sets}
+use Rattle.std.proofs.lemmas.List.{length-drop}
 use Rattle.std.proofs.lemmas.List.Edits.{sets-eq}
 use Rattle.codes.specs.Laws.{refusal_next, refusal_stays}
 use Rattle.layout.specs.Layout.{general_size, trailer_size, tables}
@@ -32,16 +33,24 @@ total (x ∷ xs) = x.0 + total xs
 
 -- what a loop knows that put the first k numbers: there is room for the rest, which make the whole
 pub record Laying (l₀ : List ℕ) (at : ℕ) (xs : List (ℕ × ℕ)) (l : List ℕ) (place k : ℕ) : Type 0 where
+  pub within : k ≤ length xs
+  pub same : length l ≡ length l₀
   pub room : place + total (drop k xs) ≤ length l₀
   pub left : sets l place (littles (drop k xs)) ≡ sets l₀ at (littles xs)
 
 module _ (l₀ : List ℕ) (at : ℕ) (xs : List (ℕ × ℕ)) where
+  pub lay_none : at + total xs ≤ length l₀ → Laying l₀ at xs l₀ at 0
+  lay_none h = record { within = omega arith; same = refl; room = h; left = refl }
+
   pub lay_step :
       (l : List ℕ) (place k : ℕ) (x : ℕ × ℕ) → Laying l₀ at xs l place k → drop k xs ≡ x ∷ drop (k + 1) xs
       → Laying l₀ at xs (sets l place (little x.0 x.1)) (place + x.0) (k + 1)
   unfolding littles
   lay_step l place k x p e =
+      let n : length (drop k xs) ≡ suc (length (drop (k + 1) xs)) = ap length e in
       record {
+        within = omega (arith, n, length-drop k xs, p.within);
+        same = length-sets l place (little x.0 x.1) ∙ p.same;
         room = omega (arith, p.room, ap total e);
         left =
             sets_next (little x.0 x.1) (littles (drop (k + 1) xs)) l place (place + x.0) (ap (λ (i : ℕ). place + i) (length_little x.0 x.1))
@@ -68,14 +77,35 @@ module _ (w : ℕ) (f : ℕ → List ℕ) (each-w : (i : ℕ) → length (f i) �
       omega arith
 
   -- one part more
-  pub gathered_more :
+  pub part_more :
       (l₀ : List ℕ) (at : ℕ) (l : List ℕ) (k : ℕ) → l ≡ sets l₀ at (each k f) → sets l (at + w * k) (f k) ≡ sets l₀ at (each (k + 1) f)
   unfolding each
-  gathered_more l₀ at l k g =
+  part_more l₀ at l k g =
       let s : suc k ≡ k + 1 = omega arith in
       ap (λ (m : List ℕ). sets m (at + w * k) (f k)) g
       ∙ sets_next (each k f) (f k) l₀ at (at + w * k) (ap (λ (i : ℕ). at + i) (each_length k))
       ∙ ap (λ (i : ℕ). sets l₀ at (each i f)) s
+
+  -- what a loop knows that put the first k of so many parts
+  pub record Gathered (l₀ : List ℕ) (at count : ℕ) (l : List ℕ) (k : ℕ) : Type 0 where
+    pub within : k ≤ count
+    pub same : length l ≡ length l₀
+    pub held : l ≡ sets l₀ at (each k f)
+
+  module _ (l₀ : List ℕ) (at count : ℕ) where
+    pub gathered_none : Gathered l₀ at count l₀ 0
+    unfolding each
+    gathered_none = record { within = omega arith; same = refl; held = refl }
+
+    pub gathered_more :
+        (l : List ℕ) (k : ℕ) → Gathered l₀ at count l k → k < count → Gathered l₀ at count (sets l (at + w * k) (f k)) (k + 1)
+    gathered_more l k g h =
+        record { within = omega arith; same = length-sets l (at + w * k) (f k) ∙ g.same; held = part_more l₀ at l k g.held }
+
+    pub gathered_all : (l : List ℕ) (k : ℕ) → Gathered l₀ at count l k → count ≤ k → l ≡ sets l₀ at (each count f)
+    gathered_all l k g h =
+        let e : k ≡ count = omega (arith, g.within) in
+        g.held ∙ ap (λ (i : ℕ). sets l₀ at (each i f)) e
 
 -- ---- how long the parts are
 
@@ -111,12 +141,12 @@ records_length r count = each_length 32 (λ k. record_bytes (record_from r k)) (
 pub records_more :
     (l₀ : List ℕ) (at : ℕ) (l : List ℕ) (r : Runs) (k : ℕ) → l ≡ sets l₀ at (records_bytes r k)
     → sets l (at + 32 * k) (record_bytes (record_from r k)) ≡ sets l₀ at (records_bytes r (k + 1))
-records_more l₀ at l r k = gathered_more 32 (λ i. record_bytes (record_from r i)) (λ i. record_length (record_from r i)) l₀ at l k
+records_more l₀ at l r k = part_more 32 (λ i. record_bytes (record_from r i)) (λ i. record_length (record_from r i)) l₀ at l k
 
 pub counts_more :
     (l₀ : List ℕ) (at : ℕ) (l n : List ℕ) (k : ℕ) → l ≡ sets l₀ at (count_bytes n k)
     → sets l (at + 2 * k) (little 2 (count_from n k)) ≡ sets l₀ at (count_bytes n (k + 1))
-counts_more l₀ at l n k = gathered_more 2 (λ i. little 2 (count_from n i)) (λ i. length_little 2 (count_from n i)) l₀ at l k
+counts_more l₀ at l n k = part_more 2 (λ i. little 2 (count_from n i)) (λ i. length_little 2 (count_from n i)) l₀ at l k
 
 pub counts_length : (n : List ℕ) (t : ℕ) → length (count_bytes n t) ≡ 2 * t
 counts_length n t = each_length 2 (λ i. little 2 (count_from n i)) (λ i. length_little 2 (count_from n i)) t

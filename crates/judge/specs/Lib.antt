@@ -1,0 +1,2 @@
+-- The way a band is judged.
+pub mod Way
