@@ -134,7 +134,7 @@ fn folded(totals: &[u64]) -> u64 {
     h
 }
 
-// Room for the runs of every case: made anew for each, they would cost more than the call.
+// Room for the runs that a rule makes and for the totals: made anew for each case, it would cost more than the call.
 #[derive(Drop)]
 struct Room {
     starts: Vec<u64>,
@@ -202,11 +202,17 @@ impl Room {
     }
 }
 
-// The cases of the input, in their order.
+// The cases of the input, in their order, by a loop of their own: `lines::cases` takes closures that change nothing, and the room is written. It is
+// made once there is a case.
 fn cases(alloc: Global, out: &mut impl Write, input: &[u8]) -> io::Result<()> {
-    let mut room = Room::new(alloc)?;
     let mut input = Cursor::new(input);
-    for k in 0..input.u16().unwrap_or(0) {
+    let count = input.u16().unwrap_or(0);
+    let mut ahead = input;
+    if count == 0 || Case::read(&mut ahead).is_none() {
+        return Ok(());
+    }
+    let mut room = Room::new(alloc)?;
+    for k in 0..count {
         let Some(case) = Case::read(&mut input) else {
             return Ok(());
         };
