@@ -40,7 +40,7 @@ use Rattle.profile.specs.Range.{holds_of, channel_range_of}
 use Rattle.entry.specs.Entry.{entry_tests, edges_valid, edges_read}
 use Rattle.decision.specs.declared.Decision.{Decision}
 use Rattle.decision.specs.declared.Draft.{Draft}
-use Rattle.decision.specs.declared.Code.TheVariants.{Region, NoControl, NoLicense, NoSideband, NoDial}
+use Rattle.decision.specs.Reason.{Region, NoControl, NoLicense, NoSideband, NoDial}
 use Rattle.decision.specs.Reason.{OutOfBand, AutomaticExcluded, OutsideDataSegment, NoDataHere}
 use Rattle.decision.specs.Reason.{Permitted, AutomaticSegment, Privilege, SixtyEmission, SixtyOffChannel, SixtyChannel}
 use Rattle.decision.specs.declared.SixtyNotes.{SixtyNotes}

@@ -41,7 +41,7 @@ bars None = false
 -- the decision that a finding leads to, by what the prerequisites leave
 abbrev pub led_of : Table → Draft → Result Case Missing → Finding → Decision
 led_of table signal (Ok c) f = concluded table c f
-led_of table signal (Err m) f = simple_of signal Blocked (Some m.code) m.rule
+led_of table signal (Err m) f = simple_of signal Blocked m.code m.rule
 
 unfoldable pub led_by_rules : Table → Situation → Option Float → EmissionKind → Direction → Range → Finding → Decision
 led_by_rules table s dial kind direction audio f =
@@ -95,7 +95,7 @@ module _ (table : Table) (s : Situation) (dial : Option Float) (kind : EmissionK
 
   pub led_missing :
       (m : Missing) (f : Finding) → ready_of table.general s dial kind direction audio ≡ Err m
-      → led f ≡ simple_of (signal_of dial s.sideband audio) Blocked (Some m.code) m.rule
+      → led f ≡ simple_of (signal_of dial s.sideband audio) Blocked m.code m.rule
   unfolding led_by_rules
   led_missing m f e = ap (λ (r : Result Case Missing). led_of table (signal_of dial s.sideband audio) r f) e
 
@@ -113,11 +113,11 @@ module _ (table : Table) (s : Situation) (dial : Option Float) (kind : EmissionK
     bar_free h = barred_free led decided (brief_is false h)
 
   -- a prerequisite that is missing
-  pub bar_missing : (m : Missing) → ready_of table.general s dial kind direction audio ≡ Err m → Barred led decided (bar_by (Some m.code) m.rule)
+  pub bar_missing : (m : Missing) → ready_of table.general s dial kind direction audio ≡ Err m → Barred led decided (bar_by m.code m.rule)
   unfolding simple_of finish_of
   bar_missing m e =
       let d = under_missing table s dial kind direction audio m e in
-      barred_by led decided (on_band None Blocked (Some m.code) m.rule) (led_missing m (on_band None Blocked (Some m.code) m.rule) e ∙ d)
+      barred_by led decided (on_band None Blocked m.code m.rule) (led_missing m (on_band None Blocked m.code m.rule) e ∙ d)
       (sym (ap (λ (x : Decision). is_blocked x.verdict) d))
 
 -- by the policy, whose case is told by an equation

@@ -53,7 +53,7 @@ pub fn in_brief(x: &Transmission) -> Brief
             let image = x.station.in_force();
             match verdict::ready(image, x) {
                 Ok(c) => brief_of(judge::judge_case(image, c)),
-                Err(m) => settled(true, Some(m.code)),
+                Err(m) => settled(true, m.code),
             }
         }
         Policy::Broken => settled(true, Some(Code::ProfileBroken)),
@@ -82,7 +82,7 @@ pub fn barring(x: &Transmission) -> Option<Finding>
                     let f = judge::judge_case(image, c);
                     if blocks(f) { Some(f) } else { None }
                 }
-                Err(m) => bar_by(Some(m.code), m.rule),
+                Err(m) => bar_by(m.code, m.rule),
             }
         }
         Policy::Broken => bar_by(Some(Code::ProfileBroken), decision::NO_RULE),

@@ -42,7 +42,7 @@ judge_coded table c = record { coded = (judge_judged table c).coded }
 record Prepared (table : Table) (a : Result Case Missing) : Type 0 where
   prepared : (signal : Draft) → Coded (judged_of table signal a)
 
-unmet : {table : Table} {code : Code} {rule : ℕ} → (code_number (Some code) == 0) ≡ false → Prepared table (Err (missing code rule))
+unmet : {table : Table} {code : Option Code} {rule : ℕ} → (code_number code == 0) ≡ false → Prepared table (Err (missing code rule))
 unfolding simple_of finish_of
 unmet n = record { prepared = λ signal. record { coded = n } }
 

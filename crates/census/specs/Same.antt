@@ -12,8 +12,7 @@ use Rattle.table.specs.Table.{table_of}
 use Rattle.transmission.specs.declared.Transmission.{Transmission}
 use Rattle.decision.specs.Decision.{finish_of, simple_of}
 use Rattle.decision.specs.Number.{no_rule, code_number}
-use Rattle.decision.specs.Reason.{NoProfile, NoRules, ProfileBroken}
-use Rattle.decision.specs.declared.Code.TheVariants.{NoDial}
+use Rattle.decision.specs.Reason.{NoProfile, NoRules, ProfileBroken, NoDial}
 use Rattle.part97.specs.declared.Case.{Case}
 use Rattle.verdict.specs.Verdict.{missing, required, signal_of, ready_of, judged_of, under_rules_of, unruled_of, decide_of, audio_on}
 use Rattle.verdict.specs.declared.Missing.{Missing}
@@ -21,7 +20,7 @@ use Rattle.census.specs.Census.{code_at, code_on}
 
 -- by the numbers of their codes
 abbrev pub number_of : Missing → ℕ
-number_of m = code_number (Some m.code)
+number_of m = code_number m.code
 
 abbrev pub no_dial : Missing
 no_dial = missing NoDial no_rule

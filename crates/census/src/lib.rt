@@ -135,7 +135,7 @@ fn same_everywhere(x: &Transmission) -> Option<u8>
             match verdict::ready(image, &nowhere) {
                 Ok(_) => None,
                 Err(m) => {
-                    let code = numbers::code_number(Some(m.code));
+                    let code = numbers::code_number(m.code);
                     if code == numbers::code_number(Some(Code::NoDial)) {
                         return None;
                     }

@@ -1,8 +1,8 @@
 -- Laws of refusals in one order: what the first tests say of all.
-use Rattle.std.specs.Prelude.{ℕ, Bool, true, false, cond, List, [], ◌∷◌, ◌++◌, ◌≡◌, refl, Ok, Err}
-use Rattle.std.proofs.Common.{arith}
+use Rattle.std.specs.Prelude.{ℕ, Bool, true, false, cond, ◌&&◌, List, [], ◌∷◌, ◌++◌, ◌≡◌, refl, Ok, Err}
+use Rattle.std.proofs.Common.{arith, sym}
 use Rattle.codes.specs.declared.Refusal.{Refusal}
-use Rattle.codes.specs.Refusal.{Checked, Test, refusal_of}
+use Rattle.codes.specs.Refusal.{Checked, Test, is_named, refusal_of}
 
 refused_not : {n : Refusal} → ◌≡◌ {A = Checked} (Err n) (Ok tt) → ⊥
 refused_not e = let z : ◌≡◌ {A = ℕ} 0 1 = cc in omega arith
@@ -56,3 +56,30 @@ refusal_both (t ∷ ts) b e = go t.fails (refusal_both ts b) e
         → (cond f (Err t.refusal) (refusal_of ts) ≡ Ok tt) × (refusal_of b ≡ Ok tt)
     go true next q = absurd (refused_not q)
     go false next q = next q
+
+-- each test's refusal has a name
+abbrev pub all_named : List Test → Bool
+all_named [] = true
+all_named (t ∷ ts) = is_named t.refusal && all_named ts
+
+pub all_named_both : (a b : List Test) → all_named a ≡ true → all_named b ≡ true → all_named (a ++ b) ≡ true
+all_named_both [] b p q = q
+all_named_both (t ∷ ts) b p q = go (is_named t.refusal) (λ h. all_named_both ts b h q) p
+  where
+    go :
+        (x : Bool) → (all_named ts ≡ true → all_named (ts ++ b) ≡ true) → (x && all_named ts) ≡ true
+        → (x && all_named (ts ++ b)) ≡ true
+    go true next h = next h
+    go false next h = h
+
+-- Then so has the refusal by which they refuse.
+pub refusal_named : (ts : List Test) (n : Refusal) → all_named ts ≡ true → refusal_of ts ≡ Err n → is_named n ≡ true
+refusal_named [] n p e = absurd (refused_not (sym e))
+refusal_named (t ∷ ts) n p e = go (is_named t.refusal) t.fails refl (refusal_named ts n) p e
+  where
+    go :
+        (x f : Bool) → is_named t.refusal ≡ x → (all_named ts ≡ true → refusal_of ts ≡ Err n → is_named n ≡ true)
+        → (x && all_named ts) ≡ true → cond f (Err t.refusal) (refusal_of ts) ≡ Err n → is_named n ≡ true
+    go true true i next h q = let same : t.refusal ≡ n = cc in rw (← same) i
+    go true false i next h q = next h q
+    go false f i next h q = cc

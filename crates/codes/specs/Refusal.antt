@@ -1,5 +1,5 @@
 -- The refusals, and their one order: each call has a list of tests, and the first that fails gives the answer.
-use Rattle.std.specs.Prelude.{ℕ, Bool, cond, List, [], ◌∷◌, Result, Ok, Err}
+use Rattle.std.specs.Prelude.{ℕ, Bool, true, false, cond, List, [], ◌∷◌, Result, Ok, Err}
 use Rattle.codes.specs.declared.Refusal.{Refusal}
 use Rattle.codes.specs.declared.Refusal.TheVariants as refusal
 
@@ -36,6 +36,12 @@ number_of refusal.Starts = 31
 number_of refusal.Runs = 32
 number_of refusal.Stretch = 33
 number_of refusal.FarDial = 34
+number_of (refusal.Other n) = n
+
+-- one of the papers': what a call answers
+abbrev pub is_named : Refusal → Bool
+is_named (refusal.Other n) = false
+is_named _ = true
 
 -- what a check says of its input
 abbrev pub Checked : Type 0

@@ -65,61 +65,63 @@ pub enum Direction {
 #[derive(Clone, Copy, PartialEq, Eq)]
 pub enum Refusal {
     // An image under 92 or over 65,552 bytes, or too many records for one.
-    ImageLength = 1,
+    ImageLength,
     // It does not end with the letters.
-    Letters = 2,
+    Letters,
     // Another edition.
-    Edition = 3,
+    Edition,
     // A count over 256, or a length or distance that disagrees.
-    Counts = 4,
+    Counts,
     // A coded byte outside its values, or an unused one that is not zero.
-    CodedByte = 5,
+    CodedByte,
     // A figure of the image not finite, above 2^40 in size, or negative zero.
-    ImageFigure = 6,
+    ImageFigure,
     // A band with low not below high; then such a segment, automatic segment and privilege.
-    BandRange = 7,
-    SegmentRange = 8,
-    AutomaticRange = 9,
-    PrivilegeRange = 10,
+    BandRange,
+    SegmentRange,
+    AutomaticRange,
+    PrivilegeRange,
     // No band or no data segment.
-    EmptyTable = 11,
+    EmptyTable,
     // A data segment in no band.
-    SegmentOutside = 12,
+    SegmentOutside,
     // A data segment's own limit, and the general one, not above 0.
-    OwnLimit = 13,
-    GeneralLimit = 14,
+    OwnLimit,
+    GeneralLimit,
     // An edge not finite or above 2^40 in size.
-    SignalEdge = 15,
+    SignalEdge,
     // Rungs or floor bytes that are not what a ceiling takes.
-    Rungs = 16,
+    Rungs,
     // A code outside its values.
-    StationCode = 20,
+    StationCode,
     // A figure asked, not finite or above its limit.
-    StationFigure = 21,
+    StationFigure,
     // Rules, and no image.
-    NoImage = 22,
+    NoImage,
     // Too little room: for rows or an image, a text, a report.
-    Rows = 23,
-    Text = 24,
-    Report = 25,
+    Rows,
+    Text,
+    Report,
     // Watts that edition 1 cannot hold.
-    Watts = 26,
+    Watts,
     // A list of amendments not in forties, or one that names no record.
-    Amendments = 27,
+    Amendments,
     // Too little room for the amended image.
-    AmendedRoom = 28,
+    AmendedRoom,
     // A swap while one waits.
-    SecondSwap = 29,
+    SecondSwap,
     // A step with no walk open, or an opening while one is.
-    Walk = 30,
+    Walk,
     // A start below the one before.
-    Starts = 31,
+    Starts,
     // Runs of unequal length, or too long.
-    Runs = 32,
+    Runs,
     // No dial from first to last, or too many.
-    Stretch = 33,
+    Stretch,
     // A first or last dial above 2^40 in size.
-    FarDial = 34,
+    FarDial,
+    // Any number: no call answers it.
+    Other(u8),
 }
 
 // What a check says of its input: accepted, or the first refusal.
@@ -129,7 +131,40 @@ impl From<Refusal> for u8 {
     ghost from_gives = { λ r n. n ≡ number_of r };
 
     fn from(r: Refusal) -> u8 {
-        r as u8
+        match r {
+            Refusal::ImageLength => 1,
+            Refusal::Letters => 2,
+            Refusal::Edition => 3,
+            Refusal::Counts => 4,
+            Refusal::CodedByte => 5,
+            Refusal::ImageFigure => 6,
+            Refusal::BandRange => 7,
+            Refusal::SegmentRange => 8,
+            Refusal::AutomaticRange => 9,
+            Refusal::PrivilegeRange => 10,
+            Refusal::EmptyTable => 11,
+            Refusal::SegmentOutside => 12,
+            Refusal::OwnLimit => 13,
+            Refusal::GeneralLimit => 14,
+            Refusal::SignalEdge => 15,
+            Refusal::Rungs => 16,
+            Refusal::StationCode => 20,
+            Refusal::StationFigure => 21,
+            Refusal::NoImage => 22,
+            Refusal::Rows => 23,
+            Refusal::Text => 24,
+            Refusal::Report => 25,
+            Refusal::Watts => 26,
+            Refusal::Amendments => 27,
+            Refusal::AmendedRoom => 28,
+            Refusal::SecondSwap => 29,
+            Refusal::Walk => 30,
+            Refusal::Starts => 31,
+            Refusal::Runs => 32,
+            Refusal::Stretch => 33,
+            Refusal::FarDial => 34,
+            Refusal::Other(n) => n,
+        }
     }
 }
 

@@ -1,5 +1,5 @@
 -- Laws of the converters: how their tests stand to the image check's, and that what is put is the other edition's image.
-use Rattle.std.specs.Prelude.{ℕ, ◌+◌, ◌-◌, ◌≤◌, Bool, true, not, List, [], ◌++◌, ◌≡◌, refl, eqb, drop, Ok, Err}
+use Rattle.std.specs.Prelude.{ℕ, ◌+◌, ◌-◌, ◌≤◌, Bool, true, not, ltb, List, [], ◌++◌, ◌≡◌, refl, eqb, drop, Ok, Err}
 use Rattle.codes.specs.declared.Refusal.TheVariants as refusal
 use Rattle.codes.specs.Refusal.{Checked, refusal_of}
 use Rattle.std.proofs.Math.Bool.{false, cond}
@@ -28,6 +28,7 @@ use Rattle.convert.specs.Convert.{from_tests, moved_of, raised_of, lowered_of}
 abbrev pub early : Checked → Bool
 early (Err refusal.ImageLength) = true
 early (Err refusal.Letters) = true
+early (Err (refusal.Other n)) = ltb n 3
 early _ = false
 
 module _ (l : List ℕ) where

@@ -19,7 +19,10 @@ use whole::Image;
 fn is_early(r: Refusal) -> bool
     ensures { result ≡ early (Err r) }
 {
-    matches!(r, Refusal::ImageLength | Refusal::Letters)
+    matches!(
+        r,
+        Refusal::ImageLength | Refusal::Letters | Refusal::Other(0..=2)
+    )
 }
 
 // An image that must be of one edition, or its refusal of 1 to 14.

@@ -36,7 +36,7 @@ use Rattle.entry.specs.Entry.{image_tests, edges_valid, edges_read}
 use Rattle.automatic_97_221.specs.Automatic.{applies_of}
 use Rattle.decision.specs.Decision.{simple_of}
 use Rattle.decision.specs.Number.{no_rule, §97-301, §97-109}
-use Rattle.decision.specs.declared.Code.TheVariants.{Region, NoControl, NoLicense, NoSideband, NoDial}
+use Rattle.decision.specs.Reason.{Region, NoControl, NoLicense, NoSideband, NoDial}
 use Rattle.decision.specs.Reason.{NoProfile, NoRules, ProfileBroken, Unmeasured}
 use Rattle.decision.specs.declared.Decision.{Decision}
 use Rattle.decision.specs.declared.Verdict.TheVariants.{Legal, Blocked}

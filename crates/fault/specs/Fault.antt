@@ -72,6 +72,16 @@ homeless_place table = in_table segments (first (homeless_at table false) (table
 abbrev pub limit_place : Table → Option Fault
 limit_place table = in_table segments (first_in table segments NoLimit)
 
+-- the place by a refusal's number
+abbrev pub numbered_place : ℕ → Table → Option Fault
+numbered_place n table =
+    cond (eqb n 5) (miscoded_place table)
+    (cond (eqb n 6) (unsound_place table)
+    (cond (eqb n 7) (short_in table bands)
+    (cond (eqb n 8) (short_in table segments)
+    (cond (eqb n 9) (short_in table automatic)
+    (cond (eqb n 10) (short_in table privileges) (cond (eqb n 12) (homeless_place table) (cond (eqb n 13) (limit_place table) None)))))))
+
 -- the place of a refusal
 unfoldable pub fault_at : Refusal → Table → Option Fault
 fault_at refusal.CodedByte table = miscoded_place table
@@ -82,6 +92,7 @@ fault_at refusal.AutomaticRange table = short_in table automatic
 fault_at refusal.PrivilegeRange table = short_in table privileges
 fault_at refusal.SegmentOutside table = homeless_place table
 fault_at refusal.OwnLimit table = limit_place table
+fault_at (refusal.Other n) table = numbered_place n table
 fault_at _ table = None
 
 abbrev pub fault_by : Checked → Table → Option Fault

@@ -262,6 +262,7 @@ by_numbers refusal.Starts table = refl
 by_numbers refusal.Runs table = refl
 by_numbers refusal.Stretch table = refl
 by_numbers refusal.FarDial table = refl
+by_numbers (refusal.Other k) table = refl
 
 -- A refusal with a place: its test fails, and there it fails first.
 at_located : (l : List ℕ) (n : Refusal) → check_of l ≡ Err n → has_place (number_of n) ≡ true → Located (table_of l) (fault_at n (table_of l))

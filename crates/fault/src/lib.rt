@@ -143,14 +143,17 @@ fn fault_at(s: &Image, n: Refusal) -> Option<Fault>
     ensures { result ≡ fault_at n (table_of s.now) }
 {
     match n {
-        Refusal::CodedByte => miscoded_place(s),
-        Refusal::ImageFigure => unsound_place(s),
-        Refusal::BandRange => short_in(s, layout::BANDS),
-        Refusal::SegmentRange => short_in(s, layout::SEGMENTS),
-        Refusal::AutomaticRange => short_in(s, layout::AUTOMATIC),
-        Refusal::PrivilegeRange => short_in(s, layout::PRIVILEGES),
-        Refusal::SegmentOutside => in_table(layout::SEGMENTS, find_homeless(s)),
-        Refusal::OwnLimit => in_table(
+        Refusal::CodedByte | Refusal::Other(5) => miscoded_place(s),
+        Refusal::ImageFigure | Refusal::Other(6) => unsound_place(s),
+        Refusal::BandRange | Refusal::Other(7) => short_in(s, layout::BANDS),
+        Refusal::SegmentRange | Refusal::Other(8) => short_in(s, layout::SEGMENTS),
+        Refusal::AutomaticRange | Refusal::Other(9) => short_in(s, layout::AUTOMATIC),
+        Refusal::PrivilegeRange | Refusal::Other(10) => short_in(s, layout::PRIVILEGES),
+        Refusal::SegmentOutside | Refusal::Other(12) => in_table(
+            layout::SEGMENTS,
+            find_homeless(s),
+        ),
+        Refusal::OwnLimit | Refusal::Other(13) => in_table(
             layout::SEGMENTS,
             find::find_in(s, layout::SEGMENTS, Question::NoLimit),
         ),

@@ -41,7 +41,7 @@ use Rattle.decision.specs.Decision.{no_advice, finish_of, simple_of, absent_of, 
 use Rattle.decision.specs.declared.Verdict.{Verdict}
 use Rattle.decision.specs.Number.{no_rule, §97-301, §97-109}
 use Rattle.decision.specs.declared.Code.{Code}
-use Rattle.decision.specs.declared.Code.TheVariants.{Region, NoControl, NoLicense, NoSideband, NoDial}
+use Rattle.decision.specs.Reason.{Region, NoControl, NoLicense, NoSideband, NoDial}
 use Rattle.decision.specs.declared.Overshoot.{Overshoot}
 use Rattle.decision.specs.declared.Guidance.TheVariants.{Avoid, Inside, Outside}
 use Rattle.decision.specs.declared.SixtyNotes.{SixtyNotes}

@@ -1,4 +1,5 @@
 pub mod Guided
 pub mod Fits
+pub mod Named
 pub mod Safe
 pub mod Stepped

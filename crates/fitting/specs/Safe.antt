@@ -2,9 +2,10 @@
 -- refused; and what is absent or refused permits nothing.
 use Rattle.std.specs.Prelude.{ℕ, ◌<◌, Bool, true, false, not, cond, ◌&&◌, List, [], ◌∷◌, ◌++◌, ◌≡◌, refl, eqb, ltb, Float, Option, Some, None, Result, Ok, Err}
 use Rattle.codes.specs.declared.Refusal.TheVariants as refusal
-use Rattle.codes.specs.Refusal.{Checked, Test, number_of, refusal_of}
+use Rattle.codes.specs.Refusal.{Checked, Test, test, number_of, is_named, refusal_of}
+use Rattle.codes.specs.Laws.{all_named}
 use Rattle.codes.specs.declared.Refusal.{Refusal}
-use Rattle.std.proofs.Common.{true≢false, sym, ap, ◌∙◌, arith, ltb-true}
+use Rattle.std.proofs.Common.{true≢false, sym, ap, ◌∙◌, arith, ltb-true, lt-ltb}
 use Rattle.std.specs.Float.Ieee.{eq, of_bits}
 use Rattle.figures.specs.Figure.{zero_hz}
 use Rattle.codes.specs.Read.{direction_valid}
@@ -27,56 +28,90 @@ use Rattle.nearest.specs.declared.Nearest.{Nearest}
 use Rattle.nearest.specs.declared.Nearest.TheVariants.{Dial, NoneAllowed, NotJudged}
 use Rattle.numbers.specs.Refusal.{refusal_number}
 use Rattle.flat_answers.specs.declared.FlatDials.{FlatDials}
-use Rattle.flat.specs.Flat.{flat_of, ceiling_flat}
+use Rattle.flat.specs.Flat.{flat_of, ceiling_beside, ceiling_flat}
 use Rattle.flat_answers.specs.Answers.{dials_flat, FlatDialed, infinity_hz, distance_flat, nearest_flat}
 use Rattle.fitting.specs.Guided.{decision, evaluate_refusal}
+use Rattle.fitting.specs.Named.{entry_named}
 
--- ---- a refusal's number is at least 1
+-- ---- the number of a refusal with a name is at least 1
 
-number_above : (r : Refusal) → 0 < number_of r
-number_above refusal.ImageLength = omega arith
-number_above refusal.Letters = omega arith
-number_above refusal.Edition = omega arith
-number_above refusal.Counts = omega arith
-number_above refusal.CodedByte = omega arith
-number_above refusal.ImageFigure = omega arith
-number_above refusal.BandRange = omega arith
-number_above refusal.SegmentRange = omega arith
-number_above refusal.AutomaticRange = omega arith
-number_above refusal.PrivilegeRange = omega arith
-number_above refusal.EmptyTable = omega arith
-number_above refusal.SegmentOutside = omega arith
-number_above refusal.OwnLimit = omega arith
-number_above refusal.GeneralLimit = omega arith
-number_above refusal.SignalEdge = omega arith
-number_above refusal.Rungs = omega arith
-number_above refusal.StationCode = omega arith
-number_above refusal.StationFigure = omega arith
-number_above refusal.NoImage = omega arith
-number_above refusal.Rows = omega arith
-number_above refusal.Text = omega arith
-number_above refusal.Report = omega arith
-number_above refusal.Watts = omega arith
-number_above refusal.Amendments = omega arith
-number_above refusal.AmendedRoom = omega arith
-number_above refusal.SecondSwap = omega arith
-number_above refusal.Walk = omega arith
-number_above refusal.Starts = omega arith
-number_above refusal.Runs = omega arith
-number_above refusal.Stretch = omega arith
-number_above refusal.FarDial = omega arith
+number_above : (r : Refusal) → is_named r ≡ true → 0 < number_of r
+number_above refusal.ImageLength named = omega arith
+number_above refusal.Letters named = omega arith
+number_above refusal.Edition named = omega arith
+number_above refusal.Counts named = omega arith
+number_above refusal.CodedByte named = omega arith
+number_above refusal.ImageFigure named = omega arith
+number_above refusal.BandRange named = omega arith
+number_above refusal.SegmentRange named = omega arith
+number_above refusal.AutomaticRange named = omega arith
+number_above refusal.PrivilegeRange named = omega arith
+number_above refusal.EmptyTable named = omega arith
+number_above refusal.SegmentOutside named = omega arith
+number_above refusal.OwnLimit named = omega arith
+number_above refusal.GeneralLimit named = omega arith
+number_above refusal.SignalEdge named = omega arith
+number_above refusal.Rungs named = omega arith
+number_above refusal.StationCode named = omega arith
+number_above refusal.StationFigure named = omega arith
+number_above refusal.NoImage named = omega arith
+number_above refusal.Rows named = omega arith
+number_above refusal.Text named = omega arith
+number_above refusal.Report named = omega arith
+number_above refusal.Watts named = omega arith
+number_above refusal.Amendments named = omega arith
+number_above refusal.AmendedRoom named = omega arith
+number_above refusal.SecondSwap named = omega arith
+number_above refusal.Walk named = omega arith
+number_above refusal.Starts named = omega arith
+number_above refusal.Runs named = omega arith
+number_above refusal.Stretch named = omega arith
+number_above refusal.FarDial named = omega arith
+number_above (refusal.Other k) named = absurd (true≢false (sym named))
 
--- So 0 says that nothing was refused.
-nothing_refused : (c : Checked) → refusal_number c ≡ 0 → c ≡ Ok tt
-nothing_refused (Ok tt) e = refl
-nothing_refused (Err r) e = absurd (omega (arith, e, number_above r))
+abbrev numbered : List Test → Bool
+numbered [] = true
+numbered (t ∷ ts) = ltb 0 (number_of t.refusal) && numbered ts
+
+numbered_both : (a b : List Test) → numbered a ≡ true → numbered b ≡ true → numbered (a ++ b) ≡ true
+numbered_both [] b p q = q
+numbered_both (t ∷ ts) b p q =
+    let h = and_true (ltb 0 (number_of t.refusal)) (numbered ts) p in
+    rw h.0 (numbered_both ts b h.1 q)
+
+-- So 0 says that no test refused.
+nothing_refused : (ts : List Test) → numbered ts ≡ true → refusal_number (refusal_of ts) ≡ 0 → refusal_of ts ≡ Ok tt
+nothing_refused [] p e = refl
+nothing_refused (t ∷ ts) p e =
+    let h = and_true (ltb 0 (number_of t.refusal)) (numbered ts) p in
+    go t.fails (ltb-true 0 (number_of t.refusal) h.0) (nothing_refused ts h.1) e
+  where
+    go :
+        (f : Bool) → 0 < number_of t.refusal → (refusal_number (refusal_of ts) ≡ 0 → refusal_of ts ≡ Ok tt)
+        → refusal_number (cond f (Err t.refusal) (refusal_of ts)) ≡ 0 → cond f (Err t.refusal) (refusal_of ts) ≡ Ok tt
+    go true h next q = absurd (omega (arith, h, q))
+    go false h next q = next q
+
+-- The tests of a call are such, for their refusals have names.
+named_numbered : (ts : List Test) → all_named ts ≡ true → numbered ts ≡ true
+named_numbered [] p = refl
+named_numbered (t ∷ ts) p =
+    let h = and_true (is_named t.refusal) (all_named ts) p in
+    rw (lt-ltb 0 (number_of t.refusal) (number_above t.refusal h.0)) (named_numbered ts h.1)
+
+entry_numbered : (r : StationRecord) (beside : Bool) (l : List ℕ) → numbered (entry_tests r beside l) ≡ true
+entry_numbered r beside l = named_numbered (entry_tests r beside l) (entry_named r beside l)
 
 pub verdict_not_refused :
     (r : StationRecord) (kind direction : ℕ) (e : Edges) (l : List ℕ) → (flat_of (evaluate_of r kind direction e l)).refusal ≡ 0
     → (evaluate_of r kind direction e l).refusal ≡ Ok tt
 unfolding flat_of
 verdict_not_refused r kind direction e l z =
-    nothing_refused (evaluate_of r kind direction e l).refusal z
+    let same = evaluate_refusal r kind direction e l in
+    same
+    ∙ nothing_refused (evaluate_tests r kind direction e l)
+    (numbered_both (entry_tests r (beside_valid kind direction) l) (edge_tests e) (entry_numbered r (beside_valid kind direction) l) refl)
+    (ap refusal_number (sym same) ∙ z)
 
 -- A list with refusal 0 fitted, and its count is that of its rows.
 pub list_not_refused :
@@ -98,7 +133,10 @@ list_not_refused r direction e l lent left answer d z =
 
     none : refusal_of tests ≡ Ok tt
     none =
-        nothing_refused (refusal_of tests) (number (refusal_of tests) ∙ sym (ap (λ (a : FlatDials). a.refusal) d.answered) ∙ z)
+        nothing_refused tests
+        (numbered_both (entry_tests r (direction_valid direction) l) (test refusal.SignalEdge (not (edges_valid e)) ∷ lent_tests xs lent)
+        (entry_numbered r (direction_valid direction) l) refl)
+        (number (refusal_of tests) ∙ sym (ap (λ (a : FlatDials). a.refusal) d.answered) ∙ z)
 
 -- ---- what is absent or refused permits nothing
 
@@ -111,7 +149,7 @@ blocked_number Blocked e = refl
 pub limit_is_blocked :
     (r : StationRecord) (direction : ℕ) (ordinary floor : Edges) (l : List ℕ) (rungs : List Float) (floors : List ℕ)
     → (ceiling_flat (ceiling_of r direction ordinary floor l rungs floors)).limit.verdict ≡ 2
-unfolding ceiling_flat flat_of
+unfolding ceiling_flat ceiling_beside flat_of
 limit_is_blocked r direction ordinary floor l rungs floors =
     blocked_number (limit_of (ceiling_of r direction ordinary floor l rungs floors)).verdict (limit_blocked r direction ordinary floor l rungs floors)
 

@@ -174,22 +174,29 @@ flat_of d =
       notes = d.advice.notes;
     }
 
--- a ceiling: a rung is below 256 (Fits); its limit is blocked where it is absent or refused too (Laws, limit-blocked of Rattle.ceiling)
-unfoldable pub ceiling_flat : CeilingAnswer → FlatCeiling
-ceiling_flat a =
+-- a ceiling, beside it what stands for its limit, known or not: a rung is below 256 (Fits)
+unfoldable pub ceiling_beside : CeilingAnswer → Decision → FlatCeiling
+ceiling_beside a limit =
     record {
-      limit = flat_of (limit_of a);
+      limit = flat_of limit;
       rung = rung_number a.rung;
       limit_known = mark_of (limited a.limit);
       refusal = refusal_number a.refusal;
     }
 
+-- a ceiling: its limit is blocked where it is absent or refused too (Laws, limit-blocked of Rattle.ceiling)
+unfoldable pub ceiling_flat : CeilingAnswer → FlatCeiling
+ceiling_flat a = ceiling_beside a (limit_of a)
+
 -- a swap's and an opening's answer, and a step's: over is 1 where the walk is
 abbrev pub walk_answer_flat : WalkAnswer → FlatWalkAnswer
 walk_answer_flat a = record { state = walk_flat a.state; refusal = refusal_number a.refusal }
 
+unfoldable pub step_beside : StepAnswer → Decision → FlatStep
+step_beside a limit = record { ceiling = ceiling_beside a.ceiling limit; state = walk_flat a.state; over = mark_of a.over }
+
 unfoldable pub step_flat : StepAnswer → FlatStep
-step_flat a = record { ceiling = ceiling_flat a.ceiling; state = walk_flat a.state; over = mark_of a.over }
+step_flat a = step_beside a (limit_of a.ceiling)
 
 -- the boundary's version, 0.14.0: 10,000 times the first number, 100 times the second, and the third
 abbrev pub version_number : ℕ

@@ -4,12 +4,12 @@
 #![tactic(auto)]
 
 ghost use Rattle.std.specs.Prelude.{◌≡◌, cond, ◌<◌};
-ghost use Rattle.ceiling.specs.Ceiling.{rung_number, limit_of};
+ghost use Rattle.ceiling.specs.Ceiling.{rung_number};
 ghost use Rattle.flat.specs.Fits.{RungFits, Indexed};
 ghost use Rattle.flat.specs.Flat.{station_record_of, station_of, edges_of, edges_flat, range_flat, segment_flat, overshoot_flat};
 ghost use Rattle.flat.specs.Flat.{guidance_index_of, guidance_flat, rule_flat, band_flat, width_flat};
-ghost use Rattle.flat.specs.Flat.{flat_of, ceiling_flat};
-ghost use Rattle.flat.specs.Flat.{walk_of, walk_flat, walk_answer_flat, step_flat};
+ghost use Rattle.flat.specs.Flat.{flat_of, ceiling_beside};
+ghost use Rattle.flat.specs.Flat.{walk_of, walk_flat, walk_answer_flat, step_beside};
 
 use air::Margins;
 use ceiling::CeilingAnswer;
@@ -444,14 +444,14 @@ fn rung_number(k: Option<usize>) -> i32
     }
 }
 
-// A ceiling, flat.
-#[tactic(auto, unfolding(crate::specs::Flat::ceiling_flat))]
-pub fn ceiling_flat(a: CeilingAnswer) -> FlatCeiling
-    requires { (RungFits a.rung) × (Indexed (limit_of a)) }
-    ensures { result ≡ ceiling_flat a }
+// A ceiling, flat, with the decision that stands for its limit, known or not: whatever its caller lends (`limit_or_absent`, in the calls).
+#[tactic(auto, unfolding(crate::specs::Flat::ceiling_beside))]
+pub fn ceiling_flat(a: CeilingAnswer, limit: Decision) -> FlatCeiling
+    requires { (RungFits a.rung) × (Indexed limit) }
+    ensures { result ≡ ceiling_beside a limit }
 {
     FlatCeiling {
-        limit: flat(a.limit_or_absent()),
+        limit: flat(limit),
         rung: rung_number(a.rung),
         limit_known: mark(a.limit.is_some()),
         refusal: numbers::refusal_number(a.refusal),
@@ -468,14 +468,14 @@ pub fn walk_answer_flat(a: WalkAnswer) -> FlatWalkAnswer
     }
 }
 
-// A step's answer, flat.
-#[tactic(auto, unfolding(crate::specs::Flat::step_flat))]
-pub fn step_flat(a: StepAnswer) -> FlatStep
-    requires { (RungFits a.ceiling.rung) × (Indexed (limit_of a.ceiling)) }
-    ensures { result ≡ step_flat a }
+// A step's answer, flat, with what stands for its ceiling's limit.
+#[tactic(auto, unfolding(crate::specs::Flat::step_beside))]
+pub fn step_flat(a: StepAnswer, limit: Decision) -> FlatStep
+    requires { (RungFits a.ceiling.rung) × (Indexed limit) }
+    ensures { result ≡ step_beside a limit }
 {
     FlatStep {
-        ceiling: ceiling_flat(a.ceiling),
+        ceiling: ceiling_flat(a.ceiling, limit),
         state: walk_out(a.state),
         over: mark(a.over),
     }

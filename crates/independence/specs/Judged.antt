@@ -36,7 +36,7 @@ use Rattle.decision.specs.Number.{no_rule, §97-301, §97-109, §97-305a, §97-3
 use Rattle.decision.specs.declared.Verdict.{Verdict}
 use Rattle.decision.specs.declared.Verdict.TheVariants.{Legal, Blocked}
 use Rattle.decision.specs.declared.Code.{Code}
-use Rattle.decision.specs.declared.Code.TheVariants.{Region, NoControl, NoLicense, NoSideband, NoDial}
+use Rattle.decision.specs.Reason.{Region, NoControl, NoLicense, NoSideband, NoDial}
 use Rattle.decision.specs.Reason.{OutOfBand}
 use Rattle.decision.specs.Reason.{AutomaticExcluded, TooWide, Privilege, Permitted, AutomaticSegment}
 use Rattle.decision.specs.Reason.{AutomaticBandwidth, AutomaticOriginate, AutomaticResponse}

@@ -164,7 +164,7 @@ pub fn pamuklid_ceiling_of_2(
         rungs,
         floors,
     );
-    flat::ceiling_flat(answer)
+    flat::ceiling_flat(answer, answer.limit_or_absent())
 }
 
 // The first state of a walk.
@@ -218,7 +218,7 @@ pub fn pamuklid_walk_step(
         rungs,
         floors,
     );
-    flat::step_flat(answer)
+    flat::step_flat(answer, answer.ceiling.limit_or_absent())
 }
 
 // The dials that keep a signal of these edges inside the rules, as rows of 36 bytes.

@@ -28,7 +28,7 @@ use Rattle.decision.specs.declared.Verdict.TheVariants.{Blocked}
 use Rattle.part97.specs.Part97.{judge}
 use Rattle.part97.specs.declared.Case.{Case}
 use Rattle.decision.specs.Number.{no_rule, §97-301, §97-109}
-use Rattle.decision.specs.declared.Code.TheVariants.{Region, NoControl, NoLicense, NoSideband, NoDial}
+use Rattle.decision.specs.Reason.{Region, NoControl, NoLicense, NoSideband, NoDial}
 use Rattle.verdict.specs.declared.Missing.{Missing}
 use Rattle.verdict.specs.Verdict.{missing, required, signal_of, case_of, ready_of, judged_of}
 use Rattle.verdict.specs.Verdict.{under_rules_of, decide_of, beside_valid, edge_tests, unless_refused, evaluate_of}
@@ -92,7 +92,7 @@ module _ (table : Table) (s : Situation) (dial : Option Float) (kind : EmissionK
 
   pub under_missing :
       (m : Missing) → ready_of table.general s dial kind direction audio ≡ Err m
-      → simple_of (signal_of dial s.sideband audio) Blocked (Some m.code) m.rule ≡ under_rules_of table s dial kind direction audio
+      → simple_of (signal_of dial s.sideband audio) Blocked m.code m.rule ≡ under_rules_of table s dial kind direction audio
   unfolding under_rules_of
   under_missing m e = ap (judged_of table (signal_of dial s.sideband audio)) (sym e)
 

@@ -31,8 +31,7 @@ use Rattle.decision.specs.Decision.{simple_of, refused_of}
 use Rattle.decision.specs.declared.Verdict.{Verdict}
 use Rattle.decision.specs.declared.Verdict.TheVariants.{Legal, Blocked}
 use Rattle.decision.specs.declared.Code.{Code}
-use Rattle.decision.specs.declared.Code.TheVariants.{Region, NoControl, NoLicense, NoSideband, NoDial}
-use Rattle.decision.specs.Reason.{NoProfile, ProfileBroken, NoRules, Unmeasured}
+use Rattle.decision.specs.Reason.{NoProfile, ProfileBroken, NoRules, Unmeasured, Region, NoControl, NoLicense, NoSideband, NoDial}
 use Rattle.decision.specs.declared.Draft.{Draft}
 use Rattle.decision.specs.declared.Decision.{Decision}
 use Rattle.part97.specs.Part97.{judge}
@@ -77,7 +76,7 @@ case_of s control class sideband dial kind direction audio =
     }
 
 -- "Prerequisites in order: region, control, licence, sideband, dial." The walk stops at the first one missing, with its code and rule.
-abbrev pub missing : Code → ℕ → Missing
+abbrev pub missing : Option Code → ℕ → Missing
 missing code rule = record { code = code; rule = rule }
 
 abbrev pub required : {A : Type 0} → Option A → Missing → (A → Result Case Missing) → Result Case Missing
@@ -101,7 +100,7 @@ ready_of g s dial kind direction audio =
 -- Part 97 judges a case; what is missing blocks
 abbrev pub judged_of : Table → Draft → Result Case Missing → Decision
 judged_of table signal (Ok c) = judge table c
-judged_of table signal (Err m) = simple_of signal Blocked (Some m.code) m.rule
+judged_of table signal (Err m) = simple_of signal Blocked m.code m.rule
 
 -- the verdict under an accepted table, at a dial
 unfoldable pub under_rules_of : Table → Situation → Option Float → EmissionKind → Direction → Range → Decision

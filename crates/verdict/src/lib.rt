@@ -2,7 +2,7 @@
 // table, transmission, entry, decision, part97, automatic_97_221 and judge; its definitions use layout, its laws scan.
 #![tactic(auto)]
 
-ghost use Rattle.std.specs.Prelude.{◌≡◌, Some};
+ghost use Rattle.std.specs.Prelude.{◌≡◌};
 ghost use Rattle.codes.specs.Refusal.{refusal_of};
 ghost use Rattle.decision.specs.Decision.{simple_of};
 ghost use Rattle.decision.specs.declared.Verdict.TheVariants.{Blocked};
@@ -24,12 +24,12 @@ use whole::Image;
 // A prerequisite that is missing: the code that blocks, and its rule.
 #[derive(Clone, Copy)]
 pub struct Missing {
-    pub code: Code,
+    pub code: Option<Code>,
     pub rule: u16,
 }
 
 impl Missing {
-    fn new(code: Code, rule: u16) -> Self
+    fn new(code: Option<Code>, rule: u16) -> Self
         ensures { result ≡ missing code rule }
     {
         Missing { code, rule }
@@ -110,19 +110,19 @@ pub fn prepare(
     ensures { result ≡ ready_of g s dial kind direction audio }
 {
     if s.itu_region != g.region {
-        return Err(Missing::new(Code::Region, decision::RULE_97_301));
+        return Err(Missing::new(Some(Code::Region), decision::RULE_97_301));
     }
     let Some(control) = s.control else {
-        return Err(Missing::new(Code::NoControl, decision::RULE_97_109));
+        return Err(Missing::new(Some(Code::NoControl), decision::RULE_97_109));
     };
     let Some(class) = s.license else {
-        return Err(Missing::new(Code::NoLicense, decision::RULE_97_301));
+        return Err(Missing::new(Some(Code::NoLicense), decision::RULE_97_301));
     };
     let Some(sideband) = s.sideband else {
-        return Err(Missing::new(Code::NoSideband, decision::NO_RULE));
+        return Err(Missing::new(Some(Code::NoSideband), decision::NO_RULE));
     };
     let Some(hz) = dial else {
-        return Err(Missing::new(Code::NoDial, decision::NO_RULE));
+        return Err(Missing::new(Some(Code::NoDial), decision::NO_RULE));
     };
     Ok(case_of(s, control, class, sideband, hz, kind, direction, audio))
 }
@@ -139,11 +139,11 @@ pub fn ready(image: &Image, x: &Transmission) -> Result<Case, Missing>
 
 // Blocked under an image by what is missing.
 pub fn unmet(image: &Image, x: &Transmission, m: Missing) -> Decision
-    ensures { result ≡ simple_of (signal_of x.now.dial x.now.station.now.situation.sideband (audio_on image.now x.now)) Blocked (Some m.code) m.rule }
+    ensures { result ≡ simple_of (signal_of x.now.dial x.now.station.now.situation.sideband (audio_on image.now x.now)) Blocked m.code m.rule }
 {
     let audio = x.edges.range(table::reading_of(image.general));
     let signal = signal_of(x.dial, x.station.situation.sideband, audio);
-    decision::simple(signal, Verdict::Blocked, Some(m.code), m.rule)
+    decision::simple(signal, Verdict::Blocked, m.code, m.rule)
 }
 
 // Without a table, by the wider reading: the policy alone decides.
