@@ -1,6 +1,6 @@
 -- The tests of each call, of a walk's steps too, are of refusals that have a name: no call answers a number beside these (`Other`), which
 -- only a caller can hand over. `refusal_named` says it of what refuses.
-use Rattle.std.specs.Prelude.{ℕ, ℤ, Bool, true, false, cond, List, [], ◌∷◌, ◌++◌, ◌≡◌, refl, Float}
+use Rattle.std.specs.Prelude.{ℕ, ℤ, Bool, true, false, cond, List, [], ◌++◌, ◌≡◌, refl, Float}
 use Rattle.codes.specs.Laws.{all_named, all_named_both}
 use Rattle.occupancy.specs.declared.Edges.{Edges}
 use Rattle.station.specs.Station.{under_rules, station_tests}
@@ -10,7 +10,6 @@ use Rattle.entry.specs.Entry.{image_tests, entry_tests}
 use Rattle.codes.specs.Read.{direction_valid}
 use Rattle.verdict.specs.Verdict.{beside_valid, edge_tests, evaluate_tests}
 use Rattle.rungs.specs.Rungs.{rung_tests, ceiling_tests}
-use Rattle.rows.specs.declared.SafeDial.{SafeDial}
 use Rattle.dials.specs.List.{list_tests}
 use Rattle.distance.specs.Distance.{distance_tests}
 use Rattle.nearest.specs.Nearest.{nearest_tests}

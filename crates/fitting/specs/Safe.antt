@@ -11,10 +11,8 @@ use Rattle.figures.specs.Figure.{zero_hz}
 use Rattle.codes.specs.Read.{direction_valid}
 use Rattle.occupancy.specs.declared.Edges.{Edges}
 use Rattle.scan.specs.Laws.{and_true}
-use Rattle.station.specs.Station.{under_rules, station_tests}
 use Rattle.station.specs.declared.StationRecord.{StationRecord}
-use Rattle.image.specs.Check.{check_tests}
-use Rattle.entry.specs.Entry.{image_tests, entry_tests, edges_valid}
+use Rattle.entry.specs.Entry.{entry_tests, edges_valid}
 use Rattle.decision.specs.Decision.{is_blocked, refused_of}
 use Rattle.decision.specs.Number.{verdict_number}
 use Rattle.decision.specs.declared.Verdict.{Verdict}
