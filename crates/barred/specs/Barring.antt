@@ -112,13 +112,16 @@ module _ (table : Table) (s : Situation) (dial : Option Float) (kind : EmissionK
     pub bar_free : blocked_over f.verdict f.over ≡ false → Barred led decided None
     bar_free h = barred_free led decided (brief_is false h)
 
-  -- a prerequisite that is missing
-  pub bar_missing : (m : Missing) → ready_of table.general s dial kind direction audio ≡ Err m → Barred led decided (bar_by m.code m.rule)
+  -- a prerequisite that is missing: the decision is of that, whatever the finding says
+  pub bar_unmet : (m : Missing) (code : Option Code) (rule : ℕ) → ready_of table.general s dial kind direction audio ≡ Err m → Barred led decided (bar_by code rule)
   unfolding simple_of finish_of
-  bar_missing m e =
+  bar_unmet m code rule e =
       let d = under_missing table s dial kind direction audio m e in
-      barred_by led decided (on_band None Blocked m.code m.rule) (led_missing m (on_band None Blocked m.code m.rule) e ∙ d)
+      barred_by led decided (on_band None Blocked code rule) (led_missing m (on_band None Blocked code rule) e ∙ d)
       (sym (ap (λ (x : Decision). is_blocked x.verdict) d))
+
+  pub bar_missing : (m : Missing) → ready_of table.general s dial kind direction audio ≡ Err m → Barred led decided (bar_by m.code m.rule)
+  bar_missing m = bar_unmet m m.code m.rule
 
 -- by the policy, whose case is told by an equation
 module _ (table : Table) (s : Situation) (dial : Option Float) (kind : EmissionKind) (direction : Direction) (e : Edges) where

@@ -1,3 +1,4 @@
 -- Whether a finding blocks.
 pub mod Barred
 pub mod Barring
+pub mod Coded

@@ -1,9 +1,9 @@
 // Whether a transmission is blocked, without the answer: the census of a band asks its code of each dial, and the climb over the rungs asks
 // what blocks a rung, of which the answer is made without judging it again. It uses codes, transmission, decision, part97, findings, judge and
-// verdict; its definitions use profile, occupancy, station and table.
+// verdict; its definitions use profile, occupancy, station and table, and its laws layout and judged.
 #![tactic(auto)]
 
-ghost use Rattle.std.specs.Prelude.{◌≡◌};
+ghost use Rattle.std.specs.Prelude.{◌≡◌, IfSome, IsSome};
 ghost use Rattle.verdict.specs.Verdict.{decision_on};
 ghost use Rattle.barred.specs.Barred.{settled_of, blocked_over, brief_over, brief_of};
 ghost use Rattle.barred.specs.Barring.{bar_by, led_on, Barred};
@@ -70,7 +70,8 @@ fn bar_by(code: Option<Code>, rule: u16) -> Option<Finding>
 // What blocks, by the policy. Under Rules that is a prerequisite that is missing, and else what Part 97 finds.
 #[tactic(auto, using(crate::specs::Barring::bar_none))]
 pub fn barring(x: &Transmission) -> Option<Finding>
-    ensures { Barred (led_on x.now) (decision_on x.now) result }
+    ensures barred { Barred (led_on x.now) (decision_on x.now) result }
+    ensures coded { IfSome result (λ f. IsSome f.code) }
 {
     match x.station.situation.policy {
         Policy::Unset => bar_by(Some(Code::NoProfile), decision::NO_RULE),

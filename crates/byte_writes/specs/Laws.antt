@@ -26,24 +26,35 @@ module _ (l₀ : List ℕ) (at width x : ℕ) where
       let b : width - 0 ≡ width = omega arith in
       record { within = omega arith; same = refl; left = rw a (rw b) }
 
+  -- of what is left to put alone, at each turn and behind the last
+  pub left_step :
+      (l : List ℕ) (rest k : ℕ) → sets l (at + k) (little (width - k) rest) ≡ sets l₀ at (little width x) → k < width
+      → sets (set l (at + k) (rest % 256)) (at + (k + 1)) (little (width - (k + 1)) (rest / 256)) ≡ sets l₀ at (little width x)
+  unfolding little
+  left_step l rest k p h =
+      let a : at + (k + 1) ≡ suc (at + k) = omega arith in
+      let b : width - k ≡ suc (width - (k + 1)) = omega arith in
+      rw a (rw b at p)
+
+  pub left_done :
+      (l : List ℕ) (rest k : ℕ) → sets l (at + k) (little (width - k) rest) ≡ sets l₀ at (little width x) → width ≤ k → l ≡ sets l₀ at (little width x)
+  unfolding little
+  left_done l rest k p h =
+      let b : width - k ≡ 0 = omega arith in
+      rw b at p
+
   pub put_step :
       (l : List ℕ) (rest k : ℕ) → Putting l₀ at width x l rest k → k < width
       → Putting l₀ at width x (set l (at + k) (rest % 256)) (rest / 256) (k + 1)
-  unfolding little
   put_step l rest k p h =
-      let a : at + (k + 1) ≡ suc (at + k) = omega arith in
-      let b : width - k ≡ suc (width - (k + 1)) = omega arith in
       record {
         within = omega arith;
         same = length-set l (at + k) (rest % 256) ∙ p.same;
-        left = rw a (rw b at p.left);
+        left = left_step l rest k p.left h;
       }
 
   pub put_done : (l : List ℕ) (rest k : ℕ) → Putting l₀ at width x l rest k → width ≤ k → l ≡ sets l₀ at (little width x)
-  unfolding little
-  put_done l rest k p h =
-      let b : width - k ≡ 0 = omega arith in
-      rw b at p.left
+  put_done l rest k p h = left_done l rest k p.left h
 
 -- ---- field after field
 

@@ -2,7 +2,7 @@
 // occupancy, station, transmission, entry, decision, part97, barred and rungs; its definitions use table and verdict, its laws scan.
 #![tactic(auto)]
 
-ghost use Rattle.std.specs.Prelude.{◌/◌, ◌≡◌, ◌≤◌, length, Ok};
+ghost use Rattle.std.specs.Prelude.{◌/◌, ◌≡◌, ◌≤◌, length, IfErr, IsSome, Ok};
 ghost use Rattle.codes.specs.Read.{direction_of};
 ghost use Rattle.codes.specs.Refusal.{refusal_of};
 ghost use Rattle.station.specs.Station.{situation_of};
@@ -97,7 +97,8 @@ impl<'a> Sender<'a> {
     // One rung judged, with what it adds to the envelope.
     #[tactic(auto, using(crate::specs::Laws::stopped_by, crate::specs::Laws::passed_by))]
     pub fn rung_step(&self, envelope: Option<Edges>, more: Edges) -> Result<Edges, (Edges, Finding)>
-        ensures { Stepped (judge_on self.now) (lead_on self.now) envelope more result }
+        ensures stepped { Stepped (judge_on self.now) (lead_on self.now) envelope more result }
+        ensures coded { IfErr result (λ x. IsSome x.1.code) }
     {
         let reached = joined(envelope, more);
         match barred::barring(&self.sent(reached)) {

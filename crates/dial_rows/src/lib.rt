@@ -334,7 +334,7 @@ fn places_of(image: &Image, q: Request, band: Option<Channels>) -> Search
 // A search for the rows of a request in an image, with those of the channels of a band, if it has one. That it goes through as many
 // channels as the band asks for is what `of` promises, and no part of the type: no search here needs it.
 #[derive(Clone, Copy)]
-pub struct RowSearch<'a> {
+pub struct PlacedSearch<'a> {
     pub image: &'a Image<'a>,
     pub request: Request,
     pub band: Option<Channels>,
@@ -342,13 +342,13 @@ pub struct RowSearch<'a> {
     pub ghost known: { Known image.now request places },
 }
 
-impl<'a> RowSearch<'a> {
+impl<'a> PlacedSearch<'a> {
     // The search for the rows of a request, with those of the channels of a band.
     pub fn of(image: &'a Image<'a>, q: Request, band: Option<Channels>) -> Self
         ensures { (result.image.now ≡ image.now) × (result.request ≡ q) × (result.band ≡ band)
             × (result.places.channel_count ≡ channel_count_of (table_of result.image.now) result.request result.band) }
     {
-        RowSearch {
+        PlacedSearch {
             image,
             request: q,
             band,
@@ -453,5 +453,23 @@ impl<'a> RowSearch<'a> {
             self.places.channel_count,
             |i| self.channel_row_at(c, i),
         )
+    }
+}
+
+// A search whose type says the channels' count as well: what fills bytes with every row goes by it.
+#[derive(Clone, Copy)]
+pub struct RowSearch<'a> {
+    pub placed: PlacedSearch<'a>,
+    pub ghost searched: { Searched placed.image.now placed.request placed.band placed.places },
+}
+
+impl<'a> RowSearch<'a> {
+    // The search for the rows of a request, with those of the channels of a band.
+    pub fn of(image: &'a Image<'a>, q: Request, band: Option<Channels>) -> Self
+        ensures { (result.placed.image.now ≡ image.now) × (result.placed.request ≡ q) × (result.placed.band ≡ band) }
+    {
+        RowSearch {
+            placed: PlacedSearch::of(image, q, band),
+        }
     }
 }

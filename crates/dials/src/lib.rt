@@ -12,7 +12,7 @@ ghost use Rattle.dial_rows.specs.Next.{channel_count_of};
 ghost use Rattle.dials.specs.List.{situation_rows, Filled, SafeDials};
 
 use codes::{Direction, Refusal};
-use dial_rows::{RowSearch, Spot};
+use dial_rows::{PlacedSearch, RowSearch, Spot};
 use distance::Here;
 use layout::Record;
 use occupancy::Edges;
@@ -33,7 +33,13 @@ const OWN: usize = 2304;
 // The rows of a segment's record under every privilege, one after the other, into bytes that may have room for them or not, and held against
 // a dial. Each of these functions takes the tally so far and returns it with its own.
 #[tactic(auto, using(rows::specs::Pour::pouring_none, rows::specs::Pour::pouring_step, rows::specs::Pour::pouring_done, dial_rows::specs::Next::privileges_all, dial_rows::specs::Laws::privileges_few, nearest_rows::specs::Laws::over_row, nearest_rows::specs::Laws::over_none))]
-fn privileges_rows(search: &RowSearch, rows: &mut [u8], r: Record, h: Here, before: Tally) -> Tally
+fn privileges_rows(
+    search: &PlacedSearch,
+    rows: &mut [u8],
+    r: Record,
+    h: Here,
+    before: Tally,
+) -> Tally
     requires { before.count + 65536 ≤ 0x1_0000_0000 }
     ensures { (Poured rows.old before.count rows.new result.count (privileges_rows (table_of search.now.image.now) search.now.request (segment_of r)))
         × (result.best ≡ nearest_over h.dial_hz h.flags h.channel_band before.best
@@ -67,7 +73,7 @@ fn privileges_rows(search: &RowSearch, rows: &mut [u8], r: Record, h: Here, befo
 
 // The rows of a segment's record: none where it is passed over.
 #[tactic(auto, using(rows::specs::Pour::poured_none, dial_rows::specs::Next::segment_closed, dial_rows::specs::Next::segment_open, nearest_rows::specs::Laws::over_none))]
-fn segment_rows(search: &RowSearch, rows: &mut [u8], r: Record, h: Here, before: Tally) -> Tally
+fn segment_rows(search: &PlacedSearch, rows: &mut [u8], r: Record, h: Here, before: Tally) -> Tally
     requires { before.count + 65536 ≤ 0x1_0000_0000 }
     ensures { (Poured rows.old before.count rows.new result.count (segment_rows (table_of search.now.image.now) search.now.request (segment_of r)))
         × (result.best ≡ nearest_over h.dial_hz h.flags h.channel_band before.best
@@ -82,7 +88,7 @@ fn segment_rows(search: &RowSearch, rows: &mut [u8], r: Record, h: Here, before:
 
 // The rows of every data segment.
 #[tactic(auto, using(layout::specs::Laws::table_within, dial_rows::specs::Next::data_all, dial_rows::specs::Laws::data_few, rows::specs::Pour::pouring_none, rows::specs::Pour::pouring_more, rows::specs::Pour::pouring_done, lists::specs::From::from_step, lists::specs::From::from_end, table::specs::Laws::at_in, nearest_rows::specs::Laws::over_append, nearest_rows::specs::Laws::over_none))]
-pub fn data_rows(search: &RowSearch, rows: &mut [u8], h: Here) -> Tally
+pub fn data_rows(search: &PlacedSearch, rows: &mut [u8], h: Here) -> Tally
     ensures { (Poured rows.old 0 rows.new result.count (data_rows (table_of search.now.image.now) search.now.request))
         × (result.best ≡ nearest_over h.dial_hz h.flags h.channel_band None (data_rows (table_of search.now.image.now) search.now.request)) }
 {
@@ -101,7 +107,7 @@ pub fn data_rows(search: &RowSearch, rows: &mut [u8], h: Here) -> Tally
 
 // The rows of the channels.
 #[tactic(auto, using(rows::specs::Pour::pouring_none, rows::specs::Pour::pouring_step, rows::specs::Pour::pouring_done, dial_rows::specs::Next::band_all, dial_rows::specs::Laws::open_few))]
-fn channel_rows(search: &RowSearch, rows: &mut [u8], c: Channels, before: usize) -> usize
+fn channel_rows(search: &PlacedSearch, rows: &mut [u8], c: Channels, before: usize) -> usize
     requires { (search.now.places.channel_count ≡ channel_count_of (table_of search.now.image.now) search.now.request (Some c))
         × (before + 256 ≤ 0x1_0000_0000) }
     ensures { Poured rows.old before rows.new result (band_rows (table_of search.now.image.now) search.now.request (Some c)) }
@@ -128,25 +134,23 @@ fn channel_rows(search: &RowSearch, rows: &mut [u8], c: Channels, before: usize)
 // Every row; and their count.
 #[tactic(auto, using(rows::specs::Pour::poured_none, rows::specs::Pour::poured_more, dial_rows::specs::Laws::data_few))]
 fn gather(search: &RowSearch, rows: &mut [u8]) -> usize
-    requires { search.now.places.channel_count ≡ channel_count_of (table_of search.now.image.now) search.now.request search.now.band }
-    ensures { Poured rows.old 0 rows.new result (searched_rows (table_of search.now.image.now) search.now.request search.now.band) }
+    ensures { Poured rows.old 0 rows.new result (searched_rows (table_of search.now.placed.image.now) search.now.placed.request search.now.placed.band) }
 {
     let h = Here {
         dial_hz: 0.0,
         flags: 0,
         channel_band: 0,
     };
-    let count = data_rows(search, rows, h).count;
-    match search.band {
-        Some(c) => channel_rows(search, rows, c, count),
+    let count = data_rows(&search.placed, rows, h).count;
+    match search.placed.band {
+        Some(c) => channel_rows(&search.placed, rows, c, count),
         None => count,
     }
 }
 
 // Fills the bytes with them, in their order.
 fn fill_rows(search: &RowSearch, rows: &mut [u8]) -> Result<usize, Refusal>
-    requires { search.now.places.channel_count ≡ channel_count_of (table_of search.now.image.now) search.now.request search.now.band }
-    ensures { Filled (searched_rows (table_of search.now.image.now) search.now.request search.now.band) rows.old rows.new result }
+    ensures { Filled (searched_rows (table_of search.now.placed.image.now) search.now.placed.request search.now.placed.band) rows.old rows.new result }
 {
     let mut own = [0u8; OWN];
     fill::fill(

@@ -29,43 +29,9 @@ use Rattle.flat_answers.specs.declared.FlatDials.{FlatDials}
 use Rattle.flat.specs.Flat.{flat_of, ceiling_beside, ceiling_flat}
 use Rattle.flat_answers.specs.Answers.{dials_flat, FlatDialed, infinity_hz, distance_flat, nearest_flat}
 use Rattle.fitting.specs.Guided.{decision, evaluate_refusal}
-use Rattle.fitting.specs.Named.{entry_named}
+use Rattle.fitting.specs.Named.{number_above, entry_named}
 
--- ---- the number of a refusal with a name is at least 1
-
-number_above : (r : Refusal) → is_named r ≡ true → 0 < number_of r
-number_above refusal.ImageLength named = omega arith
-number_above refusal.Letters named = omega arith
-number_above refusal.Edition named = omega arith
-number_above refusal.Counts named = omega arith
-number_above refusal.CodedByte named = omega arith
-number_above refusal.ImageFigure named = omega arith
-number_above refusal.BandRange named = omega arith
-number_above refusal.SegmentRange named = omega arith
-number_above refusal.AutomaticRange named = omega arith
-number_above refusal.PrivilegeRange named = omega arith
-number_above refusal.EmptyTable named = omega arith
-number_above refusal.SegmentOutside named = omega arith
-number_above refusal.OwnLimit named = omega arith
-number_above refusal.GeneralLimit named = omega arith
-number_above refusal.SignalEdge named = omega arith
-number_above refusal.Rungs named = omega arith
-number_above refusal.StationCode named = omega arith
-number_above refusal.StationFigure named = omega arith
-number_above refusal.NoImage named = omega arith
-number_above refusal.Rows named = omega arith
-number_above refusal.Text named = omega arith
-number_above refusal.Report named = omega arith
-number_above refusal.Watts named = omega arith
-number_above refusal.Amendments named = omega arith
-number_above refusal.AmendedRoom named = omega arith
-number_above refusal.SecondSwap named = omega arith
-number_above refusal.Walk named = omega arith
-number_above refusal.Starts named = omega arith
-number_above refusal.Runs named = omega arith
-number_above refusal.Stretch named = omega arith
-number_above refusal.FarDial named = omega arith
-number_above (refusal.Other k) named = absurd (true≢false (sym named))
+-- ---- no call refuses by number 0
 
 abbrev numbered : List Test → Bool
 numbered [] = true

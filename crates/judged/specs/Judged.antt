@@ -1,8 +1,9 @@
--- What holds of every decision that Part 97 makes: it has a code, and is no refusal.
-use Rattle.std.specs.Prelude.{ℕ, Bool, true, false, cond, ◌&&◌, ◌≡◌, eqb, Float, Option, Some, None, Ok}
+-- What holds of every decision that Part 97 makes: it has a code, and is no refusal. So what judging finds has a code.
+use Rattle.std.specs.Prelude.{ℕ, Bool, true, false, cond, ◌&&◌, ◌≡◌, eqb, Float, Option, Some, None, IsSome, Ok}
 use Rattle.table.specs.declared.Elsewhere.{Elsewhere}
 use Rattle.std.proofs.Math.Bool.{not}
-use Rattle.std.proofs.Math.Path.{refl}
+use Rattle.std.proofs.Common.{true≢false, sym, ◌∙◌}
+use Rattle.std.proofs.Math.Path.{refl, ap}
 use Rattle.scan.specs.First.{on_found}
 use Rattle.codes.specs.Code.{kind_code, bit_of}
 use Rattle.codes.specs.declared.EmissionKind.{EmissionKind}
@@ -19,13 +20,16 @@ use Rattle.find.specs.Question.{first_in}
 use Rattle.find.specs.declared.Question.TheVariants.{Holds, OfBand, BandHolds, ChannelOverlaps}
 use Rattle.automatic_97_221.specs.Automatic.{responds}
 use Rattle.decision.specs.Decision.{finish_of, simple_of}
+use Rattle.decision.specs.declared.Code.{Code}
 use Rattle.decision.specs.declared.Draft.{Draft}
 use Rattle.decision.specs.declared.Decision.{Decision}
 use Rattle.part97.specs.Part97.{segment_at, general_limit, limit_for, band_at, on_channel, is_data, some_privilege, privileged_of, under_privilege, draft_of, draft_inside}
 use Rattle.part97.specs.Part97.{advised, automatic_elsewhere, automatic_data, nearest_up_to, on_nearest, outside_segments, inside_segment}
 use Rattle.part97.specs.Part97.{judge_data, allowed_on_sixty, sixty_channel, sixty_segment, in_sixty_segment, sixty_overlap, sixty_place}
-use Rattle.part97.specs.Part97.{sixty_emission, sixty_kind, sixty, off_sixty, judge_on_band, judge_in_band, judge}
+use Rattle.part97.specs.Part97.{sixty_emission, sixty_kind, sixty, emitted, keyed, off_sixty, judge_on_band, judge_in_band, judge}
+use Rattle.part97.specs.Finding.{concluded_over, concluded}
 use Rattle.part97.specs.declared.Case.{Case}
+use Rattle.part97.specs.declared.Finding.{Finding}
 use Rattle.part97.specs.declared.Privileged.{Privileged}
 use Rattle.part97.specs.declared.Privileged.TheVariants.{Granted, Forbidden, Unheld}
 use Rattle.decision.specs.Number.{code_number}
@@ -62,7 +66,7 @@ module _ (table : Table) (c : Case) where
       (on_cond (e.requires_response && not (responds c.direction)) (record { coded = refl; unrefused = refl }) (record { coded = refl; unrefused = refl }))
   elsewhere_judged d None = record { coded = refl; unrefused = refl }
 
-  automatic_judged : (band : ℕ) (r : Range) (rule : ℕ) → Judged (automatic_data table c band r rule)
+  pub automatic_judged : (band : ℕ) (r : Range) (rule : ℕ) → Judged (automatic_data table c band r rule)
   unfolding automatic_data simple_of finish_of advised allowed_on_sixty
   automatic_judged band r rule =
       on_found_holds (first_in table automatic (Holds c.guarded)) (λ i. record { coded = refl; unrefused = refl })
@@ -78,18 +82,25 @@ module _ (table : Table) (c : Case) where
       on_privilege (privileged_of table c Data) (draft_inside c band s.range s.rule)
       (on_cond c.automatic (automatic_judged band s.range s.rule) (record { coded = refl; unrefused = refl }))
 
-  data_judged : (band : ℕ) (f : Option ℕ) → Judged (judge_data table c band f)
+  pub data_judged : (band : ℕ) (f : Option ℕ) → Judged (judge_data table c band f)
   unfolding judge_data simple_of finish_of advised allowed_on_sixty
   data_judged band f =
       on_cond (wider c.width (limit_for table f).max_bandwidth_hz) (record { coded = refl; unrefused = refl })
       (on_found_holds f (λ i. inside_judged band (segment_at table i)) (outside_judged band))
 
-  off_judged : (band : ℕ) (kind : EmissionKind) → Judged (off_sixty table c band kind)
+  pub emitted_judged : (band : ℕ) (kind : EmissionKind) → Judged (emitted table c band kind)
   unfolding simple_of finish_of
+  emitted_judged band kind = on_privilege (privileged_of table c kind) (draft_of c (Some band)) (record { coded = refl; unrefused = refl })
+
+  pub keyed_judged : (band : ℕ) → Judged (keyed table c band)
+  unfolding simple_of finish_of
+  keyed_judged band = on_cond (some_privilege table c (range c.dial_hz c.dial_hz)) (record { coded = refl; unrefused = refl }) (record { coded = refl; unrefused = refl })
+
+  off_judged : (band : ℕ) (kind : EmissionKind) → Judged (off_sixty table c band kind)
   off_judged band Data = data_judged band (first_in table segments (Holds c.guarded))
-  off_judged band Cw = on_privilege (privileged_of table c Cw) (draft_of c (Some band)) (record { coded = refl; unrefused = refl })
-  off_judged band Test = on_privilege (privileged_of table c Test) (draft_of c (Some band)) (record { coded = refl; unrefused = refl })
-  off_judged band NoEmission = on_cond (some_privilege table c (range c.dial_hz c.dial_hz)) (record { coded = refl; unrefused = refl }) (record { coded = refl; unrefused = refl })
+  off_judged band Cw = emitted_judged band Cw
+  off_judged band Test = emitted_judged band Test
+  off_judged band NoEmission = keyed_judged band
 
   channel_judged : (ch : Channels) (centre : Float) → Judged (sixty_channel table c ch centre)
   unfolding sixty_channel simple_of finish_of advised allowed_on_sixty
@@ -127,7 +138,7 @@ module _ (table : Table) (c : Case) where
   kind_judged ch Test = emission_judged ch (sixty_of table.general)
   kind_judged ch NoEmission = record { coded = refl; unrefused = refl }
 
-  sixty_judged : (ch : Channels) → Judged (sixty table c ch)
+  pub sixty_judged : (ch : Channels) → Judged (sixty table c ch)
   unfolding sixty simple_of finish_of advised allowed_on_sixty
   sixty_judged ch = on_cond (some_privilege table c c.air) (kind_judged ch c.kind) (record { coded = refl; unrefused = refl })
 
@@ -147,3 +158,21 @@ module _ (table : Table) (c : Case) where
   unfolding judge simple_of finish_of advised allowed_on_sixty
   judge_judged =
       on_found_holds (first_in table bands (Holds c.guarded)) (λ b. in_band_judged (band_at table b).band) (record { coded = refl; unrefused = refl })
+
+-- ---- what judging finds
+
+coded_some : (code : Option Code) → eqb (code_number code) 0 ≡ false → IsSome code
+coded_some (Some c) e = refl
+coded_some None e = absurd (true≢false e)
+
+-- A finding has the code of the decision that it leads to: so one by which Part 97 decides has a code.
+module _ (table : Table) (c : Case) (f : Finding) where
+  concluded_code : (x : Option Range) → (concluded_over table c f x).code ≡ f.code
+  unfolding concluded_over finish_of advised
+  concluded_code (Some r) = refl
+  concluded_code None = refl
+
+  pub finding_coded : (d : Decision) → concluded table c f ≡ d → Judged d → IsSome f.code
+  unfolding concluded
+  finding_coded d e j =
+      coded_some f.code (ap (λ (x : Option Code). eqb (code_number x) 0) (sym (concluded_code f.over) ∙ ap (λ (x : Decision). x.code) e) ∙ j.coded)

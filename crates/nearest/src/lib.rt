@@ -14,7 +14,7 @@ ghost use Rattle.nearest_rows.specs.Over.{nearest_over};
 ghost use Rattle.nearest.specs.Laws.{premises_of, known_nearest};
 
 use codes::{ControlMode, Direction, LicenseClass, Policy, Refusal, Sideband};
-use dial_rows::{Request, RowSearch};
+use dial_rows::{PlacedSearch, Request};
 use distance::Here;
 use occupancy::Edges;
 use profile::Range;
@@ -71,7 +71,7 @@ fn nearest_for(image: &Image, q: Request, dial_hz: f64) -> Nearest
         channel_band: image.general.channel_band,
     };
     let mut none = [0u8; 1];
-    answer_of(dials::data_rows(&RowSearch::of(image, q, None), &mut none, h).best)
+    answer_of(dials::data_rows(&PlacedSearch::of(image, q, None), &mut none, h).best)
 }
 
 // With the prerequisites met.

@@ -42,26 +42,41 @@ module _ (l₀ : List ℕ) (at : ℕ) (xs : List (ℕ × ℕ)) where
   pub lay_none : at + total xs ≤ length l₀ → Laying l₀ at xs l₀ at 0
   lay_none h = record { within = omega arith; same = refl; room = h; left = refl }
 
+  -- of the room and what is left to lay alone, at each number and behind the last
+  pub left_room :
+      (place k : ℕ) (x : ℕ × ℕ) → place + total (drop k xs) ≤ length l₀ → drop k xs ≡ x ∷ drop (k + 1) xs
+      → place + x.0 + total (drop (k + 1) xs) ≤ length l₀
+  left_room place k x h e = omega (arith, h, ap total e)
+
+  pub left_step :
+      (l : List ℕ) (place k : ℕ) (x : ℕ × ℕ) → sets l place (littles (drop k xs)) ≡ sets l₀ at (littles xs) → drop k xs ≡ x ∷ drop (k + 1) xs
+      → sets (sets l place (little x.0 x.1)) (place + x.0) (littles (drop (k + 1) xs)) ≡ sets l₀ at (littles xs)
+  unfolding littles
+  left_step l place k x p e =
+      sets_next (little x.0 x.1) (littles (drop (k + 1) xs)) l place (place + x.0) (ap (λ (i : ℕ). place + i) (length_little x.0 x.1))
+      ∙ ap (λ (ys : List (ℕ × ℕ)). sets l place (littles ys)) (sym e)
+      ∙ p
+
+  pub left_done :
+      (l : List ℕ) (place k : ℕ) → sets l place (littles (drop k xs)) ≡ sets l₀ at (littles xs) → length xs ≤ k → l ≡ sets l₀ at (littles xs)
+  unfolding littles
+  left_done l place k p h =
+      ap (λ (ys : List (ℕ × ℕ)). sets l place (littles ys)) (sym (drop_of_length-le xs h)) ∙ p
+
   pub lay_step :
       (l : List ℕ) (place k : ℕ) (x : ℕ × ℕ) → Laying l₀ at xs l place k → drop k xs ≡ x ∷ drop (k + 1) xs
       → Laying l₀ at xs (sets l place (little x.0 x.1)) (place + x.0) (k + 1)
-  unfolding littles
   lay_step l place k x p e =
       let n : length (drop k xs) ≡ suc (length (drop (k + 1) xs)) = ap length e in
       record {
         within = omega (arith, n, length-drop k xs, p.within);
         same = length-sets l place (little x.0 x.1) ∙ p.same;
-        room = omega (arith, p.room, ap total e);
-        left =
-            sets_next (little x.0 x.1) (littles (drop (k + 1) xs)) l place (place + x.0) (ap (λ (i : ℕ). place + i) (length_little x.0 x.1))
-            ∙ ap (λ (ys : List (ℕ × ℕ)). sets l place (littles ys)) (sym e)
-            ∙ p.left;
+        room = left_room place k x p.room e;
+        left = left_step l place k x p.left e;
       }
 
   pub lay_done : (l : List ℕ) (place k : ℕ) → Laying l₀ at xs l place k → length xs ≤ k → l ≡ sets l₀ at (littles xs)
-  unfolding littles
-  lay_done l place k p h =
-      ap (λ (ys : List (ℕ × ℕ)). sets l place (littles ys)) (sym (drop_of_length-le xs h)) ∙ p.left
+  lay_done l place k p h = left_done l place k p.left h
 
 -- ---- parts of one length, one after the other
 

@@ -11,7 +11,7 @@ use Rattle.dials.proofs.fill_rows.Goals as goal
 
 pub returns : goal.returns
 returns c =
-    let s = c.args.search.now in
+    let s = c.args.search.now.placed in
     let xs = searched_rows (table_of s.image.now) s.request s.band in
     let sized : length (encode_all (sorted xs)) ≡ length xs * row_size = length_encode (sorted xs) ∙ ap (λ n. n * row_size) (length_sorted xs) in
     filled xs _ _ _

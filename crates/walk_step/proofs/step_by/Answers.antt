@@ -19,7 +19,7 @@ returns-in-Err c =
     (rw c.rung_so_far.ensures
     (rw c.ended.ensures
     (sym (step_blocked judge burst _ a.w _ c.if-count-place.false _ _
-    (step_of c.envelope_so_far.ensures c.burst-more.ensures c.in-Err.is c.rung_step.ensures))))))
+    (step_of c.envelope_so_far.ensures c.burst-more.ensures c.in-Err.is c.rung_step.ensures.stepped))))))
 
 pub returns-then-over : goal.returns-then-over
 returns-then-over c =
@@ -30,7 +30,7 @@ returns-then-over c =
     (rw c.ended-then-over.ensures
     (rw (le-leb _ _ c.if-over.true)
     (sym (step_last judge burst _ a.w _ c.if-count-place.false _
-    (step_of c.envelope_so_far.ensures c.burst-more.ensures c.in-Ok.is c.rung_step.ensures)
+    (step_of c.envelope_so_far.ensures c.burst-more.ensures c.in-Ok.is c.rung_step.ensures.stepped)
     c.if-over.true))))
 
 pub returns-else-over : goal.returns-else-over
@@ -42,5 +42,5 @@ returns-else-over c =
     (rw c.goes_on.ensures
     (rw (lt-leb _ _ c.if-over.false)
     (sym (step_on_holds judge burst _ a.w _ c.if-count-place.false _
-    (step_of c.envelope_so_far.ensures c.burst-more.ensures c.in-Ok.is c.rung_step.ensures)
+    (step_of c.envelope_so_far.ensures c.burst-more.ensures c.in-Ok.is c.rung_step.ensures.stepped)
     c.if-over.false))))

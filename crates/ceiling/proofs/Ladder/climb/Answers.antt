@@ -12,8 +12,8 @@ unfolding ended_of
 returns-in-Err c =
     rw c.rung_decision-limit.ensures
     (rw (← c.count-count.ensures)
-    (free_over _ _ _ _ _ _ _ c.loop-i.invariant c.loop-i-test.true _ _ (step_of refl c.burst-more.ensures c.in-Err.is c.rung_step.ensures)))
+    (free_over _ _ _ _ _ _ _ c.loop-i.invariant c.loop-i-test.true _ _ (step_of refl c.burst-more.ensures c.in-Err.is c.rung_step.ensures.stepped)))
 
 pub loop-i-preserved : goal.loop-i-preserved
 loop-i-preserved c =
-    free_again _ _ _ _ _ _ _ c.loop-i.invariant c.loop-i-test.true _ (step_of refl c.burst-more.ensures c.in-Ok.is c.rung_step.ensures)
+    free_again _ _ _ _ _ _ _ c.loop-i.invariant c.loop-i-test.true _ (step_of refl c.burst-more.ensures c.in-Ok.is c.rung_step.ensures.stepped)

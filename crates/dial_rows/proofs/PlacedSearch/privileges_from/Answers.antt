@@ -3,7 +3,7 @@ use Rattle.std.proofs.Common.{◌∙◌, ap, sym, ◌∷◌}
 use Rattle.table.specs.Table.{table_of}
 use Rattle.table.specs.Parts.{segment_of}
 use Rattle.dial_rows.specs.Next.{privileges_from, privilege_turn, privilege_turn_holds, privileges_end}
-use Rattle.dial_rows.proofs.RowSearch.privileges_from.Goals as goal
+use Rattle.dial_rows.proofs.PlacedSearch.privileges_from.Goals as goal
 
 pub returns-in-Some : goal.returns-in-Some
 returns-in-Some c =

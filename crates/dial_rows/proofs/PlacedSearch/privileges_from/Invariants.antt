@@ -3,7 +3,7 @@ use Rattle.std.specs.Prelude.{◌≡◌}
 use Rattle.table.specs.Table.{table_of}
 use Rattle.table.specs.Parts.{segment_of}
 use Rattle.dial_rows.specs.Next.{spot_of, privileges_from}
-use Rattle.dial_rows.proofs.RowSearch.privileges_from.Given as goal
+use Rattle.dial_rows.proofs.PlacedSearch.privileges_from.Given as goal
 
 abbrev pub invariant-loop-i : goal.invariant-loop-i
 invariant-loop-i l =
